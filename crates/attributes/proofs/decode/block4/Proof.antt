@@ -1,0 +1,54 @@
+use Rattle.attributes.specs.Parts.{blockAt}
+use Rattle.numbers.specs.ValueLaws.{reads-short}
+use Rattle.numbers.specs.ReadLaws.{says32, short32, goes-on, says-inside}
+use borrow.Author.Needs.{needs}
+use native.Mathlib.Omega.{arith}
+use denote.Ref.{now}
+use Prim.Native.Nat.{_+_, _≤_}
+use mathlib.Core.Path.{sym, _∙_}
+use lib.ListN.{length}
+use Rattle.attributes.proofs.decode.block4.Statement.{statement}
+use Rattle.attributes.proofs.decode.block4.Tie as tie
+
+u32-at-requires : tie.Need-u32-at-requires
+u32-at-requires c κs = search needs
+
+enum-known-n : tie.Need-enum-known-n
+enum-known-n c = search needs
+
+add-part : tie.Need-add-part
+add-part c = let h : c .before .before .before .before .before .args .at + 4 ≤ length (now (c .before .before .before .before .before .args .s)) = says-inside (says32 _ _ _ _ (sym (c .before .before .before .u32-at .ensures) ∙ c .before .n .given .1)) in omega arith
+
+cast-part : tie.Need-cast-part
+cast-part c = search needs
+
+part-requires : tie.Need-part-requires
+part-requires c κs = search needs
+
+enum-told : tie.Need-enum-told
+enum-told c = search needs
+
+slice-aggregate-result : tie.Need-slice-aggregate-result
+slice-aggregate-result c = search needs
+
+returns : tie.Need-returns
+unfolding blockAt
+returns c = c .part .ensures ∙ goes-on _ _ (says32 _ _ _ _ (sym (c .before .before .before .before .u32-at .ensures) ∙ c .before .before .n .given .1))
+
+returns-2 : tie.Need-returns-2
+unfolding blockAt
+returns-2 c = reads-short _ _ _ _ _ _ (short32 _ _ _ _ (sym (c .before .before .before .u32-at .ensures) ∙ c .before .enum-told .given .1))
+
+pub block4-spec : {M : Type 1} → statement M
+block4-spec =
+    tie.close
+    (tie.spec
+    u32-at-requires
+    enum-known-n
+    add-part
+    cast-part
+    part-requires
+    enum-told
+    slice-aggregate-result
+    returns
+    returns-2)

@@ -1,0 +1,49 @@
+use Rattle.attributes.specs.PartLaws.{part-there, part-missing}
+use Rattle.numbers.specs.ValueLaws.{there-inside}
+use borrow.Author.Needs.{needs}
+use native.Mathlib.Omega.{arith}
+use denote.Ref.{now}
+use Prim.Native.Nat.{_+_, _≤_}
+use mathlib.Core.Path.{sym, _∙_}
+use lib.ListN.{length}
+use Rattle.attributes.proofs.decode.part.Statement.{statement}
+use Rattle.attributes.proofs.decode.part.Tie as tie
+
+bytes-there-requires : tie.Need-bytes-there-requires
+bytes-there-requires c κs = search needs
+
+add-result : tie.Need-add-result
+add-result c =
+    let h : c .before .before .before .args .from + c .before .before .before .args .n ≤ length (now (c .before .before .before .args .s)) = there-inside _ _ _ (sym (c .before .bytes-there .ensures) ∙ c .if1 .taken) in
+    omega arith
+
+sub-result : tie.Need-sub-result
+sub-result c = search needs
+
+part-result-start : tie.Need-part-result-start
+part-result-start c = search needs
+
+part-result-end : tie.Need-part-result-end
+part-result-end c = there-inside _ _ _ (sym (c .before .bytes-there .ensures) ∙ c .if1 .taken)
+
+slice-aggregate-result : tie.Need-slice-aggregate-result
+slice-aggregate-result c = search needs
+
+returns : tie.Need-returns
+returns c = part-there _ _ _ (sym (c .before .before .bytes-there .ensures) ∙ c .before .if1 .taken)
+
+returns-2 : tie.Need-returns-2
+returns-2 c = part-missing _ _ _ (sym (c .before .before .bytes-there .ensures) ∙ c .before .if1 .left)
+
+pub part-spec : {M : Type 1} → statement M
+part-spec =
+    tie.close
+    (tie.spec
+    bytes-there-requires
+    add-result
+    sub-result
+    part-result-start
+    part-result-end
+    slice-aggregate-result
+    returns
+    returns-2)

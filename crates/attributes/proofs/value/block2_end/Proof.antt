@@ -1,0 +1,50 @@
+use Rattle.attributes.specs.End.{blockEnd}
+use Rattle.numbers.specs.ValueLaws.{reads-short}
+use Rattle.numbers.specs.ReadLaws.{says16, short16, goes-on, says-inside}
+use borrow.Author.Needs.{needs}
+use native.Mathlib.Omega.{arith}
+use denote.Ref.{now}
+use Prim.Native.Nat.{_+_, _≤_}
+use mathlib.Core.Path.{sym, _∙_}
+use lib.ListN.{length}
+use Rattle.attributes.proofs.value.block2_end.Statement.{statement}
+use Rattle.attributes.proofs.value.block2_end.Tie as tie
+
+u16-at-requires : tie.Need-u16-at-requires
+u16-at-requires c κs = search needs
+
+enum-known-n : tie.Need-enum-known-n
+enum-known-n c = search needs
+
+add-fixed-end : tie.Need-add-fixed-end
+add-fixed-end c = let h : c .before .before .before .before .before .args .at + 2 ≤ length (now (c .before .before .before .before .before .args .s)) = says-inside (says16 _ _ _ _ (sym (c .before .before .before .u16-at .ensures) ∙ c .before .n .given .1)) in omega arith
+
+cast-fixed-end : tie.Need-cast-fixed-end
+cast-fixed-end c = search needs
+
+fixed-end-requires : tie.Need-fixed-end-requires
+fixed-end-requires c κs = search needs
+
+enum-told : tie.Need-enum-told
+enum-told c = search needs
+
+returns : tie.Need-returns
+unfolding blockEnd
+returns c = c .fixed-end .ensures ∙ goes-on _ _ (says16 _ _ _ _ (sym (c .before .before .before .before .u16-at .ensures) ∙ c .before .before .n .given .1))
+
+returns-2 : tie.Need-returns-2
+unfolding blockEnd
+returns-2 c = reads-short _ _ _ _ _ _ (short16 _ _ _ _ (sym (c .before .before .u16-at .ensures) ∙ c .enum-told .given .1))
+
+pub block2-end-spec : {M : Type 1} → statement M
+block2-end-spec =
+    tie.close
+    (tie.spec
+    u16-at-requires
+    enum-known-n
+    add-fixed-end
+    cast-fixed-end
+    fixed-end-requires
+    enum-told
+    returns
+    returns-2)

@@ -1,0 +1,16 @@
+-- Attributes: where a value ends, what stands at an attribute's place, what a value says (rule 5 of 'Reading entries'). What must be believed: `Text`,
+-- `End`, `Read`, `Parts`. The rest are laws: `TextLaws`, `EndLaws`, `Inside` (a success lies inside and moves forward), `Append` (bytes behind and in
+-- front of a section), `Only` (no second answer fits).
+pub mod Text
+pub mod End
+pub mod Read
+pub mod Decode
+pub mod Parts
+pub mod Four
+pub mod TextLaws
+pub mod EndLaws
+pub mod PartLaws
+pub mod ReadLaws
+pub mod Inside
+pub mod Append
+pub mod Only

@@ -1,0 +1,57 @@
+use Rattle.format.specs.LookupLaws.{member-four}
+use borrow.Author.Needs.{needs}
+use Rattle.format.proofs.lookup.in_four.Statement.{statement}
+use Rattle.format.proofs.lookup.in_four.Tie as tie
+
+mul-result : tie.Need-mul-result
+mul-result c = search needs
+
+shared-slice-read-result : tie.Need-shared-slice-read-result
+shared-slice-read-result c = search needs
+
+add-result : tie.Need-add-result
+add-result c = search needs
+
+mul-result-2 : tie.Need-mul-result-2
+mul-result-2 c = search needs
+
+shared-slice-read-result-2 : tie.Need-shared-slice-read-result-2
+shared-slice-read-result-2 c = search needs
+
+add-result-2 : tie.Need-add-result-2
+add-result-2 c = search needs
+
+mul-result-3 : tie.Need-mul-result-3
+mul-result-3 c = search needs
+
+shared-slice-read-result-3 : tie.Need-shared-slice-read-result-3
+shared-slice-read-result-3 c = search needs
+
+add-result-3 : tie.Need-add-result-3
+add-result-3 c = search needs
+
+mul-result-4 : tie.Need-mul-result-4
+mul-result-4 c = search needs
+
+shared-slice-read-result-4 : tie.Need-shared-slice-read-result-4
+shared-slice-read-result-4 c = search needs
+
+returns : tie.Need-returns
+returns c = member-four _ _ _ (c .before .before .before .before .pre)
+
+pub in-four-spec : {M : Type 1} → statement M
+in-four-spec =
+    tie.close
+    (tie.spec
+    mul-result
+    shared-slice-read-result
+    add-result
+    mul-result-2
+    shared-slice-read-result-2
+    add-result-2
+    mul-result-3
+    shared-slice-read-result-3
+    add-result-3
+    mul-result-4
+    shared-slice-read-result-4
+    returns)

@@ -1,0 +1,59 @@
+// The twenty refusals of document 01 and their numbers.
+ghost use mathlib.Core.Path.{_≡_};
+ghost use Rattle.format.specs.Refusal.{numberOf};
+
+pub enum Reason {
+    Settings,
+    Long,
+    Table,
+    Short,
+    Tag,
+    Attribute,
+    Nested,
+    Room,
+    Link,
+    Depth,
+    Entry,
+    Kind,
+    Extra,
+    Form,
+    Missing,
+    Child,
+    Block,
+    Number,
+    Bound,
+    Big,
+}
+
+// A refusal and its place: 64 bits, since an entry can be wanted past the end of the longest section.
+pub struct Refusal {
+    pub reason: Reason,
+    pub place: u64,
+}
+
+pub fn number_of(reason: Reason) -> u32
+    ensures { λ r. ⌜ r ≡ numberOf reason ⌝ }
+{
+    match reason {
+        Reason::Settings => 1,
+        Reason::Long => 2,
+        Reason::Table => 3,
+        Reason::Short => 4,
+        Reason::Tag => 5,
+        Reason::Attribute => 6,
+        Reason::Nested => 7,
+        Reason::Room => 8,
+        Reason::Link => 9,
+        Reason::Depth => 10,
+        Reason::Entry => 11,
+        Reason::Kind => 12,
+        Reason::Extra => 13,
+        Reason::Form => 14,
+        Reason::Missing => 15,
+        Reason::Child => 16,
+        Reason::Block => 17,
+        Reason::Number => 18,
+        Reason::Bound => 19,
+        Reason::Big => 20,
+    }
+}
