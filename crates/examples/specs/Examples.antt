@@ -1,8 +1,17 @@
--- The starred examples of document 01 ('Examples on each side'): what is asked, and what it says. `examples-hold` computes every row.
+-- The starred examples of document 01 ('Examples on each side'), big-endian: what is asked, and what it says. `examples-hold` computes every row.
 use Prim.Native.Nat.{ℕ}
 use mathlib.Core.Path.{_≡_, refl}
+use mathlib.Core.Bool.{Bool, true, false}
 use mathlib.Core.List.{List, [], _∷_, map}
-use Rattle.format.specs.Lookup.{member, lookup}
+use Rattle.numbers.specs.Value.{valueOf, there, readAt}
+use Rattle.numbers.specs.declared.Endian.the-variants.{Big, Little}
+use Rattle.format.specs.Lookup.{member, indexOf, lookup}
+use Rattle.format.specs.TagKind.{tags}
+use Rattle.format.specs.TagKind as tag
+use Rattle.format.specs.AttributeKind.{used, alsoKnown, attributeKinds}
+use Rattle.format.specs.AttributeKind as number
+use Rattle.format.specs.Known.{known}
+use Rattle.format.specs.FormKind.{forms, formOf}
 use Rattle.format.specs.FundType.{fundTypes, fundTypeOf, parseInt}
 use Rattle.format.specs.Modifier.{modifiers, modifierOf}
 use Rattle.format.specs.Refusal.{numberOf}
@@ -11,21 +20,55 @@ use Rattle.format.specs.declared.fund_type.FundType.the-variants as fund
 use Rattle.format.specs.declared.modifier.Modifier.{Modifier}
 use Rattle.format.specs.declared.modifier.Modifier.the-variants as modifier
 use Rattle.format.specs.declared.refusal.Reason.the-variants as reason
+use Rattle.format.specs.declared.settings.Settings.{Settings}
+use Rattle.format.specs.declared.settings.Producer.the-variants.{Other}
+use Rattle.attributes.specs.Text.{zeroFrom}
+use Rattle.attributes.specs.End.{fixedEnd, blockEnd, textEnd, valueEnd}
+use Rattle.attributes.specs.Read.{ending, numbered, readAttribute}
+use Rattle.attributes.specs.Parts.{textAt}
+use Rattle.tables.specs.declared.row.Row.{Row}
+use Rattle.tables.specs.declared.row.Attr.{Attr}
+use Rattle.entries.specs.Head.{nullEnd, tagHead, sizeHead, headAt}
+use Rattle.entries.specs.Run.{attr, first, plays, runEnds, readOn, runFrom}
+use Rattle.entries.specs.Entry.{flip, littleFlag, flagOf, flagsOf, kindOf, ordinary, rooted, attributes, rootEndian, rootIn, entryFrom, entryAt}
+use Rattle.entries.specs.Walk.{Walk, walked, refused, join, andThen, onward, walkFrom, walkAt}
+use Rattle.entries.specs.Section.{wholeWalk}
 
--- what an example asks
+-- what an example asks: to read a section, with the erased flag on or off; what a text at a place is, and a number of two bytes in little-endian; what a
+-- fundamental type's number and a modifier's byte say
 pub data Question : Type 0 where
+  section : Bool → List ℕ → Question
+  text : List ℕ → ℕ → Question
+  little-number : List ℕ → ℕ → Question
   type-number : ℕ → Question
   modifier-byte : ℕ → Question
 
--- what it says: a fundamental type, a modifier, or a refusal's number
+-- what it says: rows and attributes, bytes, a number, a modifier; or a refusal's number, for a section with its place
 pub data Answer : Type 0 where
-  type-is : ℕ → Answer
+  rows : List Row → List Attr → Answer
+  bytes : List ℕ → Answer
+  number-is : ℕ → Answer
   modifier-is : Modifier → Answer
-  refused : ℕ → Answer
+  refused-at : ℕ → ℕ → Answer
+  refused-as : ℕ → Answer
+
+-- big-endian, no roles
+settings : Bool → Settings
+settings erased =
+    record {
+      endian = Big;
+      erased = erased;
+      producer = Other;
+      roles = record { «global_ref» = 0; mangled = 0; «overlay_name» = 0; «overlay_id» = 0 };
+    }
+
+walk : Walk → Answer
+walk (walked rs xs place) = rows rs xs
+walk (refused why place) = refused-at (numberOf why) place
 
 typed : FundType → Answer
-typed (fund.Known n) = type-is n
-typed fund.Unknown = refused (numberOf reason.Number)
+typed (fund.Known n) = number-is n
+typed fund.Unknown = refused-as (numberOf reason.Number)
 
 modified : Modifier → Answer
 modified modifier.MwPointerTo = modifier-is modifier.MwPointerTo
@@ -33,11 +76,14 @@ modified modifier.PointerTo = modifier-is modifier.PointerTo
 modified modifier.ReferenceTo = modifier-is modifier.ReferenceTo
 modified modifier.Const = modifier-is modifier.Const
 modified modifier.Volatile = modifier-is modifier.Volatile
-modified modifier.Unknown = refused (numberOf reason.Number)
+modified modifier.Unknown = refused-as (numberOf reason.Number)
 
--- what the definitions answer
+-- what the definitions answer, with no vendor numbers
 unfoldable pub answer : Question → Answer
-unfolding typed modified
+unfolding settings walk typed modified
+answer (section erased s) = walk (wholeWalk (settings erased) [] s)
+answer (text s at) = bytes (textAt s at)
+answer (little-number s at) = number-is (valueOf Little 2 s at)
 answer (type-number n) = typed (parseInt n)
 answer (modifier-byte n) = modified (modifierOf n)
 
@@ -49,14 +95,39 @@ infix 80 _says_
 abbrev pub _says_ : Question → Answer → Example
 q says a = record { asked = q; said = a }
 
+-- a null entry at 0, big-endian, not erased
+null : Row
+null = record { key = 0; kind = tag.Padding; flags = 0; first = 0; count = 0 }
+
+-- the erased entry: name A at 8 and type 7 at 12, little-endian
+erased-entry : List ℕ
+erased-entry = 0x00 ∷ 0x00 ∷ 0x00 ∷ 0x0e ∷ 0x00 ∷ 0x00 ∷ 0x38 ∷ 0x00 ∷ 0x41 ∷ 0x00 ∷ 0x55 ∷ 0x00 ∷ 0x07 ∷ 0x00 ∷ []
+
+-- erased, an erased root, little-endian: flags 1, 2 and 4
+erased-row : Row
+erased-row = record { key = 0; kind = tag.LocalVariable; flags = 7; first = 0; count = 2 }
+
 unfoldable pub examples : List Example
+unfolding null erased-entry erased-row
 examples =
-    type-number 0x0108 says type-is 0x0008 ∷
-    type-number 0x8108 says type-is 0x8108 ∷
-    type-number 0x0113 says refused 18 ∷
+    section false [] says rows [] [] ∷
+    section false (0x00 ∷ 0x00 ∷ 0x00 ∷ []) says refused-at 4 0 ∷
+    section false (0x00 ∷ 0x00 ∷ 0x00 ∷ 0x00 ∷ []) says rows (null ∷ []) [] ∷
+    section false (0x00 ∷ 0x00 ∷ 0x00 ∷ 0x07 ∷ []) says rows (null ∷ []) [] ∷
+    section false (0x00 ∷ 0x00 ∷ 0x00 ∷ 0x08 ∷ 0x00 ∷ 0x00 ∷ []) says rows [] [] ∷
+    section true (0x00 ∷ 0x00 ∷ 0x00 ∷ 0x08 ∷ 0x00 ∷ 0x00 ∷ []) says refused-at 4 0 ∷
+    section false (0x00 ∷ 0x00 ∷ 0x00 ∷ 0x08 ∷ 0x00 ∷ 0x08 ∷ []) says refused-at 5 0 ∷
+    section false (0x00 ∷ 0x00 ∷ 0x00 ∷ 0x08 ∷ 0x00 ∷ 0x14 ∷ []) says refused-at 4 0 ∷
+    section true erased-entry says rows (erased-row ∷ []) (attr number.Name 8 ∷ attr number.FundType 12 ∷ []) ∷
+    text erased-entry 8 says bytes (0x41 ∷ []) ∷
+    little-number erased-entry 12 says number-is 7 ∷
+    section false erased-entry says rows [] [] ∷
+    type-number 0x0108 says number-is 0x0008 ∷
+    type-number 0x8108 says number-is 0x8108 ∷
+    type-number 0x0113 says refused-as 18 ∷
     modifier-byte 0x81 says modifier-is modifier.PointerTo ∷
-    modifier-byte 0x85 says refused 18 ∷ []
+    modifier-byte 0x85 says refused-as 18 ∷ []
 
 pub examples-hold : map (λ e. answer (e .asked)) examples ≡ map (λ e. e .said) examples
-unfolding answer examples parseInt fundTypeOf fundTypes member modifierOf modifiers lookup numberOf
+unfolding answer examples numberOf parseInt fundTypeOf fundTypes modifierOf modifiers valueOf there readAt member indexOf lookup tags used alsoKnown attributeKinds known forms formOf zeroFrom fixedEnd blockEnd textEnd valueEnd ending numbered readAttribute textAt nullEnd tagHead sizeHead headAt first plays runEnds readOn runFrom flip littleFlag flagOf flagsOf kindOf ordinary rooted attributes rootEndian rootIn entryFrom entryAt join andThen onward walkFrom walkAt wholeWalk
 examples-hold = refl

@@ -1,0 +1,58 @@
+use borrow.Author.Tests.{not-true, not-false}
+use Rattle.entries.specs.SectionLaws.{count-settings, count-long, count-read, count-refused}
+use borrow.Author.Needs.{needs}
+use mathlib.Core.Path.{sym, _∙_}
+use Rattle.entries.proofs.section.count_debug_section.Statement.{statement}
+use Rattle.entries.proofs.section.count_debug_section.Tie as tie
+
+settings-hold-requires : tie.Need-settings-hold-requires
+settings-hold-requires c κs = search needs
+
+refused-requires : tie.Need-refused-requires
+refused-requires c κs = search needs
+
+returns : tie.Need-returns
+returns c = count-settings _ _ _ _ (sym (c .before .before .settings-hold .ensures) ∙ not-true _ (c .before .if1 .taken)) (c .refused .ensures)
+
+refused-requires-2 : tie.Need-refused-requires-2
+refused-requires-2 c κs = search needs
+
+returns-2 : tie.Need-returns-2
+returns-2 c = count-long _ _ _ _ (sym (c .before .before .before .settings-hold .ensures) ∙ not-false _ (c .before .before .if1 .left)) (c .before .if2 .taken) (c .refused2 .ensures)
+
+count-whole-requires : tie.Need-count-whole-requires
+count-whole-requires c κs = search needs
+
+enum-known-state : tie.Need-enum-known-state
+enum-known-state c = search needs
+
+enum-known-why : tie.Need-enum-known-why
+enum-known-why c = search needs
+
+refused-requires-3 : tie.Need-refused-requires-3
+refused-requires-3 c κs = search needs
+
+returns-3 : tie.Need-returns-3
+returns-3 c =
+    count-read _ _ _ _ (sym (c .before .before .before .before .before .before .settings-hold .ensures) ∙ not-false _ (c .before .before .before .before .before .if1 .left)) (c .before .before .before .before .if2 .left) (c .before .before .before .count-whole .ensures) (c .before .state .given .1)
+
+returns-4 : tie.Need-returns-4
+returns-4 c =
+    count-refused _ _ _ _ (sym (c .before .before .before .before .before .before .before .settings-hold .ensures) ∙ not-false _ (c .before .before .before .before .before .before .if1 .left)) (c .before .before .before .before .before .if2 .left) (c .before .before .before .before .count-whole .ensures) (c .before .before .why .given .1)
+    (c .refused3 .ensures)
+
+pub count-debug-section-spec : {M : Type 1} → statement M
+count-debug-section-spec =
+    tie.close
+    (tie.spec
+    settings-hold-requires
+    refused-requires
+    returns
+    refused-requires-2
+    returns-2
+    count-whole-requires
+    enum-known-state
+    enum-known-why
+    refused-requires-3
+    returns-3
+    returns-4)

@@ -1,0 +1,157 @@
+-- What the functions inside promise, in one record each: the answer, what the tables then hold, and bounds that keep every sum small. They ask for a section
+-- below 2 ^ 32 bytes and a place and counts to go on from.
+use Prim.Native.Nat.{ℕ, _+_, _*_, _^_, _≤_, _<_}
+use mathlib.Core.Path.{_≡_}
+use mathlib.Core.Bool.{Bool, false}
+use mathlib.Core.List.{List, [], _∷_}
+use lib.ListN.{length}
+use lib.Seq.{sets}
+use Rattle.numbers.specs.declared.Endian.{Endian}
+use Rattle.format.specs.Limits.{sectionLimit}
+use Rattle.format.specs.TagKind as tag
+use Rattle.tables.specs.Row.{rowWidth, attrWidth, rowsWords, attrsWords}
+use Rattle.tables.specs.declared.row.Row.{Row}
+use Rattle.tables.specs.declared.row.Attr.{Attr}
+use Rattle.entries.specs.Run.{Run, ran, failed}
+use Rattle.entries.specs.Entry.{Entry, next, inside, stop, row, kindOf}
+use Rattle.entries.specs.Walk.{Walk, walked, refused}
+use Rattle.entries.specs.declared.run.Run as run
+use Rattle.entries.specs.declared.entry.State.{State}
+use Rattle.entries.specs.declared.entry.Shape.{Shape}
+use Rattle.entries.specs.declared.entry.Body.{Body}
+use Rattle.entries.specs.declared.entry.Body.the-variants as body
+use Rattle.entries.specs.declared.entry.Entry as entry
+use Rattle.entries.specs.declared.head.Head.{Head}
+use Rattle.entries.specs.declared.head.Head.the-variants.{Null, Skipped, Root, Ordinary, Refused}
+use Rattle.entries.specs.declared.walk.Walk as walk
+
+-- ---- what an entry begins with
+
+-- where the bytes were found, and where it ends: a size is below 2 ^ 32
+abbrev pub HeadBounds : List ℕ → ℕ → Head → Type 0
+HeadBounds s at (Null place) = (at + 4 ≤ length s) × (at + 4 ≤ place) × (place ≤ at + 8)
+HeadBounds s at (Skipped place) = (at + 4 ≤ length s) × (at + 4 ≤ place) × (place ≤ at + 2 ^ 32)
+HeadBounds s at (Root end) = (at + 6 ≤ length s) × (end ≤ at + 2 ^ 32)
+HeadBounds s at (Ordinary kind end) = (at + 6 ≤ length s) × (end ≤ at + 2 ^ 32)
+HeadBounds s at (Refused why) = Unit
+
+pub record HeadRead (s : List ℕ) (at : ℕ) (what r : Head) : Type 0 where
+  pub answer : r ≡ what
+  pub bounds : HeadBounds s at r
+
+-- ---- an entry's attributes
+
+pub record RunReady (s : List ℕ) (at attrs : ℕ) : Type 0 where
+  pub small : length s < sectionLimit
+  pub here : at ≤ length s
+  pub few : attrs ≤ at
+
+unfoldable pub runAnswer : ℕ → Run → run.Run
+runAnswer attrs (ran xs high place) = run.the-variants.Ran place (attrs + length xs) high
+runAnswer attrs (failed why) = run.the-variants.Refused why
+
+-- the attributes xs were stored, from number `attrs` on, and reading stopped at `place`
+pub record RunStored (s : List ℕ) (at attrs : ℕ) (xs : List Attr) (place : ℕ) (table₀ table₁ : List ℕ) : Type 0 where
+  pub words : table₁ ≡ sets table₀ (attrs * attrWidth) (attrsWords xs)
+  pub few : attrs + length xs ≤ place
+  pub forward : at ≤ place
+  pub here : place ≤ length s
+
+abbrev pub RunStores : List ℕ → ℕ → ℕ → Run → List ℕ → List ℕ → Type 0
+RunStores s at attrs (ran xs high place) table₀ table₁ = RunStored s at attrs xs place table₀ table₁
+RunStores s at attrs (failed why) table₀ table₁ = Unit
+
+pub record RunRead (s : List ℕ) (at attrs : ℕ) (what : Run) (r : run.Run) (table₀ table₁ : List ℕ) : Type 0 where
+  pub answer : r ≡ runAnswer attrs what
+  pub stores : RunStores s at attrs what table₀ table₁
+
+-- ---- one entry, and entries one after the other
+
+-- a place and an end stay below this: a section's length and one more size
+abbrev pub farthest : ℕ
+farthest = 2 ^ 33
+
+-- where a section's reading begins
+abbrev pub start : State
+start = record { at = 0; rows = 0; attrs = 0 }
+
+pub record Ready (s : List ℕ) (from : State) : Type 0 where
+  pub small : length s < sectionLimit
+  pub rows-few : from .rows ≤ from .at
+  pub attrs-few : from .attrs ≤ from .at
+  pub near : from .at ≤ farthest
+
+-- where reading stands after n more rows and m more attributes
+abbrev pub advanced : State → ℕ → ℕ → ℕ → State
+advanced from n m place = record { at = place; rows = from .rows + n; attrs = from .attrs + m }
+
+-- the rows rs and the attributes xs were stored, and reading stopped at `place`
+pub record Stored (from : State) (rs : List Row) (xs : List Attr) (place : ℕ) (rows₀ rows₁ attrs₀ attrs₁ : List ℕ) : Type 0 where
+  pub row-words : rows₁ ≡ sets rows₀ (from .rows * rowWidth) (rowsWords rs)
+  pub attr-words : attrs₁ ≡ sets attrs₀ (from .attrs * attrWidth) (attrsWords xs)
+  pub rows-few : from .rows + length rs ≤ place
+  pub attrs-few : from .attrs + length xs ≤ place
+  pub forward : from .at ≤ place
+  pub near : place ≤ farthest
+
+-- an entry takes four bytes that are there
+pub record Taken (s : List ℕ) (from : State) (place : ℕ) : Type 0 where
+  pub there : from .at + 4 ≤ length s
+  pub forward : from .at + 4 ≤ place
+
+-- a null entry: only its row is stored
+pub record NullReady (from : State) (place : ℕ) : Type 0 where
+  pub small : from .at < 2 ^ 32
+  pub rows-few : from .rows ≤ from .at
+  pub attrs-few : from .attrs ≤ from .at
+
+pub record NullRead (from : State) (isErased : Bool) (e : Endian) (place : ℕ) (r : entry.Entry) (rows₀ rows₁ : List ℕ) : Type 0 where
+  pub answer : r ≡ entry.the-variants.Next (advanced from 1 0 place)
+  pub words : rows₁ ≡ sets rows₀ (from .rows * rowWidth) (rowsWords (row isErased false e (from .at) tag.Padding (from .attrs) [] ∷ []))
+
+-- an entry's attributes, then its row
+pub record BodyReady (s : List ℕ) (from : State) : Type 0 where
+  pub ready : Ready s from
+  pub here : from .at + 6 ≤ length s
+
+unfoldable pub bodyAnswer : State → Run → Body
+bodyAnswer from (ran xs high place) = body.Read (advanced from 1 (length xs) place)
+bodyAnswer from (failed why) = body.Refused why
+
+abbrev pub BodyStores : List ℕ → State → Shape → Run → List ℕ → List ℕ → List ℕ → List ℕ → Type 0
+BodyStores s from shape (ran xs high place) rows₀ rows₁ attrs₀ attrs₁ =
+    Stored from (row (shape .erased) (shape .root) (shape .endian) (from .at) (kindOf (shape .root) (shape .kind) high) (from .attrs) xs ∷ []) xs place rows₀ rows₁
+    attrs₀ attrs₁
+    × Taken s from place
+BodyStores s from shape (failed why) rows₀ rows₁ attrs₀ attrs₁ = Unit
+
+pub record BodyRead (s : List ℕ) (from : State) (shape : Shape) (what : Run) (r : Body) (rows₀ rows₁ attrs₀ attrs₁ : List ℕ) : Type 0 where
+  pub answer : r ≡ bodyAnswer from what
+  pub stores : BodyStores s from shape what rows₀ rows₁ attrs₀ attrs₁
+
+unfoldable pub entryAnswer : State → Entry → entry.Entry
+entryAnswer from (next rs xs place) = entry.the-variants.Next (advanced from (length rs) (length xs) place)
+entryAnswer from (inside r xs place e end) = entry.the-variants.Inside (advanced from 1 (length xs) place) e end
+entryAnswer from (stop why) = entry.the-variants.Refused why
+
+abbrev pub EntryStores : List ℕ → State → Entry → List ℕ → List ℕ → List ℕ → List ℕ → Type 0
+EntryStores s from (next rs xs place) rows₀ rows₁ attrs₀ attrs₁ = Stored from rs xs place rows₀ rows₁ attrs₀ attrs₁ × Taken s from place
+EntryStores s from (inside r xs place e end) rows₀ rows₁ attrs₀ attrs₁ =
+    Stored from (r ∷ []) xs place rows₀ rows₁ attrs₀ attrs₁ × Taken s from place × (end ≤ farthest)
+EntryStores s from (stop why) rows₀ rows₁ attrs₀ attrs₁ = Unit
+
+pub record EntryRead (s : List ℕ) (from : State) (what : Entry) (r : entry.Entry) (rows₀ rows₁ attrs₀ attrs₁ : List ℕ) : Type 0 where
+  pub answer : r ≡ entryAnswer from what
+  pub stores : EntryStores s from what rows₀ rows₁ attrs₀ attrs₁
+
+unfoldable pub walkAnswer : State → Walk → walk.Walk
+walkAnswer from (walked rs xs place) = walk.the-variants.Walked (advanced from (length rs) (length xs) place)
+walkAnswer from (refused why place) = walk.the-variants.Refused why place
+
+abbrev pub WalkStores : State → Walk → List ℕ → List ℕ → List ℕ → List ℕ → Type 0
+WalkStores from (walked rs xs place) rows₀ rows₁ attrs₀ attrs₁ = Stored from rs xs place rows₀ rows₁ attrs₀ attrs₁
+WalkStores from (refused why place) rows₀ rows₁ attrs₀ attrs₁ = Unit
+
+pub record WalkRead (from : State) (what : Walk) (r : walk.Walk) (rows₀ rows₁ attrs₀ attrs₁ : List ℕ) : Type 0 where
+  pub answer : r ≡ walkAnswer from what
+  pub stores : WalkStores from what rows₀ rows₁ attrs₀ attrs₁

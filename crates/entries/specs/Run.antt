@@ -1,0 +1,53 @@
+-- An entry's attributes: one after the other while the place is before the entry's end. The last one may overrun it.
+use Prim.Native.Nat.{ℕ, zero, suc}
+use mathlib.Core.Bool.{Bool, true, false, not, _&&_, _||_}
+use mathlib.Core.List.{List, [], _∷_}
+use lib.Dec.{ltb, eqb}
+use Rattle.numbers.specs.Value.{readAt}
+use Rattle.numbers.specs.declared.Endian.{Endian}
+use Rattle.format.specs.AttributeKind as number
+use Rattle.format.specs.declared.refusal.Reason.{Reason}
+use Rattle.format.specs.declared.refusal.Reason.the-variants as reason
+use Rattle.attributes.specs.Read.{readAttribute}
+use Rattle.attributes.specs.declared.read.Attribute.{Attribute}
+use Rattle.attributes.specs.declared.read.Attribute.the-variants.{Read, Short, Unknown}
+use Rattle.tables.specs.declared.row.Attr.{Attr}
+
+-- what reading attributes comes to: the attributes, whether a HighPc was among them, and where reading stopped; or a refusal
+pub data Run : Type 0 where
+  ran : List Attr → Bool → ℕ → Run
+  failed : Reason → Run
+
+abbrev pub attr : ℕ → ℕ → Attr
+attr n value = record { number = n; value = value }
+
+-- one attribute more, before the others
+unfoldable pub first : Attr → Run → Run
+first a (ran xs high at) = ran (a ∷ xs) high at
+first a (failed why) = failed why
+
+-- a number plays a role: 0 stands for absent and is no number's role
+unfoldable pub plays : ℕ → ℕ → Bool
+plays role n = not (eqb role 0) && eqb n role
+
+-- after a HighPc an erased root's attributes end at the first number that is not MwGlobalRef; where no number is there, reading goes on and is short
+unfoldable pub runEnds : ℕ → List ℕ → Endian → Bool → ℕ → Bool
+runEnds global s e high at = high && not (readAt (plays global) true e 2 s at)
+
+-- what was read, and then what follows it
+unfoldable pub readOn : Attribute → (ℕ → ℕ → Run) → Run
+readOn (Read n value next) k = first (attr n value) (k n next)
+readOn (Short field) k = failed reason.Short
+readOn (Unknown field) k = failed reason.Attribute
+
+-- the attributes from `at` up to `end`; at most as many as the first number, which is never reached. Only an erased root looks for a HighPc
+unfoldable pub runFrom : List ℕ → ℕ → List ℕ → Endian → Bool → ℕ → ℕ → Bool → ℕ → Run
+runFrom vendors global s e root end zero high at = ran [] high at
+runFrom vendors global s e root end (suc f) high at =
+    elim (ltb at end) [
+      | true ↦ elim (runEnds global s e high at) [
+        | true ↦ ran [] high at
+        | false ↦ readOn (readAttribute vendors e s at) (λ n next. runFrom vendors global s e root end f (high || (root && eqb n number.HighPc)) next)
+      ]
+      | false ↦ ran [] high at
+    ]

@@ -1,0 +1,81 @@
+-- The public calls: settings, a section, lent tables.
+use Prim.Native.Nat.{ℕ, _*_}
+use mathlib.Core.Path.{_≡_}
+use mathlib.Core.Bool.{Bool, false, cond, _&&_}
+use mathlib.Core.List.{List}
+use lib.ListN.{length}
+use lib.Seq.{sets}
+use lib.Dec.{leb, ltb}
+use Rattle.format.specs.Limits.{sectionLimit, entryLimit, attributeLimit, erasedLimit}
+use Rattle.format.specs.Settings.{settingsHold}
+use Rattle.format.specs.declared.settings.Settings.{Settings}
+use Rattle.format.specs.declared.refusal.Reason.{Reason}
+use Rattle.format.specs.declared.refusal.Reason.the-variants as reason
+use Rattle.tables.specs.Row.{rowWidth, attrWidth, rowsWords, attrsWords}
+use Rattle.tables.specs.declared.row.Counts.{Counts}
+use Rattle.entries.specs.Walk.{Walk, walked, refused, walkAt}
+use Rattle.entries.specs.declared.section.Count.{Count}
+use Rattle.entries.specs.declared.section.Count.the-variants as count
+use Rattle.entries.specs.declared.section.Section.{Section}
+use Rattle.entries.specs.declared.section.Section.the-variants.{Read, Refused, Room}
+
+-- the whole section, from its first byte to its last: outside erased data, in section endianness, sixteen levels allowed
+unfoldable pub wholeWalk : Settings → List ℕ → List ℕ → Walk
+wholeWalk settings vendors s =
+    walkAt vendors (settings .roles .«global_ref») (settings .erased) s erasedLimit false (settings .endian) (length s) 0 0
+
+abbrev pub refusal : Reason → ℕ → Section
+refusal why at = Refused (record { reason = why; place = at })
+
+abbrev pub counts : ℕ → ℕ → Counts
+counts n m = record { rows = n; attrs = m }
+
+-- so many rows and attributes are allowed, and fit tables of so many words
+unfoldable pub fitting : Counts → ℕ → ℕ → Bool
+fitting c lentRows lentAttrs =
+    leb (c .rows) entryLimit && leb (c .rows * rowWidth) lentRows && leb (c .attrs) attributeLimit && leb (c .attrs * attrWidth) lentAttrs
+
+-- an outcome: the answer, and what the two lent tables then hold
+pub record Outcome : Type 0 where
+  pub answer : Section
+  pub rows : List ℕ
+  pub attrs : List ℕ
+
+-- nothing is written
+abbrev pub untouched : Section → List ℕ → List ℕ → Outcome
+untouched answer rows attrs = record { answer = answer; rows = rows; attrs = attrs }
+
+-- what was read: into the tables if it fits them, words past it as they were; else 8 with the counts that are needed
+unfoldable pub stored : Walk → List ℕ → List ℕ → Outcome
+stored (walked rs xs at) rows attrs =
+    cond (fitting (counts (length rs) (length xs)) (length rows) (length attrs))
+    (record { answer = Read (counts (length rs) (length xs)); rows = sets rows 0 (rowsWords rs); attrs = sets attrs 0 (attrsWords xs) })
+    (untouched (Room (counts (length rs) (length xs))) rows attrs)
+stored (refused why at) rows attrs = untouched (refusal why at) rows attrs
+
+-- 1, then 2, then what reading meets, then 8
+unfoldable pub readSection : Settings → List ℕ → List ℕ → List ℕ → List ℕ → List ℕ → Outcome
+readSection settings vendors sizes s rows attrs =
+    cond (settingsHold settings vendors sizes)
+    (cond (ltb (length s) sectionLimit) (stored (wholeWalk settings vendors s) rows attrs) (untouched (refusal reason.Long 0) rows attrs))
+    (untouched (refusal reason.Settings 0) rows attrs)
+
+-- the result and the tables are those of an outcome
+pub record SectionRead (o : Outcome) (r : Section) (rows attrs : List ℕ) : Type 0 where
+  pub answer-is : r ≡ o .answer
+  pub rows-are : rows ≡ o .rows
+  pub attrs-are : attrs ≡ o .attrs
+
+-- ---- reading and counting alone: whatever the limits, and with no tables
+
+abbrev pub uncounted : Reason → ℕ → Count
+uncounted why at = count.Refused (record { reason = why; place = at })
+
+unfoldable pub counted : Walk → Count
+counted (walked rs xs at) = count.Counted (counts (length rs) (length xs))
+counted (refused why at) = uncounted why at
+
+unfoldable pub countSection : Settings → List ℕ → List ℕ → List ℕ → Count
+countSection settings vendors sizes s =
+    cond (settingsHold settings vendors sizes) (cond (ltb (length s) sectionLimit) (counted (wholeWalk settings vendors s)) (uncounted reason.Long 0))
+    (uncounted reason.Settings 0)

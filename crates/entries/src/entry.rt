@@ -1,0 +1,297 @@
+// One entry: its row and its attributes are stored; an erased root's inside is left to the walk.
+use crate::head::Head;
+use crate::head::head_at;
+use crate::run::Run;
+use crate::run::read_run;
+use format::attribute_kind::is_known;
+use format::refusal::Reason;
+use format::tag_kind::LOCAL_VARIABLE;
+use format::tag_kind::PADDING;
+use format::tag_kind::SUBROUTINE;
+use numbers::Endian;
+use numbers::unsigned::Read16;
+use numbers::unsigned::u16_at;
+use tables::row::Row;
+use tables::store::put_row;
+ghost use mathlib.Core.Path.{_≡_};
+ghost use Prim.Native.Nat.{_+_, _≤_};
+ghost use lib.ListN.{length};
+ghost use mathlib.Core.Bool.{false};
+ghost use Rattle.entries.specs.Entry.{flip, littleFlag, flagOf, flagsOf, kindOf, ordinary, attributes, rootEndian, entryFrom, entryAt};
+ghost use Rattle.entries.specs.Promise.{Ready, farthest, NullReady, NullRead, BodyReady, BodyRead, EntryRead};
+
+// Where reading stands: the place, and how many rows and attributes were read.
+pub struct State {
+    pub at: usize,
+    pub rows: usize,
+    pub attrs: usize,
+}
+
+// What stays the same through a whole reading: the erased flag, and the number that plays MwGlobalRef.
+pub struct Fixed {
+    pub erased: bool,
+    pub global: u16,
+}
+
+// How the entries around are read: as erased or not, in which data endianness.
+pub struct Mode {
+    pub erased: bool,
+    pub endian: Endian,
+}
+
+pub enum Entry {
+    Next(State),
+    // A root was read: its inside follows, in this endianness, up to this end.
+    Inside(State, Endian, usize),
+    Refused(Reason),
+}
+
+fn flipped(e: Endian) -> Endian
+    ensures { λ r. ⌜ r ≡ flip e ⌝ }
+{
+    match e {
+        Endian::Big => Endian::Little,
+        Endian::Little => Endian::Big,
+    }
+}
+
+fn little_flag(e: Endian) -> u32
+    ensures { λ r. ⌜ r ≡ littleFlag e ⌝ }
+{
+    match e {
+        Endian::Big => 0,
+        Endian::Little => 4,
+    }
+}
+
+fn flag(on: bool, value: u32) -> u32
+    ensures { λ r. ⌜ r ≡ flagOf on value ⌝ }
+{
+    if on { value } else { 0 }
+}
+
+fn flags_of(erased: bool, root: bool, e: Endian) -> u32
+    ensures { λ r. ⌜ r ≡ flagsOf erased root e ⌝ }
+{
+    flag(erased, 1) + flag(root, 2) + little_flag(e)
+}
+
+// An entry's own kind; of a root a subroutine if a HighPc was read, else a local variable.
+fn kind_of(root: bool, kind: u16, high: bool) -> u16
+    ensures { λ r. ⌜ r ≡ kindOf root kind high ⌝ }
+{
+    if root {
+        if high { SUBROUTINE } else { LOCAL_VARIABLE }
+    } else {
+        kind
+    }
+}
+
+// What is known of an entry before its attributes are read.
+pub struct Shape {
+    pub erased: bool,
+    pub root: bool,
+    pub endian: Endian,
+    pub kind: u16,
+    pub end: usize,
+}
+
+pub enum Body {
+    Read(State),
+    Refused(Reason),
+}
+
+// The attributes of the entry at a state's place are read and stored, then its row.
+fn read_body(
+    s: &[u8],
+    vendors: &[u16],
+    global: u16,
+    rows: &mut [u32],
+    attrs: &mut [u32],
+    shape: Shape,
+    from: State,
+) -> Body
+    requires { ⌜ BodyReady (now s) from ⌝ }
+    ensures { λ r. ⌜ BodyRead (now (s .entry)) from shape (attributes (now (vendors .entry)) global (now (s .entry)) (shape .endian) (shape .root) (shape .end) (from .at)) r (now (rows .entry)) (now (rows .exit)) (now (attrs .entry)) (now (attrs .exit)) ⌝ }
+{
+    let e = shape.endian;
+    match read_run(
+        s,
+        vendors,
+        global,
+        attrs,
+        e,
+        shape.root,
+        shape.end,
+        from.at + 6,
+        from.attrs,
+    ) {
+        Run::Ran { at, attrs: n, high } => {
+            let row = Row {
+                key: from.at as u32,
+                kind: kind_of(shape.root, shape.kind, high) as u32,
+                flags: flags_of(shape.erased, shape.root, e),
+                first: from.attrs as u32,
+                count: (n - from.attrs) as u32,
+            };
+            put_row(rows, from.rows, row);
+            Body::Read(State {
+                at,
+                rows: from.rows + 1,
+                attrs: n,
+            })
+        }
+        Run::Refused(why) => Body::Refused(why),
+    }
+}
+
+// The data endianness of a root, or that there are no two bytes to look at.
+pub enum Look {
+    Is(Endian),
+    Short,
+}
+
+fn root_endian(s: &[u8], vendors: &[u16], mode: Mode, at: usize) -> Look
+    requires { ⌜ at + 6 ≤ length (now s) ⌝ }
+    ensures { λ r. ⌜ r ≡ rootEndian (now (vendors .entry)) (now (s .entry)) (mode .erased) (mode .endian) at ⌝ }
+{
+    let e = mode.endian;
+    if mode.erased {
+        return Look::Is(e);
+    }
+    match u16_at(s, at + 6, e) {
+        Read16::Value(n) => {
+            if is_known(n, vendors) {
+                Look::Is(e)
+            } else {
+                Look::Is(flipped(e))
+            }
+        }
+        Read16::Short => Look::Short,
+    }
+}
+
+// An erased root: one more level is wanted, its data endianness is looked for, its own attributes are read; its inside follows.
+fn read_root(
+    s: &[u8],
+    vendors: &[u16],
+    global: u16,
+    rows: &mut [u32],
+    attrs: &mut [u32],
+    levels: usize,
+    mode: Mode,
+    end: usize,
+    from: State,
+) -> Entry
+    requires { ⌜ BodyReady (now s) from × (end ≤ farthest) ⌝ }
+    ensures { λ r. ⌜ EntryRead (now (s .entry)) from (entryFrom (now (vendors .entry)) global (now (s .entry)) levels (mode .erased) (mode .endian) (from .at) (from .attrs) (Head.Root end)) r (now (rows .entry)) (now (rows .exit)) (now (attrs .entry)) (now (attrs .exit)) ⌝ }
+{
+    if levels == 0 {
+        return Entry::Refused(Reason::Nested);
+    }
+    match root_endian(s, vendors, mode, from.at) {
+        Look::Is(e) => {
+            let shape = Shape {
+                erased: true,
+                root: true,
+                endian: e,
+                kind: PADDING,
+                end,
+            };
+            match read_body(s, vendors, global, rows, attrs, shape, from) {
+                Body::Read(state) => Entry::Inside(state, e, end),
+                Body::Refused(why) => Entry::Refused(why),
+            }
+        }
+        Look::Short => Entry::Refused(Reason::Short),
+    }
+}
+
+// A null entry: a row of kind Padding, with no attributes.
+fn read_null(rows: &mut [u32], mode: Mode, place: usize, from: State) -> Entry
+    requires { ⌜ NullReady from place ⌝ }
+    ensures { λ r. ⌜ NullRead from (mode .erased) (mode .endian) place r (now (rows .entry)) (now (rows .exit)) ⌝ }
+{
+    let e = mode.endian;
+    let row = Row {
+        key: from.at as u32,
+        kind: PADDING as u32,
+        flags: flags_of(mode.erased, false, e),
+        first: from.attrs as u32,
+        count: 0,
+    };
+    put_row(rows, from.rows, row);
+    Entry::Next(State {
+        at: place,
+        rows: from.rows + 1,
+        attrs: from.attrs,
+    })
+}
+
+// An ordinary entry.
+fn read_ordinary(
+    s: &[u8],
+    vendors: &[u16],
+    global: u16,
+    rows: &mut [u32],
+    attrs: &mut [u32],
+    mode: Mode,
+    kind: u16,
+    end: usize,
+    from: State,
+) -> Entry
+    requires { ⌜ BodyReady (now s) from ⌝ }
+    ensures { λ r. ⌜ EntryRead (now (s .entry)) from (ordinary (mode .erased) (mode .endian) (from .at) kind (from .attrs) (attributes (now (vendors .entry)) global (now (s .entry)) (mode .endian) false end (from .at))) r (now (rows .entry)) (now (rows .exit)) (now (attrs .entry)) (now (attrs .exit)) ⌝ }
+{
+    let e = mode.endian;
+    let shape = Shape {
+        erased: mode.erased,
+        root: false,
+        endian: e,
+        kind,
+        end,
+    };
+    match read_body(s, vendors, global, rows, attrs, shape, from) {
+        Body::Read(state) => Entry::Next(state),
+        Body::Refused(why) => Entry::Refused(why),
+    }
+}
+
+// The entry at a state's place.
+pub fn read_entry(
+    s: &[u8],
+    vendors: &[u16],
+    fixed: Fixed,
+    rows: &mut [u32],
+    attrs: &mut [u32],
+    levels: usize,
+    mode: Mode,
+    from: State,
+) -> Entry
+    requires { ⌜ Ready (now s) from ⌝ }
+    ensures { λ r. ⌜ EntryRead (now (s .entry)) from (entryAt (now (vendors .entry)) (fixed .global) (now (s .entry)) (fixed .erased) levels (mode .erased) (mode .endian) (from .at) (from .attrs)) r (now (rows .entry)) (now (rows .exit)) (now (attrs .entry)) (now (attrs .exit)) ⌝ }
+{
+    let global = fixed.global;
+    let e = mode.endian;
+    match head_at(fixed.erased, s, e, from.at) {
+        Head::Null(place) => read_null(rows, mode, place, from),
+        Head::Skipped(place) => Entry::Next(State {
+            at: place,
+            rows: from.rows,
+            attrs: from.attrs,
+        }),
+        Head::Root(end) => read_root(s, vendors, global, rows, attrs, levels, mode, end, from),
+        Head::Ordinary { kind, end } => read_ordinary(
+            s,
+            vendors,
+            global,
+            rows,
+            attrs,
+            mode,
+            kind,
+            end,
+            from,
+        ),
+        Head::Refused(why) => Entry::Refused(why),
+    }
+}

@@ -1,0 +1,61 @@
+// Entries one after the other. The reader calls itself inside an erased root; the levels still allowed fall at each call.
+use crate::entry::Entry;
+use crate::entry::Fixed;
+use crate::entry::Mode;
+use crate::entry::State;
+use crate::entry::read_entry;
+use format::refusal::Reason;
+ghost use Prim.Native.Nat.{_≤_};
+ghost use Rattle.entries.specs.Walk.{walkAt};
+ghost use Rattle.entries.specs.Promise.{Ready, farthest, WalkRead};
+
+pub enum Walk {
+    Walked(State),
+    // The reason, and the innermost entry's key.
+    Refused(Reason, usize),
+}
+
+// The entries from a state up to `end`: the Rust's `read_tags`.
+pub fn read_tags(
+    s: &[u8],
+    vendors: &[u16],
+    fixed: Fixed,
+    rows: &mut [u32],
+    attrs: &mut [u32],
+    levels: usize,
+    mode: Mode,
+    end: usize,
+    from: State,
+) -> Walk
+    requires { ⌜ Ready (now s) from × (end ≤ farthest) ⌝ }
+    ensures { λ r. ⌜ WalkRead from (walkAt (now (vendors .entry)) (fixed .global) (fixed .erased) (now (s .entry)) levels (mode .erased) (mode .endian) end (from .attrs) (from .at)) r (now (rows .entry)) (now (rows .exit)) (now (attrs .entry)) (now (attrs .exit)) ⌝ }
+{
+    let mut state = from;
+    while state.at < end {
+        match read_entry(s, vendors, fixed, rows, attrs, levels, mode, state) {
+            Entry::Next(next) => state = next,
+            Entry::Inside(next, endian, inner_end) => {
+                let inner = Mode {
+                    erased: true,
+                    endian,
+                };
+                match read_tags(
+                    s,
+                    vendors,
+                    fixed,
+                    rows,
+                    attrs,
+                    levels - 1,
+                    inner,
+                    inner_end,
+                    next,
+                ) {
+                    Walk::Walked(after) => state = after,
+                    Walk::Refused(why, place) => return Walk::Refused(why, place),
+                }
+            }
+            Entry::Refused(why) => return Walk::Refused(why, state.at),
+        }
+    }
+    Walk::Walked(state)
+}

@@ -1,0 +1,58 @@
+use Rattle.tables.specs.Test.{runHolds}
+use Rattle.tables.specs.TestLaws.{run-bad, run-next, run-end}
+use native.Mathlib.Nat.{add-zero, sub-zero}
+use borrow.Author.Tests.{not-true, not-false}
+use borrow.Author.Needs.{needs}
+use Prim.Native.Nat.{_+_, _-_, _≤_}
+use mathlib.Core.Path.{_≡_, sym, _∙_}
+use Rattle.tables.proofs.test.run_holds.Statement.{statement}
+use Rattle.tables.proofs.test.run_holds.Tie as tie
+
+abbrev Inv-loop : tie.InvT-loop
+Inv-loop s vendors e attrs first n k₀ k = (k ≤ n) × (runHolds s vendors e attrs (first + k) (n - k) ≡ runHolds s vendors e attrs first n)
+
+abbrev μ-loop : tie.MeasureT-loop
+μ-loop s vendors e attrs first n k₀ k = n - k
+
+loop-holds : tie.Need-loop-holds Inv-loop μ-loop
+loop-holds c = (search needs, rw (add-zero, sub-zero))
+
+add-attr-at : tie.Need-add-attr-at Inv-loop μ-loop
+add-attr-at c = search needs
+
+attr-at-requires : tie.Need-attr-at-requires Inv-loop μ-loop
+attr-at-requires c κs = search needs
+
+attr-holds-requires : tie.Need-attr-holds-requires Inv-loop μ-loop
+attr-holds-requires c κs = search needs
+
+returns : tie.Need-returns Inv-loop μ-loop
+returns c = run-bad _ _ _ _ _ _ _ (c .before .before .before .loop-test .taken) (c .before .before .attr-at .ensures) (sym (c .before .attr-holds .ensures) ∙ not-true _ (c .if1 .taken)) ∙ c .before .before .before .before .loop .inv .1
+
+add-k : tie.Need-add-k Inv-loop μ-loop
+add-k c = search needs
+
+loop-less : tie.Need-loop-less Inv-loop μ-loop
+loop-less c = search needs
+
+loop-again : tie.Need-loop-again Inv-loop μ-loop
+loop-again c = (search needs, run-next _ _ _ _ _ _ _ (c .before .before .before .loop-test .taken) (c .before .before .attr-at .ensures) (sym (c .before .attr-holds .ensures) ∙ not-false _ (c .if1 .left)) ∙ c .before .before .before .before .loop .inv .1)
+
+returns-2 : tie.Need-returns-2 Inv-loop μ-loop
+returns-2 c = run-end _ _ _ _ _ _ _ (c .loop-test .left) ∙ c .before .loop .inv .1
+
+pub run-holds-spec : {M : Type 1} → statement M
+run-holds-spec =
+    tie.close
+    (tie.spec
+    Inv-loop
+    μ-loop
+    loop-holds
+    add-attr-at
+    attr-at-requires
+    attr-holds-requires
+    returns
+    add-k
+    loop-less
+    loop-again
+    returns-2)

@@ -1,0 +1,31 @@
+// Storing a row and an attribute. What does not fit is not stored.
+use crate::row::ATTR_WIDTH;
+use crate::row::Attr;
+use crate::row::ROW_WIDTH;
+use crate::row::Row;
+use crate::words::put;
+ghost use mathlib.Core.Path.{_≡_};
+ghost use Rattle.tables.specs.Row.{putRow, putAttr};
+
+pub fn put_row(rows: &mut [u32], i: usize, row: Row)
+    ensures { λ _. ⌜ now (rows .exit) ≡ putRow (now (rows .entry)) i row ⌝ }
+{
+    if i < rows.len() {
+        let at = i * ROW_WIDTH;
+        put(rows, at, row.key);
+        put(rows, at + 1, row.kind);
+        put(rows, at + 2, row.flags);
+        put(rows, at + 3, row.first);
+        put(rows, at + 4, row.count);
+    }
+}
+
+pub fn put_attr(attrs: &mut [u32], i: usize, attr: Attr)
+    ensures { λ _. ⌜ now (attrs .exit) ≡ putAttr (now (attrs .entry)) i attr ⌝ }
+{
+    if i < attrs.len() {
+        let at = i * ATTR_WIDTH;
+        put(attrs, at, attr.number);
+        put(attrs, at + 1, attr.value);
+    }
+}

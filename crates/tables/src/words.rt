@@ -1,0 +1,17 @@
+// One word of a table. A word past the end reads as 0 and is not stored, so that one reader can count on an empty table and fill a lent one.
+ghost use mathlib.Core.Path.{_≡_};
+ghost use lib.ListN.{getD, set};
+
+pub fn cell(t: &[u32], i: usize) -> u32
+    ensures { λ r. ⌜ r ≡ getD (now (t .entry)) i 0 ⌝ }
+{
+    if i < t.len() { t[i] } else { 0 }
+}
+
+pub fn put(t: &mut [u32], i: usize, v: u32)
+    ensures { λ _. ⌜ now (t .exit) ≡ set (now (t .entry)) i v ⌝ }
+{
+    if i < t.len() {
+        t[i] = v;
+    }
+}
