@@ -37,3 +37,5 @@ pub mod ExactWritten
 pub mod KnownRun
 pub mod RowsRead
 pub mod Filled
+-- With erased entries left out no row is erased; the settings and the section of an answer passed their tests.
+pub mod Unerased

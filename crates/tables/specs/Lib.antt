@@ -5,9 +5,11 @@
 pub mod Row
 pub mod Test
 pub mod Find
+pub mod Check
 pub mod Flat
 pub mod RowLaws
 pub mod TestLaws
 pub mod FindLaws
 pub mod CheckedLaws
+pub mod CheckLaws
 pub mod Only

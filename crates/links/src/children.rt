@@ -1,0 +1,185 @@
+// The child walk, into lent room: the row numbers of a row's children.
+use crate::link::next_row;
+use crate::link::sibling_row;
+use format::refusal::Reason;
+use format::refusal::Refusal;
+use format::settings::Settings;
+use numbers::Endian;
+use tables::check::Check;
+use tables::check::check_table;
+use tables::find::Found;
+use tables::find::find_row;
+use tables::row::Counts;
+use tables::row::row_at;
+use tables::words::put;
+ghost use mathlib.Core.Path.{_≡_};
+ghost use Rattle.tables.specs.Check.{refusedAt};
+ghost use Rattle.links.specs.Walk.{walkFrom};
+ghost use Rattle.links.specs.Links.{siblingRow, childWalk, Rows};
+ghost use Rattle.links.specs.ChildrenWays.{filled, Gathers, Takes, Small, Asked};
+ghost use Rattle.links.specs.Children.{given, childrenBy, childrenOf, Given};
+ghost use Rattle.tables.specs.Find.{rowOfKey};
+ghost use mathlib.Core.List.{[]};
+
+pub enum ChildRows {
+    Listed(usize),
+    Refused(Refusal),
+    // Refusal 8, at 0: how many words are needed.
+    Room(usize),
+}
+
+// What a walk comes to: so many children; or it never ends.
+pub enum Kids {
+    Count(usize),
+    Endless,
+}
+
+// A row that is met: null entries are passed by.
+fn take_child(rows: &[u32], c: usize, room: &mut [u32], k: usize) -> usize
+    requires { ⌜ Small c k ⌝ }
+    ensures { λ r. ⌜ Takes (now (rows .entry)) c k r (now (room .entry)) (now (room .exit)) ⌝ }
+{
+    let row = row_at(rows, c);
+    if row.kind == 0 {
+        k
+    } else {
+        put(room, k, c as u32);
+        k + 1
+    }
+}
+
+// The walk from a row on, sibling by sibling, up to `end`; more turns than rows are endless.
+fn walk(
+    s: &[u8],
+    e: Endian,
+    rows: &[u32],
+    attrs: &[u32],
+    n: usize,
+    end: usize,
+    from: usize,
+    room: &mut [u32],
+) -> Kids
+    requires { ⌜ Rows (now rows) n ⌝ }
+    ensures { λ r. ⌜ Gathers (filled (now (rows .entry)) 0 (now (room .entry)) (walkFrom n (λ c. siblingRow e (now (s .entry)) (now (rows .entry)) (now (attrs .entry)) n c) end n from)) r (now (room .exit)) ⌝ }
+{
+    let mut c = from;
+    let mut k = 0;
+    let mut turns = 0;
+    while c != end {
+        if n <= c {
+            return Kids::Count(k);
+        }
+        if n <= turns {
+            return Kids::Endless;
+        }
+        k = take_child(rows, c, room, k);
+        c = sibling_row(s, e, rows, attrs, n, c);
+        turns += 1;
+    }
+    Kids::Count(k)
+}
+
+// The child walk of row i.
+fn gather(
+    s: &[u8],
+    e: Endian,
+    rows: &[u32],
+    attrs: &[u32],
+    n: usize,
+    i: usize,
+    room: &mut [u32],
+) -> Kids
+    requires { ⌜ Asked (now rows) n i ⌝ }
+    ensures { λ r. ⌜ Gathers (filled (now (rows .entry)) 0 (now (room .entry)) (childWalk e (now (s .entry)) (now (rows .entry)) (now (attrs .entry)) n i)) r (now (room .exit)) ⌝ }
+{
+    let end = sibling_row(s, e, rows, attrs, n, i);
+    let from = next_row(rows, n, i);
+    walk(s, e, rows, attrs, n, end, from, room)
+}
+
+// The same into no room: it counts.
+fn count_children(s: &[u8], e: Endian, rows: &[u32], attrs: &[u32], n: usize, i: usize) -> Kids
+    requires { ⌜ Asked (now rows) n i ⌝ }
+    ensures { λ r. ⌜ r ≡ filled (now (rows .entry)) 0 [] (childWalk e (now (s .entry)) (now (rows .entry)) (now (attrs .entry)) n i) .answer ⌝ }
+{
+    let mut room = [0u32; 0];
+    gather(s, e, rows, attrs, n, i, &mut room)
+}
+
+fn refused(reason: Reason, key: u32) -> ChildRows
+    ensures { λ r. ⌜ r ≡ ChildRows.Refused (refusedAt key reason) ⌝ }
+{
+    ChildRows::Refused(Refusal {
+        reason,
+        place: key as u64,
+    })
+}
+
+// The children of row i, whose key it is: counted first, so that a refusal has written nothing.
+fn give(
+    s: &[u8],
+    e: Endian,
+    rows: &[u32],
+    attrs: &[u32],
+    n: usize,
+    i: usize,
+    key: u32,
+    room: &mut [u32],
+) -> ChildRows
+    requires { ⌜ Asked (now rows) n i ⌝ }
+    ensures { λ r. ⌜ Given (given (now (rows .entry)) key (now (room .entry)) (childWalk e (now (s .entry)) (now (rows .entry)) (now (attrs .entry)) n i)) r (now (room .exit)) ⌝ }
+{
+    match count_children(s, e, rows, attrs, n, i) {
+        Kids::Count(k) => {
+            if k <= room.len() {
+                gather(s, e, rows, attrs, n, i, room);
+                ChildRows::Listed(k)
+            } else {
+                ChildRows::Room(k)
+            }
+        }
+        Kids::Endless => refused(Reason::Link, key),
+    }
+}
+
+// The children of the row of a key, in a table that was tested.
+fn children_by_key(
+    s: &[u8],
+    e: Endian,
+    rows: &[u32],
+    attrs: &[u32],
+    n: usize,
+    key: u32,
+    room: &mut [u32],
+) -> ChildRows
+    requires { ⌜ Rows (now rows) n ⌝ }
+    ensures { λ r. ⌜ Given (childrenBy e (now (s .entry)) (now (rows .entry)) (now (attrs .entry)) n key (now (room .entry)) (rowOfKey (now (rows .entry)) n key)) r (now (room .exit)) ⌝ }
+{
+    match find_row(rows, n, key) {
+        Found::At(i) => give(s, e, rows, attrs, n, i, key, room),
+        Found::Nothing => refused(Reason::Entry, key),
+    }
+}
+
+// The row numbers of the children of the row that has this key; or a refusal, and the room stays as it was.
+pub fn children(
+    s: &[u8],
+    settings: Settings,
+    vendors: &[u16],
+    sizes: &[u32],
+    rows: &[u32],
+    attrs: &[u32],
+    counts: Counts,
+    key: u32,
+    room: &mut [u32],
+) -> ChildRows
+    ensures { λ r. ⌜ Given (childrenOf settings (now (vendors .entry)) (now (sizes .entry)) (now (s .entry)) (now (rows .entry)) (now (attrs .entry)) counts key (now (room .entry))) r (now (room .exit)) ⌝ }
+{
+    match check_table(s, settings, vendors, sizes, rows, attrs, counts) {
+        Check::Passed => {
+            let e = settings.endian;
+            children_by_key(s, e, rows, attrs, counts.rows, key, room)
+        }
+        Check::Refused(why) => ChildRows::Refused(why),
+    }
+}

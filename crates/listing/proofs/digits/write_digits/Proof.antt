@@ -1,0 +1,66 @@
+use Rattle.listing.specs.PutLaws.{set-length}
+use native.Mathlib.Nat.{mod-lt}
+use Rattle.listing.specs.TextLaws.{digits-last, digits-none}
+use lib.Seq.{sets}
+use Rattle.listing.specs.Text.{digits}
+use borrow.Author.Needs.{needs}
+use native.Mathlib.Omega.{arith}
+use Prim.Native.Nat.{_-_}
+use mathlib.Core.Path.{_≡_, refl, sym, _∙_}
+use lib.ListN.{length}
+use Rattle.listing.proofs.digits.write_digits.Statement.{statement}
+use Rattle.listing.proofs.digits.write_digits.Tie as tie
+
+abbrev Inv-loop : tie.InvT-loop
+Inv-loop rest₀ base w v i₀ left₀ rest i left = (length rest ≡ length rest₀) × (sets rest 0 (digits base i left) ≡ sets rest₀ 0 (digits base w v))
+
+abbrev μ-loop : tie.MeasureT-loop
+μ-loop rest₀ base w v i₀ left₀ rest i left = i
+
+loop-holds : tie.Need-loop-holds Inv-loop μ-loop
+loop-holds c = (refl, refl)
+
+sub-i : tie.Need-sub-i Inv-loop μ-loop
+sub-i c = search needs
+
+rem-glyph : tie.Need-rem-glyph Inv-loop μ-loop
+rem-glyph c = search needs
+
+glyph-requires : tie.Need-glyph-requires Inv-loop μ-loop
+glyph-requires c κs = omega (arith, mod-lt (c .before .before .loop .left) {m = c .before .before .before .before .args .base} (c .before .before .before .before .pre .0))
+
+put-requires : tie.Need-put-requires Inv-loop μ-loop
+put-requires c κs = search needs
+
+div-left : tie.Need-div-left Inv-loop μ-loop
+div-left c = search needs
+
+loop-less : tie.Need-loop-less Inv-loop μ-loop
+loop-less c = search needs
+
+loop-again : tie.Need-loop-again Inv-loop μ-loop
+loop-again c =
+    (set-length (c .before .before .before .before .before .before .loop .rest) (c .before .before .before .before .before .before .loop .i - 1) (c .before .before .before .glyph .result) (c .before .before .put .ensures) ∙ c .before .before .before .before .before .before .loop .inv .0, digits-last _ _ _ _ (c .before .before .before .before .before .loop-test .taken) (c .before .before .before .glyph .ensures) (c .before .before .put .ensures) ∙ c .before .before .before .before .before .before .loop .inv .1)
+
+same-length : tie.Need-same-length Inv-loop μ-loop
+same-length c = c .before .loop .inv .0
+
+returns : tie.Need-returns Inv-loop μ-loop
+returns c = sym (digits-none _ _ _ _ (c .loop-test .left)) ∙ c .before .loop .inv .1
+
+pub write-digits-spec : {M : Type 1} → statement M
+write-digits-spec =
+    tie.close
+    (tie.spec
+    Inv-loop
+    μ-loop
+    loop-holds
+    sub-i
+    rem-glyph
+    glyph-requires
+    put-requires
+    div-left
+    loop-less
+    loop-again
+    same-length
+    returns)

@@ -1,0 +1,56 @@
+use Rattle.listing.specs.PutLaws.{text-next, text-done, set-length}
+use lib.Seq.{sets}
+use borrow.Author.Needs.{needs}
+use native.Mathlib.Omega.{arith}
+use denote.Ref.{now}
+use Prim.Native.Nat.{_-_, _≤_}
+use mathlib.Core.Path.{_≡_, refl, sym, _∙_}
+use lib.ListN.{length, getD, drop}
+use Rattle.listing.proofs.text.write_text.Statement.{statement}
+use Rattle.listing.proofs.text.write_text.Tie as tie
+
+abbrev Inv-loop : tie.InvT-loop
+Inv-loop rest₀ text i₀ rest i = (i ≤ length text) × (length rest ≡ length rest₀) × (sets rest i (drop i text) ≡ sets rest₀ 0 text)
+
+abbrev μ-loop : tie.MeasureT-loop
+μ-loop rest₀ text i₀ rest i = length text - i
+
+loop-holds : tie.Need-loop-holds Inv-loop μ-loop
+loop-holds c = (omega arith, refl, refl)
+
+shared-slice-read-put : tie.Need-shared-slice-read-put Inv-loop μ-loop
+shared-slice-read-put c = search needs
+
+put-requires : tie.Need-put-requires Inv-loop μ-loop
+put-requires c κs = search needs
+
+add-i : tie.Need-add-i Inv-loop μ-loop
+add-i c = search needs
+
+loop-less : tie.Need-loop-less Inv-loop μ-loop
+loop-less c = search needs
+
+loop-again : tie.Need-loop-again Inv-loop μ-loop
+loop-again c =
+    (omega arith, set-length (c .before .before .before .before .before .before .loop .rest) (c .before .before .before .before .before .before .loop .i) (getD (c .before .before .before .before .before .before .before .before .before .args .text .now) (c .before .before .before .before .before .before .loop .i) 0) (c .before .before .put .ensures) ∙ c .before .before .before .before .before .before .loop .inv .1, text-next _ _ _ (c .before .before .before .before .before .loop-test .taken) (c .before .before .put .ensures) ∙ c .before .before .before .before .before .before .loop .inv .2)
+
+same-length : tie.Need-same-length Inv-loop μ-loop
+same-length c = c .before .loop .inv .1
+
+returns : tie.Need-returns Inv-loop μ-loop
+returns c = record { place-is = omega arith; bytes-are = sym (text-done _ _ _ (c .loop-test .left)) ∙ c .before .loop .inv .2 }
+
+pub write-text-spec : {M : Type 1} → statement M
+write-text-spec =
+    tie.close
+    (tie.spec
+    Inv-loop
+    μ-loop
+    loop-holds
+    shared-slice-read-put
+    put-requires
+    add-i
+    loop-less
+    loop-again
+    same-length
+    returns)

@@ -1,0 +1,83 @@
+-- What the listing program prints for a section: document 01, 'Modules, leaves first'.
+use Prim.Native.Nat.{ℕ, _≤_}
+use mathlib.Core.Path.{_≡_}
+use mathlib.Core.Bool.{Bool, false, cond}
+use mathlib.Core.List.{List, []}
+use lib.ListN.{replicate}
+use Rattle.numbers.specs.declared.Endian.the-variants.{Big}
+use Rattle.format.specs.Refusal.{numberOf}
+use Rattle.format.specs.declared.refusal.Reason.the-variants as reason
+use Rattle.format.specs.declared.settings.Settings.{Settings}
+use Rattle.format.specs.declared.settings.Producer.the-variants.{Other}
+use Rattle.entries.specs.Section.{Outcome, readSection}
+use Rattle.entries.specs.declared.section.Section.{Section}
+use Rattle.entries.specs.declared.section.Section.the-variants.{Read, Refused, Room}
+use Rattle.tables.specs.declared.row.Counts.{Counts}
+use Rattle.tree.specs.Tree.{treeOf, Outcome as TreeOutcome}
+use Rattle.tree.specs.declared.listing.Listing.{Listing}
+use Rattle.tree.specs.declared.listing.Listing.the-variants as listing
+use Rattle.listing.specs.Text.{refusalText, listingText}
+
+-- big-endian, erased entries out, no vendor numbers, each size 4
+abbrev pub listingSettings : Settings
+listingSettings =
+    record { endian = Big; erased = false; producer = Other; roles = record { «global_ref» = 0; mangled = 0; «overlay_name» = 0; «overlay_id» = 0 } }
+
+unfoldable pub listingSizes : List ℕ
+listingSizes = replicate 28 4
+
+-- room for 1,024 rows and 4,096 attributes
+unfoldable pub rowRoom : List ℕ
+rowRoom = replicate 5120 0
+
+unfoldable pub attrRoom : List ℕ
+attrRoom = replicate 8192 0
+
+-- and for their places in the tree
+unfoldable pub placeRoom : List ℕ
+placeRoom = replicate 2048 0
+
+-- a section read into lent tables
+abbrev pub listingRead : List ℕ → List ℕ → List ℕ → Outcome
+listingRead s rows attrs = readSection listingSettings [] listingSizes s rows attrs
+
+-- the tree of such tables, into lent room
+abbrev pub listingTree : List ℕ → List ℕ → List ℕ → Counts → List ℕ → TreeOutcome
+listingTree s rows attrs counts room = treeOf listingSettings [] listingSizes s rows attrs counts room
+
+-- refusal 8, at 0
+abbrev pub roomText : List ℕ
+roomText = refusalText (numberOf reason.Room) 0
+
+-- the text of the tree listing's answer, where it left the room so; no 8 comes about for tables that were read, since no more than 1,024 rows are
+unfoldable pub placesText : List ℕ → List ℕ → Listing → List ℕ
+placesText rows room (listing.Listed n) = listingText rows room n
+placesText rows room (listing.Refused why) = refusalText (numberOf (why .reason)) (why .place)
+placesText rows room (listing.Room n) = roomText
+
+-- the text for tables that were read
+unfoldable pub treeText : List ℕ → List ℕ → List ℕ → Counts → List ℕ
+treeText s rows attrs counts =
+    placesText rows (listingTree s rows attrs counts placeRoom .room) (listingTree s rows attrs counts placeRoom .answer)
+
+-- the text of reading's answer, where it left the tables so
+unfoldable pub answerText : List ℕ → List ℕ → List ℕ → Section → List ℕ
+answerText s rows attrs (Read counts) = treeText s rows attrs counts
+answerText s rows attrs (Refused why) = refusalText (numberOf (why .reason)) (why .place)
+answerText s rows attrs (Room counts) = roomText
+
+-- the text for a section
+unfoldable pub reportText : List ℕ → List ℕ
+reportText s =
+    answerText s (listingRead s rowRoom attrRoom .rows) (listingRead s rowRoom attrRoom .attrs) (listingRead s rowRoom attrRoom .answer)
+
+-- the text for an input, of which s is all or, where it is longer, the beginning
+unfoldable pub inputText : Bool → List ℕ → List ℕ
+inputText longer s = cond longer roomText (reportText s)
+
+-- what the writers require: a page holds the lines of no more rows than these
+pub record FewRead (answer : Section) : Type 0 where
+  pub few : (counts : Counts) → answer ≡ Read counts → counts .rows ≤ 1024
+
+pub record FewListed (answer : Listing) : Type 0 where
+  pub few : (n : ℕ) → answer ≡ listing.Listed n → n ≤ 1024

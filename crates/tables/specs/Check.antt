@@ -1,0 +1,33 @@
+-- The tests that every public call on a table makes first, in this order: 1 settings, 2 long, 3 table. Their place is 0.
+use Prim.Native.Nat.{ℕ}
+use mathlib.Core.Path.{_≡_}
+use mathlib.Core.Bool.{Bool, cond}
+use mathlib.Core.List.{List}
+use lib.ListN.{length}
+use lib.Dec.{ltb}
+use Rattle.format.specs.Limits.{sectionLimit}
+use Rattle.format.specs.Settings.{settingsHold}
+use Rattle.format.specs.declared.settings.Settings.{Settings}
+use Rattle.format.specs.declared.refusal.Refusal.{Refusal}
+use Rattle.format.specs.declared.refusal.Reason.{Reason}
+use Rattle.format.specs.declared.refusal.Reason.the-variants as reason
+use Rattle.tables.specs.Test.{tableHolds}
+use Rattle.tables.specs.declared.row.Counts.{Counts}
+use Rattle.tables.specs.declared.check.Check.{Check}
+use Rattle.tables.specs.declared.check.Check.the-variants.{Passed, Refused}
+
+abbrev pub refusedAt : ℕ → Reason → Refusal
+refusedAt place why = record { reason = why; place = place }
+
+-- an answer that is given where all three tests pass; `refused` makes a refusal an answer
+unfoldable pub afterTests : {A : Type 0} → Bool → Bool → Bool → (Refusal → A) → A → A
+afterTests settings short table refused answer =
+    cond settings (cond short (cond table answer (refused (refusedAt 0 reason.Table))) (refused (refusedAt 0 reason.Long))) (refused (refusedAt 0 reason.Settings))
+
+unfoldable pub tested : {A : Type 0} → Settings → List ℕ → List ℕ → List ℕ → List ℕ → List ℕ → Counts → (Refusal → A) → A → A
+tested settings vendors sizes s rows attrs counts refused answer =
+    afterTests (settingsHold settings vendors sizes) (ltb (length s) sectionLimit) (tableHolds s vendors rows attrs counts) refused answer
+
+-- what the tests alone answer
+pub record Tells (settings : Settings) (vendors sizes s rows attrs : List ℕ) (counts : Counts) (r : Check) : Type 0 where
+  pub told : r ≡ tested settings vendors sizes s rows attrs counts Refused Passed

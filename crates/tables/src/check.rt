@@ -1,0 +1,45 @@
+// The tests that every public call on a table makes first: 1, 2, 3.
+use crate::row::Counts;
+use crate::test::table_holds;
+use format::limits::SECTION_LIMIT;
+use format::refusal::Reason;
+use format::refusal::Refusal;
+use format::settings::Settings;
+use format::settings::settings_hold;
+ghost use mathlib.Core.Path.{_≡_};
+ghost use Rattle.tables.specs.Check.{Tells, refusedAt};
+
+pub enum Check {
+    Passed,
+    Refused(Refusal),
+}
+
+fn refuse(reason: Reason) -> Check
+    ensures { λ r. ⌜ r ≡ Check.Refused (refusedAt 0 reason) ⌝ }
+{
+    Check::Refused(Refusal { reason, place: 0 })
+}
+
+pub fn check_table(
+    s: &[u8],
+    settings: Settings,
+    vendors: &[u16],
+    sizes: &[u32],
+    rows: &[u32],
+    attrs: &[u32],
+    counts: Counts,
+) -> Check
+    ensures { λ r. ⌜ Tells settings (now (vendors .entry)) (now (sizes .entry)) (now (s .entry)) (now (rows .entry)) (now (attrs .entry)) counts r ⌝ }
+{
+    if !settings_hold(settings, vendors, sizes) {
+        return refuse(Reason::Settings);
+    }
+    if s.len() >= SECTION_LIMIT {
+        return refuse(Reason::Long);
+    }
+    if table_holds(s, vendors, rows, attrs, counts) {
+        Check::Passed
+    } else {
+        refuse(Reason::Table)
+    }
+}

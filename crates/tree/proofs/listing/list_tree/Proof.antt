@@ -1,0 +1,38 @@
+use Rattle.tree.specs.TreeLaws.{tree-passed, tree-refused}
+use Rattle.links.specs.ChildrenLaws.{tested-rows}
+use borrow.Author.Needs.{needs}
+use Rattle.tree.proofs.listing.list_tree.Statement.{statement}
+use Rattle.tree.proofs.listing.list_tree.Tie as tie
+
+check-table-requires : tie.Need-check-table-requires
+check-table-requires c κs = search needs
+
+enum-told : tie.Need-enum-told
+enum-told c = search needs
+
+list-requires : tie.Need-list-requires
+list-requires c κs = tested-rows (c .before .before .before .check-table .ensures) (c .before .enum-told .given .1)
+
+enum-known-why : tie.Need-enum-known-why
+enum-known-why c = search needs
+
+same-length : tie.Need-same-length
+same-length c = search needs
+
+returns : tie.Need-returns
+returns c = tree-passed _ _ _ _ _ _ _ _ (c .before .before .before .before .before .before .check-table .ensures) (c .before .before .before .before .enum-told .given .1) (c .before .before .list .ensures)
+
+returns-2 : tie.Need-returns-2
+returns-2 c = tree-refused _ _ _ _ _ _ _ _ (c .before .before .before .check-table .ensures) (c .before .why .given .1)
+
+pub list-tree-spec : {M : Type 1} → statement M
+list-tree-spec =
+    tie.close
+    (tie.spec
+    check-table-requires
+    enum-told
+    list-requires
+    enum-known-why
+    same-length
+    returns
+    returns-2)

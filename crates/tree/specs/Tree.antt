@@ -1,0 +1,62 @@
+-- The tree listing, the public call: 1, 2, 3; 12 for an erased row, 9 for a row at fault, 10 for a row that lies too deep, each at the first such row in file
+-- order; 8 with the count of rows; else the listing.
+use Prim.Native.Nat.{ℕ, zero, suc, _*_}
+use mathlib.Core.Path.{_≡_}
+use mathlib.Core.Bool.{cond}
+use mathlib.Core.List.{List, [], _∷_}
+use lib.ListN.{length}
+use lib.Seq.{sets}
+use lib.Dec.{leb, ltb}
+use Rattle.format.specs.declared.settings.Settings.{Settings}
+use Rattle.format.specs.declared.refusal.Reason.{Reason}
+use Rattle.format.specs.declared.refusal.Reason.the-variants as reason
+use Rattle.tables.specs.Row.{rowAt, erasedRow}
+use Rattle.tables.specs.Check.{refusedAt, tested}
+use Rattle.tables.specs.declared.row.Counts.{Counts}
+use Rattle.tree.specs.Pick.{firstFrom}
+use Rattle.tree.specs.Reach.{reachEnd}
+use Rattle.tree.specs.Nest.{depth, parent, firstFault, firstDeep}
+use Rattle.tree.specs.declared.listing.Listing.{Listing}
+use Rattle.tree.specs.declared.listing.Listing.the-variants.{Listed, Refused, Room}
+
+-- the words of a row's place in the tree: its depth, and its parent as a row number plus one, 0 for none
+abbrev pub placeWidth : ℕ
+placeWidth = 2
+
+-- the places of k rows from i on
+unfoldable pub placesFrom : ℕ → (ℕ → ℕ) → ℕ → ℕ → List ℕ
+placesFrom n reach i zero = []
+placesFrom n reach i (suc k) = depth n reach i ∷ parent n reach i ∷ placesFrom n reach (suc i) k
+
+-- the first erased row, n where there is none
+unfoldable pub firstErased : List ℕ → ℕ → ℕ
+firstErased rows n = firstFrom (λ i. erasedRow (rowAt rows i .flags)) 0 n
+
+-- an outcome: the answer, and what the lent room then holds
+pub record Outcome : Type 0 where
+  pub answer : Listing
+  pub room : List ℕ
+
+abbrev pub outcome : Listing → List ℕ → Outcome
+outcome answer room = record { answer = answer; room = room }
+
+-- a fault at row i
+abbrev pub faultAtRow : List ℕ → List ℕ → ℕ → Reason → Outcome
+faultAtRow rows room i why = outcome (Refused (refusedAt (rowAt rows i .key) why)) room
+
+unfoldable pub listed : List ℕ → ℕ → (ℕ → ℕ) → List ℕ → Outcome
+listed rows n reach room =
+    cond (ltb (firstErased rows n) n) (faultAtRow rows room (firstErased rows n) reason.Kind)
+    (cond (ltb (firstFault n reach) n) (faultAtRow rows room (firstFault n reach) reason.Link)
+    (cond (ltb (firstDeep n reach) n) (faultAtRow rows room (firstDeep n reach) reason.Depth)
+    (cond (leb (n * placeWidth) (length room)) (outcome (Listed n) (sets room 0 (placesFrom n reach 0 n))) (outcome (Room n) room))))
+
+unfoldable pub treeOf : Settings → List ℕ → List ℕ → List ℕ → List ℕ → List ℕ → Counts → List ℕ → Outcome
+treeOf settings vendors sizes s rows attrs counts room =
+    tested settings vendors sizes s rows attrs counts (λ why. outcome (Refused why) room)
+    (listed rows (counts .rows) (λ i. reachEnd (settings .endian) s rows attrs (counts .rows) i) room)
+
+-- the result and the room are those of an outcome
+pub record Given (o : Outcome) (r : Listing) (room : List ℕ) : Type 0 where
+  pub answer-is : r ≡ o .answer
+  pub room-is : room ≡ o .room
