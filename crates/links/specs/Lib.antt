@@ -1,16 +1,18 @@
--- Links between rows. What must be believed: `Attribute` (lookups), `Walk` (a walk over rows), `Links` (next row, sibling, the child walk), `Children` (the
--- public call).
+-- Links between rows. What must be believed: `Attribute` (lookups), `Walk` (a walk over rows), `Links` (next row, sibling, the child walk), `Children`,
+-- `Neighbour` and `Typed` (the public calls).
 pub mod Attribute
 pub mod Walk
 pub mod Links
 pub mod Children
 pub mod Neighbour
+pub mod Typed
 -- Laws.
 pub mod AttributeLaws
 pub mod LinkLaws
 pub mod ChildrenWays
 pub mod ChildrenLaws
--- No second answer fits.
-pub mod Only
+pub mod TypedLaws
 -- The walk is refused exactly when it would never end.
 pub mod EndlessLaws
+-- No second answer fits.
+pub mod Only

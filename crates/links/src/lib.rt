@@ -3,3 +3,4 @@ pub mod children;
 pub mod link;
 pub mod lookup;
 pub mod neighbour;
+pub mod typed;

@@ -1,0 +1,175 @@
+-- The typed lookups (document 01, 'Links'; the Rust's `impl Tag`): 1, 2, 3; 11 for a key without a row; then the row's first attribute of a kind.
+use Prim.Native.Nat.{ℕ}
+use mathlib.Core.Path.{_≡_}
+use mathlib.Core.Bool.{Bool, cond}
+use mathlib.Core.List.{List, [], _∷_}
+use lib.Dec.{eqb}
+use Rattle.numbers.specs.declared.Endian.{Endian}
+use Rattle.numbers.specs.declared.unsigned.Read16.{Read16}
+use Rattle.numbers.specs.declared.unsigned.Read16.the-variants as read16
+use Rattle.numbers.specs.declared.unsigned.Read32.{Read32}
+use Rattle.numbers.specs.declared.unsigned.Read32.the-variants as read32
+use Rattle.format.specs.FormKind.{formOf}
+use Rattle.format.specs.Refusal.{numberOf}
+use Rattle.format.specs.declared.form_kind.FormKind.{FormKind}
+use Rattle.format.specs.declared.form_kind.FormKind.the-variants.{Addr, Ref, Block2, Block4, Data2, Data4, Data8, String, Undefined}
+use Rattle.format.specs.declared.settings.Settings.{Settings}
+use Rattle.format.specs.declared.refusal.Refusal.{Refusal}
+use Rattle.format.specs.declared.refusal.Reason.the-variants as reason
+use Rattle.attributes.specs.Decode.{addressAt, referenceAt, data2At, data4At}
+use Rattle.attributes.specs.Parts.{blockAt, textAt}
+use Rattle.attributes.specs.declared.decode.Endians.{Endians}
+use Rattle.tables.specs.Row.{rowAt, attrAt, endianOf}
+use Rattle.tables.specs.Find.{rowOfKey}
+use Rattle.tables.specs.Check.{refusedAt, tested}
+use Rattle.tables.specs.declared.row.Counts.{Counts}
+use Rattle.tables.specs.declared.find.Found.{Found}
+use Rattle.tables.specs.declared.find.Found.the-variants.{At, Nothing}
+use Rattle.links.specs.Attribute.{attributeOf}
+use Rattle.links.specs.declared.lookup.Wanted.{Wanted}
+use Rattle.links.specs.declared.lookup.Wanted.the-variants as wanted
+use Rattle.links.specs.declared.typed.Looked.{Looked}
+use Rattle.links.specs.declared.typed.Looked.the-variants as looked
+use Rattle.links.specs.declared.typed.Value.{Value}
+use Rattle.links.specs.declared.typed.Value.the-variants as value
+use Rattle.links.specs.declared.typed.Spot.{Spot}
+use Rattle.links.specs.declared.typed.Placed.{Placed}
+use Rattle.links.specs.declared.typed.Placed.the-variants as placed
+
+-- ---- in the row of a key
+
+-- an answer from the row that was found; 11 at the key where there is none
+unfoldable pub rowBy : {A : Type 0} → ℕ → (Refusal → A) → (ℕ → A) → Found → A
+rowBy key refused there (At i) = there i
+rowBy key refused there Nothing = refused (refusedAt key reason.Entry)
+
+-- an answer from the row of a key, after the tests; `refused` makes a refusal an answer
+unfoldable pub inRow : {A : Type 0} → Settings → List ℕ → List ℕ → List ℕ → List ℕ → List ℕ → Counts → ℕ → (Refusal → A) → (ℕ → A) → A
+inRow settings vendors sizes s rows attrs counts key refused there =
+    tested settings vendors sizes s rows attrs counts refused (rowBy key refused there (rowOfKey rows (counts .rows) key))
+
+-- ---- an attribute
+
+-- the attribute that was found
+unfoldable pub asLooked : List ℕ → Found → Looked
+asLooked attrs (At k) = looked.At (attrAt attrs k)
+asLooked attrs Nothing = looked.Nothing
+
+-- row i's first attribute that is wanted
+unfoldable pub lookedIn : List ℕ → List ℕ → Wanted → ℕ → Looked
+lookedIn rows attrs w i = asLooked attrs (attributeOf rows attrs i w)
+
+-- the first that is wanted in the row of a key
+unfoldable pub attributeBy : Settings → List ℕ → List ℕ → List ℕ → List ℕ → List ℕ → Counts → ℕ → Wanted → Looked
+attributeBy settings vendors sizes s rows attrs counts key w =
+    inRow settings vendors sizes s rows attrs counts key looked.Refused (lookedIn rows attrs w)
+
+-- ---- where a value of a form stands
+
+-- each form has its number: the low four bits
+unfoldable pub formNumber : FormKind → ℕ
+formNumber Undefined = 0
+formNumber Addr = 1
+formNumber Ref = 2
+formNumber Block2 = 3
+formNumber Block4 = 4
+formNumber Data2 = 5
+formNumber Data4 = 6
+formNumber Data8 = 7
+formNumber String = 8
+
+-- attributes of this number have this form
+unfoldable pub isForm : FormKind → ℕ → Bool
+isForm form number = eqb (formNumber form) (formNumber (formOf number))
+
+-- the section's endianness and row i's own
+unfoldable pub endsOf : Endian → List ℕ → ℕ → Endians
+endsOf e rows i = record { section = e; «data» = endianOf (rowAt rows i .flags) }
+
+-- its value's place, with the endiannesses
+unfoldable pub asPlaced : Endians → List ℕ → Found → Placed
+asPlaced ends attrs (At k) = placed.At (record { at = attrAt attrs k .value; ends = ends })
+asPlaced ends attrs Nothing = placed.Nothing
+
+-- the value of row i's first attribute of this number
+unfoldable pub spotAt : Endian → List ℕ → List ℕ → ℕ → ℕ → Placed
+spotAt e rows attrs number i = asPlaced (endsOf e rows i) attrs (attributeOf rows attrs i (wanted.Number number))
+
+-- the same, if it has this form
+unfoldable pub spotIn : Endian → List ℕ → List ℕ → ℕ → FormKind → ℕ → Placed
+spotIn e rows attrs number form i = cond (isForm form number) (spotAt e rows attrs number i) placed.Nothing
+
+-- the same in the row of a key
+unfoldable pub placeOf : Settings → List ℕ → List ℕ → List ℕ → List ℕ → List ℕ → Counts → ℕ → ℕ → FormKind → Placed
+placeOf settings vendors sizes s rows attrs counts key number form =
+    inRow settings vendors sizes s rows attrs counts key placed.Refused (spotIn (settings .endian) rows attrs number form)
+
+-- ---- numbers
+
+-- what was read; in a table that was tested the bytes are there
+unfoldable pub asValue : Read32 → Value
+asValue (read32.Value x) = value.Is x
+asValue read32.Short = value.Nothing
+
+-- the same for two bytes
+unfoldable pub asWidened : Read16 → Value
+asWidened (read16.Value x) = value.Is x
+asWidened read16.Short = value.Nothing
+
+-- the number at a spot, by its form
+unfoldable pub wordAt : FormKind → List ℕ → Spot → Value
+wordAt Addr s spot = asValue (addressAt (spot .ends) s (spot .at))
+wordAt Ref s spot = asValue (referenceAt (spot .ends) s (spot .at))
+wordAt Data2 s spot = asWidened (data2At (spot .ends) s (spot .at))
+wordAt Data4 s spot = asValue (data4At (spot .ends) s (spot .at))
+wordAt Block2 s spot = value.Nothing
+wordAt Block4 s spot = value.Nothing
+wordAt Data8 s spot = value.Nothing
+wordAt String s spot = value.Nothing
+wordAt Undefined s spot = value.Nothing
+
+-- the number at a place, if there is one
+unfoldable pub wordOf : FormKind → List ℕ → Placed → Value
+wordOf form s (placed.At spot) = wordAt form s spot
+wordOf form s placed.Nothing = value.Nothing
+wordOf form s (placed.Refused why) = value.Refused why
+
+-- what the first attribute of this number in the row of a key says, if it has this form
+unfoldable pub valueBy : Settings → List ℕ → List ℕ → List ℕ → List ℕ → List ℕ → Counts → ℕ → ℕ → FormKind → Value
+valueBy settings vendors sizes s rows attrs counts key number form =
+    wordOf form s (placeOf settings vendors sizes s rows attrs counts key number form)
+
+-- ---- parts of the section
+
+-- the text or block at a spot, by its form
+unfoldable pub partAs : FormKind → List ℕ → Spot → List ℕ
+partAs String s spot = textAt s (spot .at)
+partAs Block2 s spot = blockAt (spot .ends .«data») 2 s (spot .at)
+partAs Block4 s spot = blockAt (spot .ends .«data») 4 s (spot .at)
+partAs Addr s spot = []
+partAs Ref s spot = []
+partAs Data2 s spot = []
+partAs Data4 s spot = []
+partAs Data8 s spot = []
+partAs Undefined s spot = []
+
+-- the part at a place, if there is one
+unfoldable pub partOf : FormKind → List ℕ → Placed → List ℕ
+partOf form s (placed.At spot) = partAs form s spot
+partOf form s placed.Nothing = []
+partOf form s (placed.Refused why) = []
+
+-- whether there is a part: 1; 0 for none; 2 for a refusal, with its number and its place
+unfoldable pub toldWords : Placed → List ℕ
+toldWords (placed.At spot) = 1 ∷ 0 ∷ 0 ∷ []
+toldWords placed.Nothing = 0 ∷ 0 ∷ 0 ∷ []
+toldWords (placed.Refused why) = 2 ∷ numberOf (why .reason) ∷ why .place ∷ []
+
+-- a block has a 2-byte length where the number says so, else a 4-byte one
+unfoldable pub blockForm : ℕ → FormKind
+blockForm number = cond (isForm Block2 number) Block2 Block4
+
+-- the part and the words told are those of a place
+pub record Handed (form : FormKind) (s : List ℕ) (place : Placed) (part told : List ℕ) : Type 0 where
+  pub part-is : part ≡ partOf form s place
+  pub told-is : told ≡ toldWords place

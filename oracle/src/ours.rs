@@ -1,0 +1,155 @@
+//! Our archive, through its C functions, with the settings that complete the Rust's `AttributeKind`.
+use crate::util::{dwarf::AttributeKind, reader::Endian};
+
+/// The limits of the lent tables, in rows and attributes, and the erased levels.
+pub const ROWS: usize = 4096;
+pub const ATTRIBUTES: usize = 32768;
+pub const LEVELS: usize = 16;
+
+/// Words of a row (key, kind, flags, first attribute, number of attributes) and of an attribute (number, place of its value).
+pub const ROW: usize = 5;
+pub const ATTRIBUTE: usize = 2;
+
+/// The attribute numbers that document 01 names.
+pub const NAMED: [u16; 57] = [
+    0x012, 0x023, 0x038, 0x055, 0x063, 0x072, 0x083, 0x095, 0x0a3, 0x0b6, 0x0c5, 0x0d6, 0x0f4, 0x106, 0x111,
+    0x121, 0x136, 0x142, 0x152, 0x163, 0x193, 0x1a2, 0x1b8, 0x1c3, 0x1c4, 0x1c5, 0x1c6, 0x1c7, 0x1c8, 0x1d2,
+    0x1e1, 0x1e5, 0x1e7, 0x1e8, 0x1f3, 0x208, 0x218, 0x222, 0x225, 0x226, 0x227, 0x238, 0x248, 0x258, 0x268,
+    0x278, 0x288, 0x298, 0x2a3, 0x2b2, 0x2c6, 0x2e6, 0x2f2, 0x2f5, 0x2f6, 0x2f7, 0x308,
+];
+
+/// The rest of the Rust's `AttributeKind` that has a form: the vendor list.
+pub fn vendors() -> Vec<u16> {
+    let known = |n: &u16| AttributeKind::try_from(*n).is_ok() && (1..=8).contains(&(n % 16));
+    (0..=u16::MAX).filter(|n| known(n) && !NAMED.contains(n)).collect()
+}
+
+unsafe extern "C" {
+    fn capbeacon_count_debug_section(
+        section: *const u8,
+        section_len: usize,
+        endian: u32,
+        erased: u32,
+        producer: u32,
+        global_ref: u16,
+        mangled: u16,
+        overlay_name: u16,
+        overlay_id: u16,
+        vendors: *const u16,
+        vendors_len: usize,
+        sizes: *const u32,
+        sizes_len: usize,
+        place: &mut u64,
+        row_count: &mut u64,
+        attr_count: &mut u64,
+    ) -> u32;
+
+    fn capbeacon_read_debug_section(
+        section: *const u8,
+        section_len: usize,
+        endian: u32,
+        erased: u32,
+        producer: u32,
+        global_ref: u16,
+        mangled: u16,
+        overlay_name: u16,
+        overlay_id: u16,
+        vendors: *const u16,
+        vendors_len: usize,
+        sizes: *const u32,
+        sizes_len: usize,
+        rows: *mut u32,
+        rows_len: usize,
+        attrs: *mut u32,
+        attrs_len: usize,
+        place: &mut u64,
+        row_count: &mut u64,
+        attr_count: &mut u64,
+    ) -> u32;
+}
+
+/// A number (0 for read, else the refusal's), the place of a refusal, and the counts read or needed.
+#[derive(Debug, Default, Clone, Copy, PartialEq, Eq)]
+pub struct Answer {
+    pub number: u32,
+    pub place: u64,
+    pub rows: u64,
+    pub attrs: u64,
+}
+
+pub struct Reader {
+    vendors: Vec<u16>,
+    sizes: [u32; 28],
+    pub rows: Vec<u32>,
+    pub attrs: Vec<u32>,
+}
+
+impl Reader {
+    /// Lends tables of the largest size, with `fill` in every word.
+    pub fn new(fill: u32) -> Self {
+        let vendors = vendors();
+        assert_eq!(vendors.len(), 47);
+        Reader {
+            vendors,
+            sizes: [4; 28],
+            rows: vec![fill; ROWS * ROW],
+            attrs: vec![fill; ATTRIBUTES * ATTRIBUTE],
+        }
+    }
+
+    pub fn count(&self, section: &[u8], e: Endian, erased: bool) -> Answer {
+        let mut answer = Answer::default();
+        // SAFETY: each pointer and length is that of a live slice.
+        answer.number = unsafe {
+            capbeacon_count_debug_section(
+                section.as_ptr(),
+                section.len(),
+                (e == Endian::Little) as u32,
+                erased as u32,
+                2,
+                AttributeKind::MwGlobalRef as u16,
+                AttributeKind::MwMangled as u16,
+                AttributeKind::MwOverlayName as u16,
+                AttributeKind::MwOverlayId as u16,
+                self.vendors.as_ptr(),
+                self.vendors.len(),
+                self.sizes.as_ptr(),
+                self.sizes.len(),
+                &mut answer.place,
+                &mut answer.rows,
+                &mut answer.attrs,
+            )
+        };
+        answer
+    }
+
+    pub fn read(&mut self, section: &[u8], e: Endian, erased: bool) -> Answer {
+        let mut answer = Answer::default();
+        // SAFETY: each pointer and length is that of a live slice, the two tables are lent alone.
+        answer.number = unsafe {
+            capbeacon_read_debug_section(
+                section.as_ptr(),
+                section.len(),
+                (e == Endian::Little) as u32,
+                erased as u32,
+                2,
+                AttributeKind::MwGlobalRef as u16,
+                AttributeKind::MwMangled as u16,
+                AttributeKind::MwOverlayName as u16,
+                AttributeKind::MwOverlayId as u16,
+                self.vendors.as_ptr(),
+                self.vendors.len(),
+                self.sizes.as_ptr(),
+                self.sizes.len(),
+                self.rows.as_mut_ptr(),
+                self.rows.len(),
+                self.attrs.as_mut_ptr(),
+                self.attrs.len(),
+                &mut answer.place,
+                &mut answer.rows,
+                &mut answer.attrs,
+            )
+        };
+        answer
+    }
+}
