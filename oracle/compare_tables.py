@@ -1,12 +1,12 @@
 #!/usr/bin/env python3
-"""compare_tables.py [TABLES]: the format's numbers in crates/format/specs against the standard's.
+"""compare_tables.py TABLES: the format's numbers in crates/format/specs against the standard's.
 
-TABLES is a list of the standard's numbers, tab separated: class, hex, decimal, name, status, source (default: ../shared/docs/dwarf1_tables.tsv).
+TABLES is a list of the standard's numbers, tab separated: class, hex, decimal, name, status, source.
 Prints every number that only one side has, and every number whose names differ beyond spelling. docs/DIFFERENCES.md has the reason of each.
 """
 import re, sys
 
-tables = sys.argv[1] if len(sys.argv) > 1 else '../shared/docs/dwarf1_tables.tsv'
+tables = sys.argv[1]
 specs = 'crates/format/specs/'
 # class of the tables, our file, the prefix that the standard's names have
 CLASSES = [('tag', 'TagKind', 'TAG_'), ('attribute', 'AttributeKind', 'AT_'), ('fundamental_type', 'FundType', 'FT_'), ('form', 'FormKind', 'FORM_'),

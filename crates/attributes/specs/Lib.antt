@@ -6,7 +6,7 @@ pub mod End
 pub mod Read
 pub mod Decode
 pub mod Parts
-pub mod Four
+pub mod Eight
 pub mod TextLaws
 pub mod EndLaws
 pub mod PartLaws

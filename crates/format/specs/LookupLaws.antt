@@ -1,10 +1,10 @@
 -- What follows from `Lookup`: by index, from a place on, for loops; and by key, for tables that the code has as a `match`.
 use Prim.Native.Nat.{ℕ, suc, _+_, _≤_, _<_}
-use native.Mathlib.Nat.{add-assoc, not-suc-le-zero, le-of-suc-le-suc}
+use native.Mathlib.Nat.{not-suc-le-zero, le-of-suc-le-suc}
 use native.Mathlib.Numerals.{add-one}
 use native.Mathlib.Omega.{arith}
 use mathlib.Core.Path.{_≡_, refl, sym, ap, _∙_}
-use mathlib.Core.Bool.{Bool, true, false, _||_, cond, or-assoc}
+use mathlib.Core.Bool.{Bool, true, false, _||_, cond, or-assoc, or-false}
 use mathlib.Core.List.{List, [], _∷_, _++_}
 use lib.ListN.{length, getD, drop, drop-of-length-le}
 use lib.Seq.{drop-cons}
@@ -27,22 +27,13 @@ pub member-end : (xs : List ℕ) (i x : ℕ) → length xs ≤ i → false ≡ m
 unfolding member
 member-end xs i x h = rw (drop-of-length-le xs h)
 
--- four elements at once
-pub member-four : (xs : List ℕ) (i x : ℕ) → i + 4 ≤ length xs
-    → member x (drop i xs)
-    ≡ ((eqb (getD xs i 0) x || eqb (getD xs (i + 1) 0) x || eqb (getD xs (i + 2) 0) x || eqb (getD xs (i + 3) 0) x) || member x (drop (i + 4) xs))
-member-four xs i x h =
-    rw (member-step xs i x (omega arith), later 1 (omega arith), later 2 (omega arith), later 3 (omega arith)) (simp or-assoc)
-  where
-    later : (k : ℕ) → i + k < length xs → member x (drop (i + k) xs) ≡ (eqb (getD xs (i + k) 0) x || member x (drop (i + (k + 1)) xs))
-    later k b = rw add-assoc at (member-step xs (i + k) x b)
+-- what was found before i, with what stands from i on, comes to the whole list
+module _ (xs : List ℕ) (i x : ℕ) (found : Bool) {all : Bool} (left : (found || member x (drop i xs)) ≡ all) where
+  pub scan-next : i < length xs → ((found || eqb (getD xs i 0) x) || member x (drop (i + 1) xs)) ≡ all
+  scan-next h = or-assoc found _ _ ∙ ap (λ (b : Bool). found || b) (sym (member-step xs i x h)) ∙ left
 
--- what is found among some of them decides, what is not leaves the others
-pub found-here : {all : Bool} (here others : Bool) → all ≡ (here || others) → here ≡ true → true ≡ all
-found-here here others p h = sym (p ∙ ap (λ (b : Bool). b || others) h)
-
-pub not-here : {all : Bool} (here others : Bool) → all ≡ (here || others) → here ≡ false → others ≡ all
-not-here here others p h = sym (p ∙ ap (λ (b : Bool). b || others) h)
+  pub scan-end : length xs ≤ i → found ≡ all
+  scan-end h = sym (or-false found) ∙ ap (λ (b : Bool). found || b) (member-end xs i x h) ∙ left
 
 -- the place of x on the whole list, counted from i on
 module _ (xs : List ℕ) (i x : ℕ) {place : ℕ} (left : i + indexOf x (drop i xs) ≡ place) where

@@ -1,5 +1,6 @@
-use Rattle.attributes.specs.TextLaws.{zero-end}
+use Rattle.attributes.specs.Eight.{zero-among, zero-past}
 use Rattle.attributes.specs.Text.{zeroFrom}
+use Rattle.attributes.specs.TextLaws.{zero-end}
 use borrow.Author.Needs.{needs}
 use native.Mathlib.Omega.{arith}
 use Prim.Native.Nat.{_-_}
@@ -26,14 +27,14 @@ zero-in-rest-requires c κs = search needs
 returns : tie.Need-returns Inv-loop μ-loop
 returns c = c .zero-in-rest .ensures ∙ c .before .before .before .loop .inv
 
-zero-of-four-requires : tie.Need-zero-of-four-requires Inv-loop μ-loop
-zero-of-four-requires c κs = search needs
+zero-in-eight-requires : tie.Need-zero-in-eight-requires Inv-loop μ-loop
+zero-in-eight-requires c κs = search needs
 
-add-result : tie.Need-add-result Inv-loop μ-loop
-add-result c = search needs
+first-of-eight-requires : tie.Need-first-of-eight-requires Inv-loop μ-loop
+first-of-eight-requires c κs = search needs
 
 returns-2 : tie.Need-returns-2 Inv-loop μ-loop
-returns-2 c = sym (c .before .zero-of-four .ensures .found (c .if2 .taken)) ∙ c .before .before .before .before .loop .inv
+returns-2 c = c .first-of-eight .ensures ∙ zero-among _ 8 _ (omega arith) (sym (c .before .before .zero-in-eight .ensures) ∙ c .before .if2 .taken) ∙ c .before .before .before .before .before .loop .inv
 
 add-i : tie.Need-add-i Inv-loop μ-loop
 add-i c = search needs
@@ -42,9 +43,7 @@ loop-less : tie.Need-loop-less Inv-loop μ-loop
 loop-less c = search needs
 
 loop-again : tie.Need-loop-again Inv-loop μ-loop
-loop-again c =
-    let four : c .before .zero-of-four .result ≡ 4 = omega (arith, c .before .zero-of-four .ensures .at-most) in
-    sym (c .before .zero-of-four .ensures .none four) ∙ c .before .before .before .before .loop .inv
+loop-again c = sym (zero-past _ 8 _ (omega arith) (sym (c .before .zero-in-eight .ensures) ∙ c .if2 .left)) ∙ c .before .before .before .before .loop .inv
 
 returns-3 : tie.Need-returns-3 Inv-loop μ-loop
 returns-3 c = sym (zero-end _ _ (c .loop-test .left)) ∙ c .before .loop .inv
@@ -59,8 +58,8 @@ zero-from-spec =
     sub-if1
     zero-in-rest-requires
     returns
-    zero-of-four-requires
-    add-result
+    zero-in-eight-requires
+    first-of-eight-requires
     returns-2
     add-i
     loop-less

@@ -1,35 +1,28 @@
-use Rattle.format.specs.LookupLaws.{found-here, not-here, member-end}
+use Rattle.format.specs.LookupLaws.{scan-next, scan-end}
 use Rattle.format.specs.Lookup.{member}
+use mathlib.Core.Bool.{_||_}
 use borrow.Author.Needs.{needs}
+use denote.Ref.{now}
 use Prim.Native.Nat.{_-_}
-use mathlib.Core.Path.{_≡_, refl, _∙_}
+use mathlib.Core.Path.{_≡_, refl}
 use lib.ListN.{length, drop}
 use Rattle.format.proofs.lookup.on_list.Statement.{statement}
 use Rattle.format.proofs.lookup.on_list.Tie as tie
 
 abbrev Inv-loop : tie.InvT-loop
-Inv-loop list x i₀ i = member x (drop i list) ≡ member x list
+Inv-loop list x found₀ i₀ found i = (found || member x (drop i list)) ≡ member x list
 
 abbrev μ-loop : tie.MeasureT-loop
-μ-loop list x i₀ i = length list - i
+μ-loop list x found₀ i₀ found i = length list - i
 
 loop-holds : tie.Need-loop-holds Inv-loop μ-loop
 loop-holds c = refl
 
-sub-if1 : tie.Need-sub-if1 Inv-loop μ-loop
-sub-if1 c = search needs
+mul-found : tie.Need-mul-found Inv-loop μ-loop
+mul-found c = search needs
 
-in-rest-requires : tie.Need-in-rest-requires Inv-loop μ-loop
-in-rest-requires c κs = search needs
-
-returns : tie.Need-returns Inv-loop μ-loop
-returns c = c .in-rest .ensures ∙ c .before .before .before .loop .inv
-
-in-four-requires : tie.Need-in-four-requires Inv-loop μ-loop
-in-four-requires c κs = search needs
-
-returns-2 : tie.Need-returns-2 Inv-loop μ-loop
-returns-2 c = found-here _ _ (c .before .in-four .ensures) (c .if2 .taken) ∙ c .before .before .before .before .loop .inv
+shared-slice-read-found : tie.Need-shared-slice-read-found Inv-loop μ-loop
+shared-slice-read-found c = search needs
 
 add-i : tie.Need-add-i Inv-loop μ-loop
 add-i c = search needs
@@ -38,10 +31,10 @@ loop-less : tie.Need-loop-less Inv-loop μ-loop
 loop-less c = search needs
 
 loop-again : tie.Need-loop-again Inv-loop μ-loop
-loop-again c = not-here _ _ (c .before .in-four .ensures) (c .if2 .left) ∙ c .before .before .before .before .loop .inv
+loop-again c = scan-next (now (c .before .before .before .args .list)) (c .before .before .loop .i) (c .before .before .before .args .x) (c .before .before .loop .found) (c .before .before .loop .inv) (c .before .loop-test .taken)
 
-returns-3 : tie.Need-returns-3 Inv-loop μ-loop
-returns-3 c = member-end _ _ _ (c .loop-test .left) ∙ c .before .loop .inv
+returns : tie.Need-returns Inv-loop μ-loop
+returns c = scan-end (now (c .before .before .args .list)) (c .before .loop .i) (c .before .before .args .x) (c .before .loop .found) (c .before .loop .inv) (c .loop-test .left)
 
 pub on-list-spec : {M : Type 1} → statement M
 on-list-spec =
@@ -50,12 +43,9 @@ on-list-spec =
     Inv-loop
     μ-loop
     loop-holds
-    sub-if1
-    in-rest-requires
-    returns
-    in-four-requires
-    returns-2
+    mul-found
+    shared-slice-read-found
     add-i
     loop-less
     loop-again
-    returns-3)
+    returns)
