@@ -7,10 +7,11 @@ use lib.ListN.{length, length-append}
 use Rattle.numbers.specs.Value.{valueOf}
 use Rattle.numbers.specs.declared.Endian.{Endian}
 use Rattle.format.specs.TagKind as tag
-use Rattle.entries.specs.Standard.{bytesOf, Die, null, padding, entry, writtenAttributes, writtenDie, writtenDies, dieRows, dieAttrs}
+use Rattle.numbers.specs.Written.{bytesOf}
+use Rattle.entries.specs.Standard.{Die, null, padding, entry, writtenAttributes, writtenDie, writtenDies, dieRows, dieAttrs}
 use Rattle.entries.specs.Exact.{Exact, at-end, one-more}
-use Rattle.entries.specs.Stands.{Stands, front-stands, back-stands, all-stands}
-use Rattle.entries.specs.NumberLaws.{bytes-length, number-read}
+use Rattle.numbers.specs.Stands.{Stands, front-stands, back-stands, all-stands}
+use Rattle.numbers.specs.WrittenLaws.{bytes-length, number-read}
 use Rattle.entries.specs.Tagged.{Tagged, tagged, tagged-length}
 use Rattle.entries.specs.StandardEntry.{die-long, die-read}
 

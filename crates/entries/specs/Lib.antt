@@ -20,8 +20,6 @@ pub mod Only
 -- on the way.
 pub mod Standard
 pub mod Exact
-pub mod Stands
-pub mod NumberLaws
 pub mod Tagged
 pub mod StandardValue
 pub mod StandardRun

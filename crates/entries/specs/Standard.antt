@@ -5,6 +5,7 @@ use mathlib.Core.Path.{_≡_}
 use mathlib.Core.Bool.{true, false}
 use mathlib.Core.List.{List, [], _∷_, _++_}
 use lib.ListN.{length, getD}
+use Rattle.numbers.specs.Written.{bytesOf, Bytes}
 use Rattle.numbers.specs.declared.Endian.{Endian}
 use Rattle.numbers.specs.declared.Endian.the-variants.{Big, Little}
 use Rattle.format.specs.Lookup.{member}
@@ -17,13 +18,6 @@ use Rattle.format.specs.declared.form_kind.FormKind.the-variants.{Addr, Ref, Bl
 use Rattle.tables.specs.declared.row.Row.{Row}
 use Rattle.tables.specs.declared.row.Attr.{Attr}
 use Rattle.entries.specs.Entry.{row}
-
--- w bytes that make up n: the least byte last in Big, first in Little
-unfoldable pub bytesOf : Endian → ℕ → ℕ → List ℕ
-bytesOf Big zero n = []
-bytesOf Big (suc w) n = bytesOf Big w (n / 256) ++ (n % 256 ∷ [])
-bytesOf Little zero n = []
-bytesOf Little (suc w) n = n % 256 ∷ bytesOf Little w (n / 256)
 
 -- a value: a number (an address, a reference, data), or bytes (a block, a text)
 pub data Value : Type 0 where
@@ -38,10 +32,7 @@ block e w xs = bytesOf e w (length xs) ++ xs
 unfoldable pub text : List ℕ → List ℕ
 text xs = xs ++ (0 ∷ [])
 
--- every byte is below 256; every byte of a text is not zero besides
-pub record Bytes (xs : List ℕ) : Type 0 where
-  pub small : (i : ℕ) → getD xs i 0 < 256
-
+-- every byte of a text is not zero
 pub record Text (xs : List ℕ) : Type 0 where
   pub small : Bytes xs
   pub no-zero : (i : ℕ) → i < length xs → getD xs i 0 ≡ 0 → ⊥

@@ -18,9 +18,10 @@ use Rattle.format.specs.declared.refusal.Reason.the-variants as reason
 use Rattle.entries.specs.Head.{nullEnd, tagHead, sizeHead, headAt}
 use Rattle.entries.specs.Run.{ran}
 use Rattle.entries.specs.Entry.{next, kindOf, ordinary, attributes, entryFrom, entryAt}
-use Rattle.entries.specs.Standard.{bytesOf, writtenAttributes, Die, null, padding, entry, writtenDie, attrsFrom, dieAttrs, dieRows}
-use Rattle.entries.specs.Stands.{Stands, front-stands}
-use Rattle.entries.specs.NumberLaws.{bytes-length, number-answers}
+use Rattle.numbers.specs.Written.{bytesOf}
+use Rattle.entries.specs.Standard.{writtenAttributes, Die, null, padding, entry, writtenDie, attrsFrom, dieAttrs, dieRows}
+use Rattle.numbers.specs.Stands.{Stands, front-stands}
+use Rattle.numbers.specs.WrittenLaws.{bytes-length, number-answers}
 use Rattle.entries.specs.Tagged.{Tagged, tagged, tagged-length}
 use Rattle.entries.specs.StandardRun.{attributes-long, run-read}
 use Rattle.entries.specs.declared.head.Head.the-variants.{Null, Skipped, Ordinary, Refused}

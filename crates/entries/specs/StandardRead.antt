@@ -11,7 +11,7 @@ use Rattle.numbers.specs.declared.Endian.{Endian}
 use Rattle.format.specs.declared.refusal.Reason.the-variants as reason
 use Rattle.entries.specs.Walk.{Walk, walked, refused, join, andThen, onward, walkFrom, walkAt}
 use Rattle.entries.specs.Standard.{Die, writtenDie, writtenDies, dieAttrs, attrsOf, rowsOf}
-use Rattle.entries.specs.Stands.{Stands, front-stands, back-stands, all-stands}
+use Rattle.numbers.specs.Stands.{Stands, front-stands, back-stands, all-stands}
 use Rattle.entries.specs.StandardEntry.{die-long, die-read}
 
 module _ (vendors : List ℕ) (global : ℕ) (e : Endian) where

@@ -8,9 +8,10 @@ use lib.ListN.{length, length-append}
 use borrow.Author.Tests.{lt-ltb, le-ltb}
 use Rattle.numbers.specs.declared.Endian.{Endian}
 use Rattle.entries.specs.Run.{ran, first, readOn, runEnds, runFrom}
-use Rattle.entries.specs.Standard.{bytesOf, Attribute, writtenAttribute, writtenAttributes, attrsFrom}
-use Rattle.entries.specs.Stands.{Stands, front-stands, back-stands}
-use Rattle.entries.specs.NumberLaws.{bytes-length}
+use Rattle.numbers.specs.Written.{bytesOf}
+use Rattle.entries.specs.Standard.{Attribute, writtenAttribute, writtenAttributes, attrsFrom}
+use Rattle.numbers.specs.Stands.{Stands, front-stands, back-stands}
+use Rattle.numbers.specs.WrittenLaws.{bytes-length}
 use Rattle.entries.specs.StandardValue.{attribute-read}
 
 module _ (vendors : List ℕ) (e : Endian) where

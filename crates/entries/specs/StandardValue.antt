@@ -14,9 +14,10 @@ use Rattle.attributes.specs.End.{fixedEnd, blockEnd, textEnd, valueEnd}
 use Rattle.attributes.specs.Read.{ending, numbered, readAttribute}
 use Rattle.attributes.specs.declared.value.End.the-variants.{At, Short}
 use Rattle.attributes.specs.declared.read.Attribute.the-variants as attribute
-use Rattle.entries.specs.Standard.{bytesOf, block, text, Value, Text, Written, Attribute, writtenAttribute, address, reference, block2, block4, data2, data4, data8, string}
-use Rattle.entries.specs.Stands.{Stands, front-stands, back-stands, stands-byte}
-use Rattle.entries.specs.NumberLaws.{bytes-length, inside-there, number-answers}
+use Rattle.numbers.specs.Written.{bytesOf}
+use Rattle.entries.specs.Standard.{block, text, Value, Text, Written, Attribute, writtenAttribute, address, reference, block2, block4, data2, data4, data8, string}
+use Rattle.numbers.specs.Stands.{Stands, front-stands, back-stands, stands-byte}
+use Rattle.numbers.specs.WrittenLaws.{bytes-length, inside-there, number-answers}
 
 -- w bytes
 fixed-read : (s : List ℕ) (at w : ℕ) → at + w ≤ length s → fixedEnd s at w ≡ At (at + w)

@@ -11,9 +11,10 @@ use Rattle.numbers.specs.declared.Endian.{Endian}
 use Rattle.tables.specs.declared.row.Row.{Row}
 use Rattle.tables.specs.declared.row.Attr.{Attr}
 use Rattle.entries.specs.Walk.{walked, walkAt}
-use Rattle.entries.specs.Standard.{Bytes, Die, writtenDie, writtenDies, rowsOf, attrsOf}
+use Rattle.numbers.specs.Written.{Bytes}
+use Rattle.entries.specs.Standard.{Die, writtenDie, writtenDies, rowsOf, attrsOf}
 use Rattle.entries.specs.Exact.{Exact, at-end, one-more}
-use Rattle.entries.specs.Stands.{Stands, none-stands, both-stand, stands-all}
+use Rattle.numbers.specs.Stands.{Stands, none-stands, both-stand, stands-all}
 use Rattle.entries.specs.WrittenEntry.{DieFound, EntryFound, entry-written}
 use Rattle.entries.specs.StandardRead.{standard-read}
 

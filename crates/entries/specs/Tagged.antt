@@ -5,9 +5,9 @@ use mathlib.Core.Path.{_≡_}
 use mathlib.Core.List.{List, _++_}
 use lib.ListN.{length, length-append}
 use Rattle.numbers.specs.declared.Endian.{Endian}
-use Rattle.entries.specs.Standard.{bytesOf}
-use Rattle.entries.specs.Stands.{Stands, front-stands, back-stands, both-stand}
-use Rattle.entries.specs.NumberLaws.{bytes-length}
+use Rattle.numbers.specs.Written.{bytesOf}
+use Rattle.numbers.specs.Stands.{Stands, front-stands, back-stands, both-stand}
+use Rattle.numbers.specs.WrittenLaws.{bytes-length}
 
 pub record Tagged (e : Endian) (s : List ℕ) (at size kind : ℕ) (body : List ℕ) : Type 0 where
   pub size-stands : Stands s at (bytesOf e 4 size)

@@ -18,9 +18,10 @@ use Rattle.format.specs.declared.refusal.Reason.the-variants as reason
 use Rattle.entries.specs.Head.{nullEnd, tagHead, sizeHead, headAt}
 use Rattle.entries.specs.Run.{Run, ran, failed}
 use Rattle.entries.specs.Entry.{Entry, next, inside, stop, ordinary, attributes, entryFrom, entryAt}
-use Rattle.entries.specs.Standard.{bytesOf, Bytes, Attribute, writtenAttributes, Die, null, padding, entry, writtenDie}
-use Rattle.entries.specs.Stands.{Stands, both-stand, part-length, part-stands}
-use Rattle.entries.specs.NumberLaws.{bytes-length, number-small, number-written}
+use Rattle.numbers.specs.Written.{bytesOf, Bytes}
+use Rattle.entries.specs.Standard.{Attribute, writtenAttributes, Die, null, padding, entry, writtenDie}
+use Rattle.numbers.specs.Stands.{Stands, both-stand, part-length, part-stands}
+use Rattle.numbers.specs.WrittenLaws.{bytes-length, number-small, number-written}
 use Rattle.entries.specs.Tagged.{Tagged, tagged-length, tagged-stands}
 use Rattle.entries.specs.WrittenValue.{part-small}
 use Rattle.entries.specs.WrittenRun.{AllFound, run-found}

@@ -12,8 +12,9 @@ use Rattle.attributes.specs.Read.{readAttribute}
 use Rattle.attributes.specs.declared.read.Attribute as attribute
 use Rattle.tables.specs.declared.row.Attr.{Attr}
 use Rattle.entries.specs.Run.{Run, ran, failed, first, attr, readOn, runEnds, runFrom}
-use Rattle.entries.specs.Standard.{Bytes, Attribute, writtenAttribute, writtenAttributes}
-use Rattle.entries.specs.Stands.{Stands, none-stands, both-stand}
+use Rattle.numbers.specs.Written.{Bytes}
+use Rattle.entries.specs.Standard.{Attribute, writtenAttribute, writtenAttributes}
+use Rattle.numbers.specs.Stands.{Stands, none-stands, both-stand}
 use Rattle.entries.specs.WrittenValue.{AttributeFound, Found, attribute-found}
 
 -- attributes that stand at a place and end there

@@ -24,9 +24,10 @@ use Rattle.attributes.specs.Read.{ending, numbered, readAttribute}
 use Rattle.attributes.specs.declared.value.End.{End}
 use Rattle.attributes.specs.declared.value.End.the-variants.{At, Short}
 use Rattle.attributes.specs.declared.read.Attribute as attribute
-use Rattle.entries.specs.Standard.{bytesOf, block, text, Value, number, bytes, Bytes, Written, Attribute, writtenAttribute, address, reference, block2, block4, data2, data4, data8, string}
-use Rattle.entries.specs.Stands.{Stands, both-stand, byte-stands, part-length, part-stands}
-use Rattle.entries.specs.NumberLaws.{bytes-length, number-small, number-written}
+use Rattle.numbers.specs.Written.{bytesOf, Bytes}
+use Rattle.entries.specs.Standard.{block, text, Value, number, bytes, Written, Attribute, writtenAttribute, address, reference, block2, block4, data2, data4, data8, string}
+use Rattle.numbers.specs.Stands.{Stands, both-stand, byte-stands, part-length, part-stands}
+use Rattle.numbers.specs.WrittenLaws.{bytes-length, number-small, number-written}
 use Rattle.entries.specs.IndexLaws.{index-at, index-before}
 
 -- the bytes of a part are bytes

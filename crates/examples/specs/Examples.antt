@@ -14,6 +14,7 @@ use Rattle.format.specs.Known.{known}
 use Rattle.format.specs.FormKind.{forms, formOf}
 use Rattle.format.specs.FundType.{fundTypes, fundTypeOf, parseInt}
 use Rattle.format.specs.Modifier.{modifiers, modifierOf}
+use Rattle.format.specs.SubscriptFormat.{subscriptFormats, subscriptFormatOf}
 use Rattle.format.specs.Refusal.{numberOf}
 use Rattle.format.specs.declared.fund_type.FundType.{FundType}
 use Rattle.format.specs.declared.fund_type.FundType.the-variants as fund
@@ -25,7 +26,17 @@ use Rattle.format.specs.declared.settings.Producer.the-variants.{Other}
 use Rattle.attributes.specs.Text.{zeroFrom}
 use Rattle.attributes.specs.End.{fixedEnd, blockEnd, textEnd, valueEnd}
 use Rattle.attributes.specs.Read.{ending, numbered, readAttribute}
-use Rattle.attributes.specs.Parts.{textAt}
+use Rattle.attributes.specs.Parts.{partAt, blockAt, textAt}
+use Rattle.blocks.specs.Modifiers.{isKnown, isPointer, allKnown, anyPointer, modifiersOf}
+use Rattle.blocks.specs.Types.{withModifiers, modified, knownType, fundamental, fundType, lastOf, modFundType, typeAt}
+use Rattle.blocks.specs.Subscript.{lowBound, knownIndex, indexAt, indexed, oneMore, highBound, constBound, elementOf, elementAs, elementAt, subscriptAs, subscriptOf}
+use Rattle.blocks.specs.Subscripts.{dimensionWords, elementOr, before, step, subscriptsFrom, wholeBlock, countSubscripts}
+use Rattle.blocks.specs.declared.types.Type.{«Type»}
+use Rattle.blocks.specs.declared.types.TypeKind.the-variants.{Fundamental}
+use Rattle.blocks.specs.declared.types.Typed.{Typed}
+use Rattle.blocks.specs.declared.types.Typed.the-variants as typed
+use Rattle.blocks.specs.declared.subscripts.Counted.{Counted}
+use Rattle.blocks.specs.declared.subscripts.Counted.the-variants as counted
 use Rattle.tables.specs.declared.row.Row.{Row}
 use Rattle.tables.specs.declared.row.Attr.{Attr}
 use Rattle.entries.specs.Head.{nullEnd, tagHead, sizeHead, headAt}
@@ -35,20 +46,25 @@ use Rattle.entries.specs.Walk.{Walk, walked, refused, join, andThen, onward, wa
 use Rattle.entries.specs.Section.{wholeWalk}
 
 -- what an example asks: to read a section, with the erased flag on or off; what a text at a place is, and a number of two bytes in little-endian; what a
--- fundamental type's number and a modifier's byte say
+-- fundamental type's number and a modifier's byte say; what a type attribute of a number with these bytes of value says, and a block of subscripts
 pub data Question : Type 0 where
   section : Bool → List ℕ → Question
   text : List ℕ → ℕ → Question
   little-number : List ℕ → ℕ → Question
   type-number : ℕ → Question
   modifier-byte : ℕ → Question
+  type-attribute : ℕ → List ℕ → Question
+  subscripts : List ℕ → Question
 
--- what it says: rows and attributes, bytes, a number, a modifier; or a refusal's number, for a section with its place
+-- what it says: rows and attributes, bytes, a number, a modifier, a type, an array's element type and the words of its dimensions; or a refusal's number, for a
+-- section with its place
 pub data Answer : Type 0 where
   rows : List Row → List Attr → Answer
   bytes : List ℕ → Answer
   number-is : ℕ → Answer
   modifier-is : Modifier → Answer
+  type-is : «Type» → Answer
+  array-is : «Type» → List ℕ → Answer
   refused-at : ℕ → ℕ → Answer
   refused-as : ℕ → Answer
 
@@ -66,26 +82,36 @@ walk : Walk → Answer
 walk (walked rs xs place) = rows rs xs
 walk (refused why place) = refused-at (numberOf why) place
 
-typed : FundType → Answer
-typed (fund.Known n) = number-is n
-typed fund.Unknown = refused-as (numberOf reason.Number)
+numbered-type : FundType → Answer
+numbered-type (fund.Known n) = number-is n
+numbered-type fund.Unknown = refused-as (numberOf reason.Number)
 
-modified : Modifier → Answer
-modified modifier.MwPointerTo = modifier-is modifier.MwPointerTo
-modified modifier.PointerTo = modifier-is modifier.PointerTo
-modified modifier.ReferenceTo = modifier-is modifier.ReferenceTo
-modified modifier.Const = modifier-is modifier.Const
-modified modifier.Volatile = modifier-is modifier.Volatile
-modified modifier.Unknown = refused-as (numberOf reason.Number)
+one-modifier : Modifier → Answer
+one-modifier modifier.MwPointerTo = modifier-is modifier.MwPointerTo
+one-modifier modifier.PointerTo = modifier-is modifier.PointerTo
+one-modifier modifier.ReferenceTo = modifier-is modifier.ReferenceTo
+one-modifier modifier.Const = modifier-is modifier.Const
+one-modifier modifier.Volatile = modifier-is modifier.Volatile
+one-modifier modifier.Unknown = refused-as (numberOf reason.Number)
+
+of-type : Typed → Answer
+of-type (typed.Is t) = type-is t
+of-type (typed.Refused why) = refused-as (numberOf (why .reason))
+
+array : List ℕ → Counted → Answer
+array words (counted.Are t n) = array-is t words
+array words (counted.Refused why) = refused-as (numberOf (why .reason))
 
 -- what the definitions answer, with no vendor numbers
 unfoldable pub answer : Question → Answer
-unfolding settings walk typed modified
+unfolding settings walk numbered-type one-modifier of-type array
 answer (section erased s) = walk (wholeWalk (settings erased) [] s)
 answer (text s at) = bytes (textAt s at)
 answer (little-number s at) = number-is (valueOf Little 2 s at)
-answer (type-number n) = typed (parseInt n)
-answer (modifier-byte n) = modified (modifierOf n)
+answer (type-number n) = numbered-type (parseInt n)
+answer (modifier-byte n) = one-modifier (modifierOf n)
+answer (type-attribute n value) = of-type (typeAt (record { section = Big; «data» = Big }) value n 0)
+answer (subscripts block) = array (wholeBlock Big block .words) (countSubscripts Big block)
 
 pub record Example : Type 0 where
   pub asked : Question
@@ -107,8 +133,22 @@ erased-entry = 0x00 ∷ 0x00 ∷ 0x00 ∷ 0x0e ∷ 0x00 ∷ 0x00 ∷ 0x38 ∷ 0x
 erased-row : Row
 erased-row = record { key = 0; kind = tag.LocalVariable; flags = 7; first = 0; count = 2 }
 
+-- a fundamental type without modifiers, its value at a place
+plain : ℕ → ℕ → «Type»
+plain n place = record { kind = Fundamental n; place = place; count = 0; pointer = false }
+
+-- a pointer to an Integer (7): one modifier, behind the block's length
+pointer : «Type»
+pointer = record { kind = Fundamental 7; place = 2; count = 1; pointer = true }
+
+-- an array of Integer, indexed by Integer: format 0 with this low bound and the last byte of a high bound 0xFFFFFF.., then format 8
+array-of : ℕ → ℕ → List ℕ
+array-of low high =
+    0x00 ∷ 0x00 ∷ 0x07 ∷ 0x00 ∷ 0x00 ∷ 0x00 ∷ low ∷ 0xff ∷ 0xff ∷ 0xff ∷ high ∷
+    0x08 ∷ 0x00 ∷ 0x55 ∷ 0x00 ∷ 0x07 ∷ []
+
 unfoldable pub examples : List Example
-unfolding null erased-entry erased-row
+unfolding null erased-entry erased-row plain pointer array-of
 examples =
     section false [] says rows [] [] ∷
     section false (0x00 ∷ 0x00 ∷ 0x00 ∷ []) says refused-at 4 0 ∷
@@ -126,8 +166,16 @@ examples =
     type-number 0x8108 says number-is 0x8108 ∷
     type-number 0x0113 says refused-as 18 ∷
     modifier-byte 0x81 says modifier-is modifier.PointerTo ∷
-    modifier-byte 0x85 says refused-as 18 ∷ []
+    modifier-byte 0x85 says refused-as 18 ∷
+    type-attribute number.FundType (0x01 ∷ 0x08 ∷ []) says type-is (plain 0x0008 0) ∷
+    type-attribute number.FundType (0x81 ∷ 0x08 ∷ []) says type-is (plain 0x8108 0) ∷
+    type-attribute number.FundType (0x01 ∷ 0x13 ∷ []) says refused-as 18 ∷
+    type-attribute number.ModFundType (0x00 ∷ 0x03 ∷ 0x81 ∷ 0x00 ∷ 0x07 ∷ []) says type-is pointer ∷
+    type-attribute number.ModFundType (0x00 ∷ 0x03 ∷ 0x85 ∷ 0x00 ∷ 0x07 ∷ []) says refused-as 18 ∷
+    subscripts (array-of 0 0xff) says array-is (plain 7 3) (7 ∷ 0 ∷ []) ∷
+    subscripts (array-of 0 0xfe) says array-is (plain 7 3) (7 ∷ 4294967295 ∷ []) ∷
+    subscripts (array-of 1 0xff) says refused-as 19 ∷ []
 
 pub examples-hold : map (λ e. answer (e .asked)) examples ≡ map (λ e. e .said) examples
-unfolding answer examples numberOf parseInt fundTypeOf fundTypes modifierOf modifiers valueOf there readAt member indexOf lookup tags used alsoKnown attributeKinds known forms formOf zeroFrom fixedEnd blockEnd textEnd valueEnd ending numbered readAttribute textAt nullEnd tagHead sizeHead headAt first plays runEnds readOn runFrom flip littleFlag flagOf flagsOf kindOf ordinary rooted attributes rootEndian rootIn entryFrom entryAt join andThen onward walkFrom walkAt wholeWalk
+unfolding answer examples numberOf parseInt fundTypeOf fundTypes modifierOf modifiers valueOf there readAt member indexOf lookup tags used alsoKnown attributeKinds known forms formOf zeroFrom fixedEnd blockEnd textEnd valueEnd ending numbered readAttribute textAt nullEnd tagHead sizeHead headAt first plays runEnds readOn runFrom flip littleFlag flagOf flagsOf kindOf ordinary rooted attributes rootEndian rootIn entryFrom entryAt join andThen onward walkFrom walkAt wholeWalk subscriptFormats subscriptFormatOf partAt blockAt isKnown isPointer allKnown anyPointer modifiersOf withModifiers modified knownType fundamental fundType lastOf modFundType typeAt lowBound knownIndex indexAt indexed oneMore highBound constBound elementOf elementAs elementAt subscriptAs subscriptOf dimensionWords elementOr before step subscriptsFrom wholeBlock countSubscripts
 examples-hold = refl

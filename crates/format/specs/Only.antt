@@ -8,12 +8,12 @@ use Rattle.format.specs.Lookup.{member, indexOf}
 use Rattle.format.specs.TagKind.{tags}
 use Rattle.format.specs.AttributeKind.{attributeKinds}
 use Rattle.format.specs.Known.{known}
-use Rattle.format.specs.FormKind.{formOf}
+use Rattle.format.specs.FormKind.{formOf, isForm}
 use Rattle.format.specs.FundType.{fundTypes, fundTypeOf, parseInt}
 use Rattle.format.specs.Modifier.{modifierOf}
 use Rattle.format.specs.LocationOp.{locationOpOf}
 use Rattle.format.specs.SubscriptFormat.{subscriptFormatOf}
-use Rattle.format.specs.Refusal.{numberOf}
+use Rattle.format.specs.Refusal.{numberOf, reasonOf}
 use Rattle.format.specs.Settings.{settingsHold}
 use Rattle.format.specs.declared.form_kind.FormKind.{FormKind}
 use Rattle.format.specs.declared.fund_type.FundType.{FundType}
@@ -66,6 +66,14 @@ only-location-op n = only
 -- `subscript_format::subscript_format`
 pub only-subscript-format : (n : ℕ) {r r′ : SubscriptFormat} → r ≡ subscriptFormatOf n → r′ ≡ subscriptFormatOf n → r ≡ r′
 only-subscript-format n = only
+
+-- `form_kind::is_form`
+pub only-is-form : (form : FormKind) (n : ℕ) {r r′ : Bool} → r ≡ isForm form n → r′ ≡ isForm form n → r ≡ r′
+only-is-form form n = only
+
+-- `refusal::reason_of`
+pub only-reason-of : (n : ℕ) {r r′ : Reason} → r ≡ reasonOf n → r′ ≡ reasonOf n → r ≡ r′
+only-reason-of n = only
 
 -- `refusal::number_of`
 pub only-number-of : (reason : Reason) {r r′ : ℕ} → r ≡ numberOf reason → r′ ≡ numberOf reason → r ≡ r′

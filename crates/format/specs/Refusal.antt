@@ -1,5 +1,8 @@
 -- The refusal numbers of document 01.
 use Prim.Native.Nat.{ℕ}
+use mathlib.Core.Path.{_≡_, refl}
+use mathlib.Core.List.{List, [], _∷_}
+use Rattle.format.specs.Lookup.{Line, _means_, lookup}
 use Rattle.format.specs.declared.refusal.Reason.{Reason}
 use Rattle.format.specs.declared.refusal.Reason.the-variants.{Settings, Long, Table, Short, Tag, Attribute, Nested, Room, Link, Depth, Entry, Kind, Extra, Form, Missing, Child, Block, Number, Bound, Big}
 
@@ -24,3 +27,55 @@ numberOf Block = 17
 numberOf Number = 18
 numberOf Bound = 19
 numberOf Big = 20
+
+-- the same the other way round
+unfoldable pub reasons : List (Line Reason)
+reasons =
+    2 means Long ∷
+    3 means Table ∷
+    4 means Short ∷
+    5 means Tag ∷
+    6 means Attribute ∷
+    7 means Nested ∷
+    8 means Room ∷
+    9 means Link ∷
+    10 means Depth ∷
+    11 means Entry ∷
+    12 means Kind ∷
+    13 means Extra ∷
+    14 means Form ∷
+    15 means Missing ∷
+    16 means Child ∷
+    17 means Block ∷
+    18 means Number ∷
+    19 means Bound ∷
+    20 means Big ∷ []
+
+-- the reason of a number; of one that is none, the first
+unfoldable pub reasonOf : ℕ → Reason
+unfolding reasons
+reasonOf number = lookup reasons Settings number
+
+-- a reason is that of its number
+pub reason-of-number : (why : Reason) → reasonOf (numberOf why) ≡ why
+unfolding reasonOf numberOf reasons lookup
+reason-of-number Settings = refl
+reason-of-number Long = refl
+reason-of-number Table = refl
+reason-of-number Short = refl
+reason-of-number Tag = refl
+reason-of-number Attribute = refl
+reason-of-number Nested = refl
+reason-of-number Room = refl
+reason-of-number Link = refl
+reason-of-number Depth = refl
+reason-of-number Entry = refl
+reason-of-number Kind = refl
+reason-of-number Extra = refl
+reason-of-number Form = refl
+reason-of-number Missing = refl
+reason-of-number Child = refl
+reason-of-number Block = refl
+reason-of-number Number = refl
+reason-of-number Bound = refl
+reason-of-number Big = refl

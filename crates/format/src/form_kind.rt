@@ -1,6 +1,6 @@
 // The eight forms of a value, named as in the Rust's `FormKind`: the low four bits of an attribute's number.
 ghost use mathlib.Core.Path.{_≡_};
-ghost use Rattle.format.specs.FormKind.{formOf};
+ghost use Rattle.format.specs.FormKind.{formOf, formNumber, isForm};
 
 pub enum FormKind {
     Addr,
@@ -29,4 +29,28 @@ pub fn form_of(attribute: u16) -> FormKind
         8 => FormKind::String,
         _ => FormKind::Undefined,
     }
+}
+
+// The low four bits of a form.
+fn form_number(form: FormKind) -> u32
+    ensures { λ r. ⌜ r ≡ formNumber form ⌝ }
+{
+    match form {
+        FormKind::Undefined => 0,
+        FormKind::Addr => 1,
+        FormKind::Ref => 2,
+        FormKind::Block2 => 3,
+        FormKind::Block4 => 4,
+        FormKind::Data2 => 5,
+        FormKind::Data4 => 6,
+        FormKind::Data8 => 7,
+        FormKind::String => 8,
+    }
+}
+
+// Do attributes of this number have this form?
+pub fn is_form(form: FormKind, number: u16) -> bool
+    ensures { λ r. ⌜ r ≡ isForm form number ⌝ }
+{
+    form_number(form) == form_number(form_of(number))
 }

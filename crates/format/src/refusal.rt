@@ -1,6 +1,6 @@
 // The twenty refusals of document 01 and their numbers.
 ghost use mathlib.Core.Path.{_≡_};
-ghost use Rattle.format.specs.Refusal.{numberOf};
+ghost use Rattle.format.specs.Refusal.{numberOf, reasonOf};
 
 pub enum Reason {
     Settings,
@@ -55,5 +55,33 @@ pub fn number_of(reason: Reason) -> u32
         Reason::Number => 18,
         Reason::Bound => 19,
         Reason::Big => 20,
+    }
+}
+
+// The reason of a number; of one that is none, the first.
+pub fn reason_of(number: u32) -> Reason
+    ensures { λ r. ⌜ r ≡ reasonOf number ⌝ }
+{
+    match number {
+        2 => Reason::Long,
+        3 => Reason::Table,
+        4 => Reason::Short,
+        5 => Reason::Tag,
+        6 => Reason::Attribute,
+        7 => Reason::Nested,
+        8 => Reason::Room,
+        9 => Reason::Link,
+        10 => Reason::Depth,
+        11 => Reason::Entry,
+        12 => Reason::Kind,
+        13 => Reason::Extra,
+        14 => Reason::Form,
+        15 => Reason::Missing,
+        16 => Reason::Child,
+        17 => Reason::Block,
+        18 => Reason::Number,
+        19 => Reason::Bound,
+        20 => Reason::Big,
+        _ => Reason::Settings,
     }
 }

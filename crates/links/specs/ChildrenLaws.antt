@@ -65,28 +65,28 @@ module _ (rows : List ℕ) {c k r : ℕ} {room room′ : List ℕ} where
   taken t endless = refl
 
 module _ (n : ℕ) (next : ℕ → ℕ) (end c : ℕ) where
-  at-end : c ≡ end → stops n next end c ≡ true
+  pub at-end : c ≡ end → stops n next end c ≡ true
   unfolding stops
   at-end h = rw (eq-eqb c end h)
 
-  past-last : n ≤ c → stops n next end c ≡ true
+  pub past-last : n ≤ c → stops n next end c ≡ true
   unfolding stops
   past-last h = rw (le-leb n c h) (or-true (eqb c end))
 
-  goes : (c ≡ end → ⊥) → c < n → stops n next end c ≡ false
+  pub goes : (c ≡ end → ⊥) → c < n → stops n next end c ≡ false
   unfolding stops
   goes h l = rw (ne-eqb c end h, lt-leb n c l)
 
-  stopped : stops n next end c ≡ true → (f : ℕ) → walkFrom n next end f c ≡ ends []
+  pub stopped : stops n next end c ≡ true → (f : ℕ) → walkFrom n next end f c ≡ ends []
   unfolding walkFrom
   stopped h zero = rw h
   stopped h (suc f) = rw h
 
-  unended : stops n next end c ≡ false → walkFrom n next end zero c ≡ endless
+  pub unended : stops n next end c ≡ false → walkFrom n next end zero c ≡ endless
   unfolding walkFrom
   unended h = rw h
 
-  met : stops n next end c ≡ false → (f : ℕ) → walkFrom n next end (suc f) c ≡ meets c (walkFrom n next end f (next c))
+  pub met : stops n next end c ≡ false → (f : ℕ) → walkFrom n next end (suc f) c ≡ meets c (walkFrom n next end f (next c))
   unfolding walkFrom
   met h f = rw h
 
@@ -101,7 +101,7 @@ pub record Walking (rows : List ℕ) (n : ℕ) (next : ℕ → ℕ) (end from : 
 pub walking-begins : (rows : List ℕ) (n : ℕ) (next : ℕ → ℕ) (end from : ℕ) (room : List ℕ) → Walking rows n next end from room room from 0 0
 walking-begins rows n next end from room = record { in-time = omega arith; counted = omega arith; same-room = refl; left = rw sub-zero }
 
-abbrev isEndless : Kids → Type 0
+abbrev pub isEndless : Kids → Type 0
 isEndless (Count k) = ⊥
 isEndless Endless = Unit
 
@@ -189,7 +189,7 @@ module _ (e : Endian) (s rows attrs : List ℕ) (n i : ℕ) where
       subst (λ (x : ℕ). Gathers (filled rows 0 room (walkFrom n (λ c. siblingRow e s rows attrs n c) x n (nextRow rows n i))) r room′) p
       (subst (λ (x : ℕ). Gathers (filled rows 0 room (walkFrom n (λ c. siblingRow e s rows attrs n c) end n x)) r room′) q g)
 
-abbrev isCount : ℕ → Kids → Type 0
+abbrev pub isCount : ℕ → Kids → Type 0
 isCount k (Count m) = k ≡ m
 isCount k Endless = ⊥
 

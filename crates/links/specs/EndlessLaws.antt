@@ -99,7 +99,7 @@ or-false-right true b p = absurd (true≢false p)
 or-false-right false b p = p
 
 module _ (n : ℕ) (next : ℕ → ℕ) (end : ℕ) where
-  on-below : (c : ℕ) → stops n next end c ≡ false → c < n
+  pub on-below : (c : ℕ) → stops n next end c ≡ false → c < n
   unfolding stops
   on-below c p = leb-false n c (or-false-right (eqb c end) (leb n c) p)
 

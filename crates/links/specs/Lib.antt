@@ -1,9 +1,10 @@
 -- Links between rows. What must be believed: `Attribute` (lookups), `Walk` (a walk over rows), `Links` (next row, sibling, the child walk), `Children`,
--- `Neighbour` and `Typed` (the public calls).
+-- `Neighbour` and `Typed` (the public calls), `Kids` (children one at a time).
 pub mod Attribute
 pub mod Walk
 pub mod Links
 pub mod Children
+pub mod Kids
 pub mod Neighbour
 pub mod Typed
 -- Laws.
@@ -11,6 +12,7 @@ pub mod AttributeLaws
 pub mod LinkLaws
 pub mod ChildrenWays
 pub mod ChildrenLaws
+pub mod KidsLaws
 pub mod TypedLaws
 -- The walk is refused exactly when it would never end.
 pub mod EndlessLaws

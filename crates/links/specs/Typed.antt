@@ -3,13 +3,12 @@ use Prim.Native.Nat.{ℕ}
 use mathlib.Core.Path.{_≡_}
 use mathlib.Core.Bool.{Bool, cond}
 use mathlib.Core.List.{List, [], _∷_}
-use lib.Dec.{eqb}
 use Rattle.numbers.specs.declared.Endian.{Endian}
 use Rattle.numbers.specs.declared.unsigned.Read16.{Read16}
 use Rattle.numbers.specs.declared.unsigned.Read16.the-variants as read16
 use Rattle.numbers.specs.declared.unsigned.Read32.{Read32}
 use Rattle.numbers.specs.declared.unsigned.Read32.the-variants as read32
-use Rattle.format.specs.FormKind.{formOf}
+use Rattle.format.specs.FormKind.{isForm}
 use Rattle.format.specs.Refusal.{numberOf}
 use Rattle.format.specs.declared.form_kind.FormKind.{FormKind}
 use Rattle.format.specs.declared.form_kind.FormKind.the-variants.{Addr, Ref, Block2, Block4, Data2, Data4, Data8, String, Undefined}
@@ -65,22 +64,6 @@ attributeBy settings vendors sizes s rows attrs counts key w =
     inRow settings vendors sizes s rows attrs counts key looked.Refused (lookedIn rows attrs w)
 
 -- ---- where a value of a form stands
-
--- each form has its number: the low four bits
-unfoldable pub formNumber : FormKind → ℕ
-formNumber Undefined = 0
-formNumber Addr = 1
-formNumber Ref = 2
-formNumber Block2 = 3
-formNumber Block4 = 4
-formNumber Data2 = 5
-formNumber Data4 = 6
-formNumber Data8 = 7
-formNumber String = 8
-
--- attributes of this number have this form
-unfoldable pub isForm : FormKind → ℕ → Bool
-isForm form number = eqb (formNumber form) (formNumber (formOf number))
 
 -- the section's endianness and row i's own
 unfoldable pub endsOf : Endian → List ℕ → ℕ → Endians

@@ -4,11 +4,11 @@ use mathlib.Core.Path.{_≡_, refl, sym, ap, _∙_, subst}
 use mathlib.Core.Bool.{Bool, true, false}
 use mathlib.Core.List.{List, [], _∷_}
 use lib.ListN.{length}
-use lib.Dec.{ltb, eqb}
+use lib.Dec.{ltb}
 use Rattle.numbers.specs.declared.Endian.{Endian}
 use Rattle.format.specs.Limits.{sectionLimit}
 use Rattle.format.specs.Settings.{settingsHold}
-use Rattle.format.specs.FormKind.{formOf}
+use Rattle.format.specs.FormKind.{isForm}
 use Rattle.format.specs.Refusal.{numberOf}
 use Rattle.format.specs.declared.form_kind.FormKind.{FormKind}
 use Rattle.format.specs.declared.form_kind.FormKind.the-variants.{Block2, Block4}
@@ -20,7 +20,9 @@ use Rattle.tables.specs.Row.{rowAt, attrAt, endianOf}
 use Rattle.tables.specs.declared.row.Row.{Row}
 use Rattle.tables.specs.declared.row.Attr.{Attr}
 use Rattle.tables.specs.Find.{rowOfKey}
-use Rattle.tables.specs.Test.{tableHolds}
+use Rattle.tables.specs.FindLaws.{row-found}
+use Rattle.tables.specs.Test.{tableHolds, Checked}
+use Rattle.tables.specs.CheckedLaws.{checked-rising, checked-rows-few}
 use Rattle.tables.specs.Check.{refusedAt, afterTests, tested, Tells}
 use Rattle.tables.specs.CheckLaws.{passed-answer, refused-answer}
 use Rattle.tables.specs.declared.row.Counts.{Counts}
@@ -29,7 +31,8 @@ use Rattle.tables.specs.declared.check.Check.the-variants as check
 use Rattle.tables.specs.declared.find.Found.{Found}
 use Rattle.tables.specs.declared.find.Found.the-variants.{At, Nothing}
 use Rattle.links.specs.Attribute.{attributeOf}
-use Rattle.links.specs.Typed.{rowBy, inRow, asLooked, lookedIn, attributeBy, formNumber, isForm, blockForm, endsOf, asPlaced, spotAt, spotIn, placeOf, wordAt, wordOf, partAs, partOf, toldWords, Handed}
+use Rattle.links.specs.ChildrenWays.{Asked}
+use Rattle.links.specs.Typed.{rowBy, inRow, asLooked, lookedIn, attributeBy, blockForm, endsOf, asPlaced, spotAt, spotIn, placeOf, wordAt, wordOf, partAs, partOf, toldWords, Handed}
 use Rattle.links.specs.declared.lookup.Wanted.{Wanted}
 use Rattle.links.specs.declared.lookup.Wanted.the-variants as wanted
 use Rattle.links.specs.declared.typed.Keyed.{Keyed}
@@ -93,11 +96,11 @@ module _ (settings : Settings) (vendors sizes s rows attrs : List ℕ) (counts :
       subst (Goes refused there _) (sym is)
       (goes refused there key (settingsHold settings vendors sizes) (ltb (length s) sectionLimit) (tableHolds s vendors rows attrs counts) (rowOfKey rows (counts .rows) key))
 
-  in-row : {A : Type 0} (refused : Refusal → A) (there : ℕ → A) {i : ℕ} → told ≡ keyed.Row i
+  pub in-row : {A : Type 0} (refused : Refusal → A) (there : ℕ → A) {i : ℕ} → told ≡ keyed.Row i
       → there i ≡ inRow settings vendors sizes s rows attrs counts key refused there
   in-row refused there p = subst (Goes refused there _) p (told-goes refused there)
 
-  no-row : {A : Type 0} (refused : Refusal → A) (there : ℕ → A) {why : Refusal} → told ≡ keyed.Refused why
+  pub no-row : {A : Type 0} (refused : Refusal → A) (there : ℕ → A) {why : Refusal} → told ≡ keyed.Refused why
       → refused why ≡ inRow settings vendors sizes s rows attrs counts key refused there
   no-row refused there p = subst (Goes refused there _) p (told-goes refused there)
 
@@ -119,6 +122,46 @@ module _ (settings : Settings) (vendors sizes s rows attrs : List ℕ) (counts :
   unfolding placeOf
   place-refused number form p = no-row placed.Refused (spotIn (settings .endian) rows attrs number form) p
 
+-- ---- what is known of a row that was found
+
+-- the table holds, and the row was found in it
+abbrev Known : Bool → Found → Keyed → Type 0
+Known b f (keyed.Row i) = (b ≡ true) × (f ≡ At i)
+Known b f (keyed.Refused why) = Unit
+
+by-known : (key : ℕ) (f : Found) → Known true f (rowBy key keyed.Refused keyed.Row f)
+unfolding rowBy
+by-known key (At i) = (refl, refl)
+by-known key Nothing = tt
+
+known : (key : ℕ) (a b c : Bool) (f : Found) → Known c f (afterTests a b c keyed.Refused (rowBy key keyed.Refused keyed.Row f))
+unfolding afterTests
+known key true true true f = by-known key f
+known key true true false f = tt
+known key true false c f = tt
+known key false b c f = tt
+
+module _ (settings : Settings) (vendors sizes s rows attrs : List ℕ) (counts : Counts) (key : ℕ) {told : Keyed}
+    (is : told ≡ inRow settings vendors sizes s rows attrs counts key keyed.Refused keyed.Row) {i : ℕ} (p : told ≡ keyed.Row i) where
+  told-known : Known (tableHolds s vendors rows attrs counts) (rowOfKey rows (counts .rows) key) (keyed.Row i)
+  unfolding inRow tested
+  told-known =
+      subst (Known _ _) (sym is ∙ p)
+      (known key (settingsHold settings vendors sizes) (ltb (length s) sectionLimit) (tableHolds s vendors rows attrs counts) (rowOfKey rows (counts .rows) key))
+
+  pub keyed-checked : Checked s vendors rows attrs counts
+  keyed-checked = record { holds = told-known .0 }
+
+  pub keyed-asked : Asked rows (counts .rows) i
+  keyed-asked =
+      record {
+        table = record { rising = checked-rising keyed-checked; few = checked-rows-few keyed-checked };
+        there = row-found rows (counts .rows) key (told-known .1) .0;
+      }
+
+  pub keyed-key : rowAt rows i .key ≡ key
+  keyed-key = row-found rows (counts .rows) key (told-known .1) .1
+
 -- ---- in a row
 
 module _ (rows attrs : List ℕ) (w : Wanted) (i : ℕ) {found : Found} (is : found ≡ attributeOf rows attrs i w) where
@@ -129,10 +172,6 @@ module _ (rows attrs : List ℕ) (w : Wanted) (i : ℕ) {found : Found} (is : fo
   pub looked-none : found ≡ Nothing → looked.Nothing ≡ lookedIn rows attrs w i
   unfolding lookedIn asLooked
   looked-none p = ap (asLooked attrs) (sym p ∙ is)
-
-pub is-form : (form : FormKind) (number : ℕ) {a b : ℕ} {f : FormKind} → a ≡ formNumber form → f ≡ formOf number → b ≡ formNumber f → eqb a b ≡ isForm form number
-unfolding isForm
-is-form form number {b = b} p q h = ap (λ (x : ℕ). eqb x b) p ∙ ap (λ (x : ℕ). eqb (formNumber form) x) (h ∙ ap formNumber q)
 
 pub ends-of : (e : Endian) (rows : List ℕ) (i : ℕ) {row : Row} {own : Endian} → row ≡ rowAt rows i → own ≡ endianOf (row .flags)
     → record { section = e; «data» = own } ≡ endsOf e rows i

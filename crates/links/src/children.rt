@@ -98,7 +98,7 @@ fn gather(
 }
 
 // The same into no room: it counts.
-fn count_children(s: &[u8], e: Endian, rows: &[u32], attrs: &[u32], n: usize, i: usize) -> Kids
+pub fn count_children(s: &[u8], e: Endian, rows: &[u32], attrs: &[u32], n: usize, i: usize) -> Kids
     requires { ⌜ Asked (now rows) n i ⌝ }
     ensures { λ r. ⌜ r ≡ filled (now (rows .entry)) 0 [] (childWalk e (now (s .entry)) (now (rows .entry)) (now (attrs .entry)) n i) .answer ⌝ }
 {

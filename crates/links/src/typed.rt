@@ -10,7 +10,7 @@ use attributes::decode::data4;
 use attributes::decode::reference;
 use attributes::decode::string;
 use format::form_kind::FormKind;
-use format::form_kind::form_of;
+use format::form_kind::is_form;
 use format::refusal::Reason;
 use format::refusal::Refusal;
 use format::refusal::number_of;
@@ -30,7 +30,7 @@ use tables::row::row_at;
 ghost use mathlib.Core.Path.{_≡_};
 ghost use Rattle.tables.specs.Check.{refusedAt};
 ghost use Rattle.tables.specs.Find.{rowOfKey, Rising};
-ghost use Rattle.links.specs.Typed.{rowBy, inRow, lookedIn, attributeBy, formNumber, isForm, blockForm, endsOf, spotAt, spotIn, placeOf, asValue, asWidened, wordAt, valueBy, partAs, partOf, toldWords, Handed};
+ghost use Rattle.links.specs.Typed.{rowBy, inRow, lookedIn, attributeBy, blockForm, endsOf, spotAt, spotIn, placeOf, asValue, asWidened, wordAt, valueBy, partAs, partOf, toldWords, Handed};
 
 // The attribute that was looked for; or the row has none.
 pub enum Looked {
@@ -65,7 +65,7 @@ pub enum Placed {
 }
 
 // The row of a key, in a table that was tested.
-fn find_key(rows: &[u32], n: usize, key: u32) -> Keyed
+pub fn find_key(rows: &[u32], n: usize, key: u32) -> Keyed
     requires { ⌜ Rising (now rows) n ⌝ }
     ensures { λ r. ⌜ r ≡ rowBy key Keyed.Refused Keyed.Row (rowOfKey (now (rows .entry)) n key) ⌝ }
 {
@@ -79,7 +79,7 @@ fn find_key(rows: &[u32], n: usize, key: u32) -> Keyed
 }
 
 // The same after the tests 1, 2, 3.
-fn row_of(
+pub fn row_of(
     s: &[u8],
     settings: Settings,
     vendors: &[u16],
@@ -179,30 +179,8 @@ pub fn type_attribute(
     )
 }
 
-fn form_number(form: FormKind) -> u32
-    ensures { λ r. ⌜ r ≡ formNumber form ⌝ }
-{
-    match form {
-        FormKind::Undefined => 0,
-        FormKind::Addr => 1,
-        FormKind::Ref => 2,
-        FormKind::Block2 => 3,
-        FormKind::Block4 => 4,
-        FormKind::Data2 => 5,
-        FormKind::Data4 => 6,
-        FormKind::Data8 => 7,
-        FormKind::String => 8,
-    }
-}
-
-// Do attributes of this number have this form?
-fn is_form(form: FormKind, number: u16) -> bool
-    ensures { λ r. ⌜ r ≡ isForm form number ⌝ }
-{
-    form_number(form) == form_number(form_of(number))
-}
-
-fn ends_of(e: Endian, rows: &[u32], i: usize) -> Endians
+// The section's endianness and the row's own.
+pub fn ends_of(e: Endian, rows: &[u32], i: usize) -> Endians
     ensures { λ r. ⌜ r ≡ endsOf e (now (rows .entry)) i ⌝ }
 {
     let row = row_at(rows, i);
@@ -282,7 +260,7 @@ fn as_widened(read: Read16) -> Value
 }
 
 // What the number at a spot is, by its form.
-fn word_at(s: &[u8], spot: Spot, form: FormKind) -> Value
+pub fn word_at(s: &[u8], spot: Spot, form: FormKind) -> Value
     ensures { λ r. ⌜ r ≡ wordAt form (now (s .entry)) spot ⌝ }
 {
     let ends = spot.ends;

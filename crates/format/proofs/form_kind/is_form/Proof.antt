@@ -1,7 +1,7 @@
-use Rattle.links.specs.TypedLaws.{is-form}
+use Rattle.format.specs.FormLaws.{is-form}
 use borrow.Author.Needs.{needs}
-use Rattle.links.proofs.typed.is_form.Statement.{statement}
-use Rattle.links.proofs.typed.is_form.Tie as tie
+use Rattle.format.proofs.form_kind.is_form.Statement.{statement}
+use Rattle.format.proofs.form_kind.is_form.Tie as tie
 
 form-number-requires : tie.Need-form-number-requires
 form-number-requires c κs = search needs

@@ -1,8 +1,8 @@
-use Rattle.links.specs.Typed.{formNumber}
+use Rattle.format.specs.FormKind.{formNumber}
 use borrow.Author.Needs.{needs}
 use mathlib.Core.Path.{sym, ap}
-use Rattle.links.proofs.typed.form_number.Statement.{statement}
-use Rattle.links.proofs.typed.form_number.Tie as tie
+use Rattle.format.proofs.form_kind.form_number.Statement.{statement}
+use Rattle.format.proofs.form_kind.form_number.Tie as tie
 
 enum-told : tie.Need-enum-told
 enum-told c = search needs

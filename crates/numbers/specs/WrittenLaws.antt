@@ -7,12 +7,12 @@ use mathlib.Core.Bool.{true}
 use mathlib.Core.List.{List, [], _∷_}
 use lib.ListN.{length, getD, length-append}
 use borrow.Author.Tests.{le-leb}
 use Rattle.numbers.specs.Value.{valueOf, there, readAt}
 use Rattle.numbers.specs.ValueLaws.{reads}
 use Rattle.numbers.specs.declared.Endian.{Endian}
 use Rattle.numbers.specs.declared.Endian.the-variants.{Big, Little}
-use Rattle.entries.specs.Standard.{bytesOf, Bytes}
-use Rattle.entries.specs.Stands.{Stands, front-stands, back-stands, both-stand, byte-stands, stands-byte, none-stands}
+use Rattle.numbers.specs.Written.{bytesOf, Bytes}
+use Rattle.numbers.specs.Stands.{Stands, front-stands, back-stands, both-stand, byte-stands, stands-byte, none-stands}
 
 pub bytes-length : (e : Endian) (w n : ℕ) → length (bytesOf e w n) ≡ w
 unfolding bytesOf

@@ -1,0 +1,14 @@
+use Rattle.blocks.specs.LocationLaws.{register-made}
+use borrow.Author.Needs.{needs}
+use Prim.Native.Nat.{_-_}
+use Rattle.blocks.proofs.location.is_register.Statement.{statement}
+use Rattle.blocks.proofs.location.is_register.Tie as tie
+
+byte-at-requires : tie.Need-byte-at-requires
+byte-at-requires c κs = search needs
+
+returns : tie.Need-returns
+returns c = register-made _ (c .byte-at .ensures)
+
+pub is-register-spec : {M : Type 1} → statement M
+is-register-spec = tie.close (tie.spec byte-at-requires returns)

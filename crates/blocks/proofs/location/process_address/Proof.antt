@@ -1,0 +1,25 @@
+use Rattle.blocks.specs.LocationLaws.{address-taken, address-refused}
+use borrow.Author.Needs.{needs}
+use Prim.Native.Nat.{_-_}
+use Rattle.blocks.proofs.location.process_address.Statement.{statement}
+use Rattle.blocks.proofs.location.process_address.Tie as tie
+
+is-address-requires : tie.Need-is-address-requires
+is-address-requires c κs = search needs
+
+operand-at-requires : tie.Need-operand-at-requires
+operand-at-requires c κs = search needs
+
+refused-block-requires : tie.Need-refused-block-requires
+refused-block-requires c κs = search needs
+
+returns : tie.Need-returns
+returns c = address-taken _ _ (c .before .before .is-address .ensures) (c .before .if1 .taken) (c .operand-at .ensures)
+
+returns-2 : tie.Need-returns-2
+returns-2 c = address-refused _ _ (c .before .before .is-address .ensures) (c .before .if1 .left) (c .refused-block .ensures)
+
+pub process-address-spec : {M : Type 1} → statement M
+process-address-spec =
+    tie.close
+    (tie.spec is-address-requires operand-at-requires refused-block-requires returns returns-2)

@@ -1,0 +1,67 @@
+use Rattle.blocks.specs.declared.modifiers.Modifiers.the-variants.{Refused}
+use borrow.Author.Tests.{not-true, not-false}
+use Rattle.blocks.specs.ModifiersLaws.{modifiersFrom, begin, unknown, again, done}
+use Rattle.blocks.specs.Modifiers.{modifiersOf}
+use borrow.Author.Needs.{needs}
+use Prim.Native.Nat.{_-_}
+use mathlib.Core.Path.{_≡_, ap, _∙_}
+use lib.ListN.{length, drop}
+use Rattle.blocks.proofs.modifiers.process_modifiers.Statement.{statement}
+use Rattle.blocks.proofs.modifiers.process_modifiers.Tie as tie
+
+abbrev Inv-loop : tie.InvT-loop
+Inv-loop block pointer₀ i₀ pointer i = modifiersFrom pointer (drop i block) ≡ modifiersOf block
+
+abbrev μ-loop : tie.MeasureT-loop
+μ-loop block pointer₀ i₀ pointer i = length block - i
+
+loop-holds : tie.Need-loop-holds Inv-loop μ-loop
+loop-holds c = begin _
+
+shared-slice-read-parse-int : tie.Need-shared-slice-read-parse-int Inv-loop μ-loop
+shared-slice-read-parse-int c = search needs
+
+parse-int-requires : tie.Need-parse-int-requires Inv-loop μ-loop
+parse-int-requires c κs = search needs
+
+is-known-requires : tie.Need-is-known-requires Inv-loop μ-loop
+is-known-requires c κs = search needs
+
+refused-block-requires : tie.Need-refused-block-requires Inv-loop μ-loop
+refused-block-requires c κs = search needs
+
+returns : tie.Need-returns Inv-loop μ-loop
+returns c = ap Refused (c .refused-block .ensures) ∙ unknown _ _ (c .before .before .before .before .before .loop-test .taken) _ (c .before .before .before .parse-int .ensures) (c .before .before .is-known .ensures) (not-true _ (c .before .if1 .taken)) ∙ c .before .before .before .before .before .before .loop .inv
+
+is-pointer-requires : tie.Need-is-pointer-requires Inv-loop μ-loop
+is-pointer-requires c κs = search needs
+
+add-i : tie.Need-add-i Inv-loop μ-loop
+add-i c = search needs
+
+loop-less : tie.Need-loop-less Inv-loop μ-loop
+loop-less c = search needs
+
+loop-again : tie.Need-loop-again Inv-loop μ-loop
+loop-again c = again _ _ (c .before .before .before .before .before .loop-test .taken) _ (c .before .before .before .parse-int .ensures) (c .before .before .is-known .ensures) (not-false _ (c .before .if1 .left)) (c .is-pointer .ensures) ∙ c .before .before .before .before .before .before .loop .inv
+
+returns-2 : tie.Need-returns-2 Inv-loop μ-loop
+returns-2 c = done _ _ _ (c .loop-test .left) ∙ c .before .loop .inv
+
+pub process-modifiers-spec : {M : Type 1} → statement M
+process-modifiers-spec =
+    tie.close
+    (tie.spec
+    Inv-loop
+    μ-loop
+    loop-holds
+    shared-slice-read-parse-int
+    parse-int-requires
+    is-known-requires
+    refused-block-requires
+    returns
+    is-pointer-requires
+    add-i
+    loop-less
+    loop-again
+    returns-2)

@@ -1,0 +1,36 @@
+use Rattle.blocks.specs.SubscriptLaws.{indexed-is, indexed-refused}
+use Rattle.blocks.specs.Subscript.{constBound}
+use borrow.Author.Needs.{needs}
+use Rattle.blocks.proofs.subscript.const_bound.Statement.{statement}
+use Rattle.blocks.proofs.subscript.const_bound.Tie as tie
+
+index-at-requires : tie.Need-index-at-requires
+index-at-requires c κs = search needs
+
+enum-known-index : tie.Need-enum-known-index
+enum-known-index c = search needs
+
+high-bound-requires : tie.Need-high-bound-requires
+high-bound-requires c κs = search needs
+
+enum-known-why : tie.Need-enum-known-why
+enum-known-why c = search needs
+
+returns : tie.Need-returns
+unfolding constBound
+returns c = indexed-is _ (c .before .before .before .before .index-at .ensures) (c .before .before .index .given .1) (c .high-bound .ensures)
+
+returns-2 : tie.Need-returns-2
+unfolding constBound
+returns-2 c = indexed-refused _ (c .before .before .before .index-at .ensures) (c .before .why .given .1)
+
+pub const-bound-spec : {M : Type 1} → statement M
+const-bound-spec =
+    tie.close
+    (tie.spec
+    index-at-requires
+    enum-known-index
+    high-bound-requires
+    enum-known-why
+    returns
+    returns-2)

@@ -1,0 +1,43 @@
+use Rattle.blocks.specs.declared.subscript.Subscript.the-variants.{Refused}
+use Rattle.numbers.specs.ValueLaws.{reads-short}
+use Rattle.numbers.specs.ReadLaws.{says32, short32}
+use Rattle.blocks.specs.SubscriptLaws.{high-read}
+use Rattle.blocks.specs.Subscript.{highBound}
+use borrow.Author.Needs.{needs}
+use mathlib.Core.Path.{sym, ap, _∙_}
+use Rattle.blocks.proofs.subscript.high_bound.Statement.{statement}
+use Rattle.blocks.proofs.subscript.high_bound.Tie as tie
+
+u32-at-requires : tie.Need-u32-at-requires
+u32-at-requires c κs = search needs
+
+enum-known-high : tie.Need-enum-known-high
+enum-known-high c = search needs
+
+wrapping-add-u32-requires : tie.Need-wrapping-add-u32-requires
+wrapping-add-u32-requires c κs = search needs
+
+enum-told : tie.Need-enum-told
+enum-told c = search needs
+
+refused-block-requires : tie.Need-refused-block-requires
+refused-block-requires c κs = search needs
+
+returns : tie.Need-returns
+returns c = high-read _ _ _ (says32 _ _ _ _ (sym (c .before .before .before .before .u32-at .ensures) ∙ c .before .before .high .given .1)) (search needs) (c .wrapping-add-u32 .ensures)
+
+returns-2 : tie.Need-returns-2
+unfolding highBound
+returns-2 c = ap Refused (c .refused-block .ensures) ∙ reads-short _ _ _ _ _ _ (short32 _ _ _ _ (sym (c .before .before .before .u32-at .ensures) ∙ c .before .enum-told .given .1))
+
+pub high-bound-spec : {M : Type 1} → statement M
+high-bound-spec =
+    tie.close
+    (tie.spec
+    u32-at-requires
+    enum-known-high
+    wrapping-add-u32-requires
+    enum-told
+    refused-block-requires
+    returns
+    returns-2)

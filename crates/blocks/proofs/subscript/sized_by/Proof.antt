@@ -1,0 +1,34 @@
+use Rattle.blocks.specs.SubscriptLaws.{sized-there, sized-missing}
+use borrow.Author.Needs.{needs}
+use mathlib.Core.Path.{sym, _∙_}
+use Rattle.blocks.proofs.subscript.sized_by.Statement.{statement}
+use Rattle.blocks.proofs.subscript.sized_by.Tie as tie
+
+bytes-there-requires : tie.Need-bytes-there-requires
+bytes-there-requires c κs = search needs
+
+part-requires : tie.Need-part-requires
+part-requires c κs = search needs
+
+sized-dimension-requires : tie.Need-sized-dimension-requires
+sized-dimension-requires c κs = search needs
+
+refused-block-requires : tie.Need-refused-block-requires
+refused-block-requires c κs = search needs
+
+returns : tie.Need-returns
+returns c = sized-there _ _ _ _ (sym (c .before .before .before .bytes-there .ensures) ∙ c .before .before .if1 .taken) (c .before .part .ensures) (c .sized-dimension .ensures)
+
+returns-2 : tie.Need-returns-2
+returns-2 c = sized-missing _ _ _ _ (sym (c .before .before .bytes-there .ensures) ∙ c .before .if1 .left) (c .refused-block .ensures)
+
+pub sized-by-spec : {M : Type 1} → statement M
+sized-by-spec =
+    tie.close
+    (tie.spec
+    bytes-there-requires
+    part-requires
+    sized-dimension-requires
+    refused-block-requires
+    returns
+    returns-2)

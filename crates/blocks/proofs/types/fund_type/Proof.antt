@@ -1,0 +1,47 @@
+use Rattle.blocks.specs.declared.types.Typed.the-variants.{Refused}
+use Rattle.numbers.specs.ValueLaws.{reads-short}
+use Rattle.numbers.specs.ReadLaws.{says16, short16, goes-on}
+use Rattle.blocks.specs.Types.{fundType}
+use borrow.Author.Needs.{needs}
+use mathlib.Core.Path.{sym, ap, _∙_}
+use Rattle.blocks.proofs.types.fund_type.Statement.{statement}
+use Rattle.blocks.proofs.types.fund_type.Tie as tie
+
+data2-requires : tie.Need-data2-requires
+data2-requires c κs = search needs
+
+enum-known-number : tie.Need-enum-known-number
+enum-known-number c = search needs
+
+slice-aggregate-fundamental : tie.Need-slice-aggregate-fundamental
+slice-aggregate-fundamental c = search needs
+
+fundamental-requires : tie.Need-fundamental-requires
+fundamental-requires c κs = search needs
+
+enum-told : tie.Need-enum-told
+enum-told c = search needs
+
+refused-block-requires : tie.Need-refused-block-requires
+refused-block-requires c κs = search needs
+
+returns : tie.Need-returns
+unfolding fundType
+returns c = c .fundamental .ensures ∙ goes-on _ _ (says16 _ _ _ _ (sym (c .before .before .before .before .before .data2 .ensures) ∙ c .before .before .before .number .given .1))
+
+returns-2 : tie.Need-returns-2
+unfolding fundType
+returns-2 c = ap Refused (c .refused-block .ensures) ∙ reads-short _ _ _ _ _ _ (short16 _ _ _ _ (sym (c .before .before .before .data2 .ensures) ∙ c .before .enum-told .given .1))
+
+pub fund-type-spec : {M : Type 1} → statement M
+fund-type-spec =
+    tie.close
+    (tie.spec
+    data2-requires
+    enum-known-number
+    slice-aggregate-fundamental
+    fundamental-requires
+    enum-told
+    refused-block-requires
+    returns
+    returns-2)

@@ -1,0 +1,61 @@
+use lib.Seq.{length-take-le}
+use Rattle.numbers.specs.ReadLaws.{says16, short16}
+use Rattle.blocks.specs.TypesLaws.{last-there, last-missing, last-short}
+use Rattle.blocks.specs.Types.{modFundType}
+use borrow.Author.Needs.{needs}
+use native.Mathlib.Omega.{arith}
+use mathlib.Core.Path.{sym, _∙_}
+use Rattle.blocks.proofs.types.mod_fund_type.Statement.{statement}
+use Rattle.blocks.proofs.types.mod_fund_type.Tie as tie
+
+refused-block-requires : tie.Need-refused-block-requires
+refused-block-requires c κs = search needs
+
+returns : tie.Need-returns
+unfolding modFundType
+returns c = last-missing _ _ _ _ (c .before .if1 .taken) (c .refused-block .ensures)
+
+sub-count : tie.Need-sub-count
+sub-count c = search needs
+
+u16-at-requires : tie.Need-u16-at-requires
+u16-at-requires c κs = search needs
+
+enum-known-number : tie.Need-enum-known-number
+enum-known-number c = search needs
+
+slice-aggregate-fundamental : tie.Need-slice-aggregate-fundamental
+slice-aggregate-fundamental c = sym (length-take-le _ _ (omega arith))
+
+fundamental-requires : tie.Need-fundamental-requires
+fundamental-requires c κs = search needs
+
+enum-told : tie.Need-enum-told
+enum-told c = search needs
+
+refused-block-requires-2 : tie.Need-refused-block-requires-2
+refused-block-requires-2 c κs = search needs
+
+returns-2 : tie.Need-returns-2
+unfolding modFundType
+returns-2 c = c .fundamental .ensures ∙ last-there _ _ _ _ (c .before .before .before .before .before .before .if1 .left) (says16 _ _ _ _ (sym (c .before .before .before .before .before .u16-at .ensures) ∙ c .before .before .before .number .given .1))
+
+returns-3 : tie.Need-returns-3
+unfolding modFundType
+returns-3 c = last-short _ _ _ _ (short16 _ _ _ _ (sym (c .before .before .before .u16-at .ensures) ∙ c .before .enum-told .given .1)) (c .refused-block2 .ensures)
+
+pub mod-fund-type-spec : {M : Type 1} → statement M
+mod-fund-type-spec =
+    tie.close
+    (tie.spec
+    refused-block-requires
+    returns
+    sub-count
+    u16-at-requires
+    enum-known-number
+    slice-aggregate-fundamental
+    fundamental-requires
+    enum-told
+    refused-block-requires-2
+    returns-2
+    returns-3)

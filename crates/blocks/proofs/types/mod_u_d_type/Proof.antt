@@ -1,0 +1,61 @@
+use lib.Seq.{length-take-le}
+use Rattle.numbers.specs.ReadLaws.{says32, short32}
+use Rattle.blocks.specs.TypesLaws.{last-there, last-missing, last-short}
+use Rattle.blocks.specs.Types.{modUDType}
+use borrow.Author.Needs.{needs}
+use native.Mathlib.Omega.{arith}
+use mathlib.Core.Path.{sym, _∙_}
+use Rattle.blocks.proofs.types.mod_u_d_type.Statement.{statement}
+use Rattle.blocks.proofs.types.mod_u_d_type.Tie as tie
+
+refused-block-requires : tie.Need-refused-block-requires
+refused-block-requires c κs = search needs
+
+returns : tie.Need-returns
+unfolding modUDType
+returns c = last-missing _ _ _ _ (c .before .if1 .taken) (c .refused-block .ensures)
+
+sub-count : tie.Need-sub-count
+sub-count c = search needs
+
+u32-at-requires : tie.Need-u32-at-requires
+u32-at-requires c κs = search needs
+
+enum-known-key : tie.Need-enum-known-key
+enum-known-key c = search needs
+
+slice-aggregate-modified : tie.Need-slice-aggregate-modified
+slice-aggregate-modified c = sym (length-take-le _ _ (omega arith))
+
+modified-requires : tie.Need-modified-requires
+modified-requires c κs = search needs
+
+enum-told : tie.Need-enum-told
+enum-told c = search needs
+
+refused-block-requires-2 : tie.Need-refused-block-requires-2
+refused-block-requires-2 c κs = search needs
+
+returns-2 : tie.Need-returns-2
+unfolding modUDType
+returns-2 c = c .modified .ensures ∙ last-there _ _ _ _ (c .before .before .before .before .before .before .if1 .left) (says32 _ _ _ _ (sym (c .before .before .before .before .before .u32-at .ensures) ∙ c .before .before .before .key .given .1))
+
+returns-3 : tie.Need-returns-3
+unfolding modUDType
+returns-3 c = last-short _ _ _ _ (short32 _ _ _ _ (sym (c .before .before .before .u32-at .ensures) ∙ c .before .enum-told .given .1)) (c .refused-block2 .ensures)
+
+pub mod-u-d-type-spec : {M : Type 1} → statement M
+mod-u-d-type-spec =
+    tie.close
+    (tie.spec
+    refused-block-requires
+    returns
+    sub-count
+    u32-at-requires
+    enum-known-key
+    slice-aggregate-modified
+    modified-requires
+    enum-told
+    refused-block-requires-2
+    returns-2
+    returns-3)

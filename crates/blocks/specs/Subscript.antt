@@ -1,0 +1,121 @@
+-- One subscript (document 01, 'Types, records, sizes'): formats 0, 1 and 8, judged field by field. Byte 0 is the format.
+use Prim.Native.Nat.{ℕ, suc, _+_}
+use mathlib.Core.Bool.{Bool, true, false, cond}
+use mathlib.Core.List.{List, []}
+use lib.ListN.{length, getD}
+use lib.Dec.{eqb}
+use Rattle.numbers.specs.Value.{there, readAt}
+use Rattle.numbers.specs.declared.Endian.{Endian}
+use Rattle.format.specs.FundType.{fundTypeOf}
+use Rattle.format.specs.SubscriptFormat.{subscriptFormatOf}
+use Rattle.format.specs.declared.fund_type.FundType.{FundType}
+use Rattle.format.specs.declared.fund_type.FundType.the-variants as fund
+use Rattle.format.specs.declared.subscript_format.SubscriptFormat.{SubscriptFormat}
+use Rattle.format.specs.declared.subscript_format.SubscriptFormat.the-variants.{FundTypeConstConst, FundTypeConstLocation, FundTypeLocationConst, FundTypeLocationLocation, UserTypeConstConst, UserTypeConstLocation, UserTypeLocationConst, UserTypeLocationLocation, ElementType, Unknown}
+use Rattle.format.specs.declared.refusal.Refusal.{Refusal}
+use Rattle.format.specs.declared.refusal.Reason.the-variants as reason
+use Rattle.attributes.specs.Parts.{partAt}
+use Rattle.attributes.specs.Read.{readAttribute}
+use Rattle.attributes.specs.declared.decode.Endians.{Endians}
+use Rattle.attributes.specs.declared.read.Attribute.{Attribute}
+use Rattle.attributes.specs.declared.read.Attribute.the-variants as attribute
+use Rattle.blocks.specs.Location.{refusedBlock, offsetOf}
+use Rattle.blocks.specs.Types.{typeAt}
+use Rattle.blocks.specs.declared.location.Located.{Located}
+use Rattle.blocks.specs.declared.location.Located.the-variants as located
+use Rattle.blocks.specs.declared.types.Typed.{Typed}
+use Rattle.blocks.specs.declared.types.Typed.the-variants as typed
+use Rattle.blocks.specs.declared.subscript.Index.{Index}
+use Rattle.blocks.specs.declared.subscript.Index.the-variants as index
+use Rattle.blocks.specs.declared.subscript.Subscript.{Subscript}
+use Rattle.blocks.specs.declared.subscript.Subscript.the-variants.{Dimension, Element, Refused}
+
+-- ---- index type and low bound, of formats 0 and 1
+
+-- the low bound, 4 bytes at 3, must be 0
+unfoldable pub lowBound : Endian → List ℕ → ℕ → Index
+lowBound e block t =
+    readAt (λ low. cond (eqb low 0) (index.Is t) (index.Refused (refusedBlock reason.Bound))) (index.Refused (refusedBlock reason.Block)) e 4 block 3
+
+unfoldable pub knownIndex : Endian → List ℕ → FundType → Index
+knownIndex e block (fund.Known t) = lowBound e block t
+knownIndex e block fund.Unknown = index.Refused (refusedBlock reason.Number)
+
+-- the index type, 2 bytes at 1, does not pass through `parse_int`
+unfoldable pub indexAt : Endian → List ℕ → Index
+indexAt e block = readAt (λ n. knownIndex e block (fundTypeOf n)) (index.Refused (refusedBlock reason.Block)) e 2 block 1
+
+-- what follows an index type and a low bound of 0
+unfoldable pub indexed : (ℕ → Subscript) → Index → Subscript
+indexed then (index.Is t) = then t
+indexed then (index.Refused why) = Refused why
+
+-- ---- format 0: a constant high bound
+
+-- one more, wrapping: 0xFFFFFFFF comes to 0, which is unbounded
+unfoldable pub oneMore : ℕ → ℕ
+oneMore high = cond (eqb high 0xFFFFFFFF) 0 (high + 1)
+
+-- the high bound, 4 bytes at 7
+unfoldable pub highBound : Endian → List ℕ → ℕ → Subscript
+highBound e block t = readAt (λ high. Dimension t (oneMore high) 11) (Refused (refusedBlock reason.Block)) e 4 block 7
+
+unfoldable pub constBound : Endian → List ℕ → Subscript
+constBound e block = indexed (highBound e block) (indexAt e block)
+
+-- ---- format 1: a location, whose offset is the size itself
+
+-- an empty location is unbounded, as is the offset 0
+unfoldable pub locationSize : Endian → List ℕ → Located
+locationSize e location = cond (eqb (length location) 0) (located.Is 0) (offsetOf e location)
+
+unfoldable pub asDimension : ℕ → ℕ → Located → Subscript
+asDimension t used (located.Is size) = Dimension t size used
+asDimension t used (located.Refused why) = Refused why
+
+unfoldable pub sizedDimension : Endian → ℕ → List ℕ → Subscript
+sizedDimension e t location = asDimension t (9 + length location) (locationSize e location)
+
+-- a location of n bytes from 9 on
+unfoldable pub sizedBy : Endian → List ℕ → ℕ → ℕ → Subscript
+sizedBy e block t n = cond (there block 9 n) (sizedDimension e t (partAt block 9 n)) (Refused (refusedBlock reason.Block))
+
+-- its length, 2 bytes at 7
+unfoldable pub highLocation : Endian → List ℕ → ℕ → Subscript
+highLocation e block t = readAt (sizedBy e block t) (Refused (refusedBlock reason.Block)) e 2 block 7
+
+unfoldable pub locationBound : Endian → List ℕ → Subscript
+locationBound e block = indexed (highLocation e block) (indexAt e block)
+
+-- ---- format 8: a type attribute, all of it in section endianness
+
+unfoldable pub elementOf : ℕ → Typed → Subscript
+elementOf used (typed.Is t) = Element t used
+elementOf used (typed.Refused why) = Refused why
+
+-- another attribute, a number that is not known and bytes that are missing are all 17; so no vendor list is asked
+unfoldable pub elementAs : Endian → List ℕ → Attribute → Subscript
+elementAs e block (attribute.Read number value next) = elementOf next (typeAt (record { section = e; «data» = e }) block number value)
+elementAs e block (attribute.Short field) = Refused (refusedBlock reason.Block)
+elementAs e block (attribute.Unknown field) = Refused (refusedBlock reason.Block)
+
+unfoldable pub elementAt : Endian → List ℕ → Subscript
+elementAt e block = elementAs e block (readAttribute [] e block 1)
+
+-- ---- the subscript that a block begins with
+
+unfoldable pub subscriptAs : Endian → List ℕ → SubscriptFormat → Subscript
+subscriptAs e block FundTypeConstConst = constBound e block
+subscriptAs e block FundTypeConstLocation = locationBound e block
+subscriptAs e block FundTypeLocationConst = Refused (refusedBlock reason.Block)
+subscriptAs e block FundTypeLocationLocation = Refused (refusedBlock reason.Block)
+subscriptAs e block UserTypeConstConst = Refused (refusedBlock reason.Block)
+subscriptAs e block UserTypeConstLocation = Refused (refusedBlock reason.Block)
+subscriptAs e block UserTypeLocationConst = Refused (refusedBlock reason.Block)
+subscriptAs e block UserTypeLocationLocation = Refused (refusedBlock reason.Block)
+subscriptAs e block ElementType = elementAt e block
+subscriptAs e block Unknown = Refused (refusedBlock reason.Block)
+
+-- nothing is no subscript
+unfoldable pub subscriptOf : Endian → List ℕ → Subscript
+subscriptOf e block = cond (eqb (length block) 0) (Refused (refusedBlock reason.Block)) (subscriptAs e block (subscriptFormatOf (getD block 0 0)))
