@@ -1,6 +1,6 @@
 -- One subscript (document 01, 'Types, records, sizes'): formats 0, 1 and 8, judged field by field. Byte 0 is the format.
-use Prim.Native.Nat.{ℕ, suc, _+_}
-use mathlib.Core.Bool.{Bool, true, false, cond}
+use Prim.Native.Nat.{ℕ, _+_}
+use mathlib.Core.Bool.{cond}
 use mathlib.Core.List.{List, []}
 use lib.ListN.{length, getD}
 use lib.Dec.{eqb}
@@ -12,11 +12,9 @@ use Rattle.format.specs.declared.fund_type.FundType.{FundType}
 use Rattle.format.specs.declared.fund_type.FundType.the-variants as fund
 use Rattle.format.specs.declared.subscript_format.SubscriptFormat.{SubscriptFormat}
 use Rattle.format.specs.declared.subscript_format.SubscriptFormat.the-variants.{FundTypeConstConst, FundTypeConstLocation, FundTypeLocationConst, FundTypeLocationLocation, UserTypeConstConst, UserTypeConstLocation, UserTypeLocationConst, UserTypeLocationLocation, ElementType, Unknown}
-use Rattle.format.specs.declared.refusal.Refusal.{Refusal}
 use Rattle.format.specs.declared.refusal.Reason.the-variants as reason
 use Rattle.attributes.specs.Parts.{partAt}
 use Rattle.attributes.specs.Read.{readAttribute}
-use Rattle.attributes.specs.declared.decode.Endians.{Endians}
 use Rattle.attributes.specs.declared.read.Attribute.{Attribute}
 use Rattle.attributes.specs.declared.read.Attribute.the-variants as attribute
 use Rattle.blocks.specs.Location.{refusedBlock, offsetOf}

@@ -1,8 +1,8 @@
 -- A block of subscripts (document 01, 'Types, records, sizes'; the Rust's `process_array_subscript_data`): one after the other, the rest handed on; dimensions in
 -- their order, the last element type counting; no element type is 17.
-use Prim.Native.Nat.{ℕ, zero, suc, _*_, _/_}
+use Prim.Native.Nat.{ℕ, zero, suc, _/_}
 use mathlib.Core.Path.{_≡_}
-use mathlib.Core.Bool.{Bool, true, false, cond}
+use mathlib.Core.Bool.{true, false, cond}
 use mathlib.Core.List.{List, [], _∷_, _++_}
 use lib.ListN.{length, drop}
 use lib.Seq.{sets}

@@ -3,7 +3,8 @@ use Prim.Native.Nat.{ℕ}
 use mathlib.Core.Path.{_≡_, refl}
 use mathlib.Core.Bool.{Bool, true, false}
 use mathlib.Core.List.{List, [], _∷_, map}
-use Rattle.numbers.specs.Value.{valueOf, there, readAt}
+use lib.IntN.{negsuc}
+use Rattle.numbers.specs.Value.{valueOf, signedBelow, signedOf, there, readAt}
 use Rattle.numbers.specs.declared.Endian.the-variants.{Big, Little}
 use Rattle.format.specs.Lookup.{member, indexOf, lookup}
 use Rattle.format.specs.TagKind.{tags}
@@ -11,7 +12,7 @@ use Rattle.format.specs.TagKind as tag
 use Rattle.format.specs.AttributeKind.{used, alsoKnown, attributeKinds}
 use Rattle.format.specs.AttributeKind as number
 use Rattle.format.specs.Known.{known}
-use Rattle.format.specs.FormKind.{forms, formOf}
+use Rattle.format.specs.FormKind.{forms, formOf, formNumber, isForm}
 use Rattle.format.specs.FundType.{fundTypes, fundTypeOf, parseInt}
 use Rattle.format.specs.Modifier.{modifiers, modifierOf}
 use Rattle.format.specs.SubscriptFormat.{subscriptFormats, subscriptFormatOf}
@@ -37,8 +38,20 @@ use Rattle.blocks.specs.declared.types.Typed.{Typed}
 use Rattle.blocks.specs.declared.types.Typed.the-variants as typed
 use Rattle.blocks.specs.declared.subscripts.Counted.{Counted}
 use Rattle.blocks.specs.declared.subscripts.Counted.the-variants as counted
+use Rattle.tables.specs.Row.{attrAt}
 use Rattle.tables.specs.declared.row.Row.{Row}
 use Rattle.tables.specs.declared.row.Attr.{Attr}
+use Rattle.links.specs.Typed.{asValue, wordAt}
+use Rattle.records.specs.Taken.{takenBy, roleTaken, takes, special}
+use Rattle.records.specs.Taken as taken
+use Rattle.records.specs.Scan.{attributeAt, expectedForms, expected, expectedForm, isType, contentFault, formFault, attributeFault, faultAt, numberAt}
+use Rattle.records.specs.Fields.{isSought, lastFrom, asWord, wordIn, wordBy}
+use Rattle.records.specs.Front.{unless}
+use Rattle.records.specs.declared.scan.Run.{Run}
+use Rattle.records.specs.Elements.{Listed, listWidth, valueAt, namedFrom, nameFrom, valued, elementThen, elementsFrom, elementsIn}
+use Rattle.records.specs.Elements as element
+use Rattle.records.specs.Enumeration.{Lists, listed, joined, sizeBefore, listAt, listsFrom}
+use Rattle.records.specs.Enumeration as enumeration
 use Rattle.entries.specs.Head.{nullEnd, tagHead, sizeHead, headAt}
 use Rattle.entries.specs.Run.{attr, first, plays, runEnds, readOn, runFrom}
 use Rattle.entries.specs.Entry.{flip, littleFlag, flagOf, flagsOf, kindOf, ordinary, rooted, attributes, rootEndian, rootIn, entryFrom, entryAt}
@@ -46,7 +59,8 @@ use Rattle.entries.specs.Walk.{Walk, walked, refused, join, andThen, onward, wa
 use Rattle.entries.specs.Section.{wholeWalk}
 
 -- what an example asks: to read a section, with the erased flag on or off; what a text at a place is, and a number of two bytes in little-endian; what a
--- fundamental type's number and a modifier's byte say; what a type attribute of a number with these bytes of value says, and a block of subscripts
+-- fundamental type's number and a modifier's byte say; what a type attribute of a number with these bytes of value says, and a block of subscripts; what the lists of
+-- an enumeration at 0 are, in a section with these two attributes
 pub data Question : Type 0 where
   section : Bool → List ℕ → Question
   text : List ℕ → ℕ → Question
@@ -55,6 +69,7 @@ pub data Question : Type 0 where
   modifier-byte : ℕ → Question
   type-attribute : ℕ → List ℕ → Question
   subscripts : List ℕ → Question
+  lists : List ℕ → List ℕ → Question
 
 -- what it says: rows and attributes, bytes, a number, a modifier, a type, an array's element type and the words of its dimensions; or a refusal's number, for a
 -- section with its place
@@ -65,6 +80,7 @@ pub data Answer : Type 0 where
   modifier-is : Modifier → Answer
   type-is : «Type» → Answer
   array-is : «Type» → List ℕ → Answer
+  members-are : List Listed → Answer
   refused-at : ℕ → ℕ → Answer
   refused-as : ℕ → Answer
 
@@ -102,9 +118,17 @@ array : List ℕ → Counted → Answer
 array words (counted.Are t n) = array-is t words
 array words (counted.Refused why) = refused-as (numberOf (why .reason))
 
+listing : Lists → Answer
+listing (listed xs) = members-are xs
+listing (enumeration.refused why) = refused-as (numberOf (why .reason))
+
+-- the run of two attributes of an entry at 0
+two : Run
+two = record { first = 0; count = 2; key = 0; ends = record { section = Big; «data» = Big } }
+
 -- what the definitions answer, with no vendor numbers
 unfoldable pub answer : Question → Answer
-unfolding settings walk numbered-type one-modifier of-type array
+unfolding settings walk numbered-type one-modifier of-type array listing two
 answer (section erased s) = walk (wholeWalk (settings erased) [] s)
 answer (text s at) = bytes (textAt s at)
 answer (little-number s at) = number-is (valueOf Little 2 s at)
@@ -112,6 +136,7 @@ answer (type-number n) = numbered-type (parseInt n)
 answer (modifier-byte n) = one-modifier (modifierOf n)
 answer (type-attribute n value) = of-type (typeAt (record { section = Big; «data» = Big }) value n 0)
 answer (subscripts block) = array (wholeBlock Big block .words) (countSubscripts Big block)
+answer (lists s attrs) = listing (listsFrom (settings false) s attrs two 0 2)
 
 pub record Example : Type 0 where
   pub asked : Question
@@ -147,8 +172,23 @@ array-of low high =
     0x00 ∷ 0x00 ∷ 0x07 ∷ 0x00 ∷ 0x00 ∷ 0x00 ∷ low ∷ 0xff ∷ 0xff ∷ 0xff ∷ high ∷
     0x08 ∷ 0x00 ∷ 0x55 ∷ 0x00 ∷ 0x07 ∷ []
 
+-- an enumeration of ByteSize 1 whose list is FF 41 00, in either order
+size-first : List ℕ
+size-first =
+    0x00 ∷ 0x00 ∷ 0x00 ∷ 0x15 ∷ 0x00 ∷ 0x04 ∷ 0x00 ∷ 0xb6 ∷ 0x00 ∷ 0x00 ∷ 0x00 ∷ 0x01 ∷
+    0x00 ∷ 0xf4 ∷ 0x00 ∷ 0x00 ∷ 0x00 ∷ 0x03 ∷ 0xff ∷ 0x41 ∷ 0x00 ∷ []
+
+list-first : List ℕ
+list-first =
+    0x00 ∷ 0x00 ∷ 0x00 ∷ 0x15 ∷ 0x00 ∷ 0x04 ∷ 0x00 ∷ 0xf4 ∷ 0x00 ∷ 0x00 ∷ 0x00 ∷ 0x03 ∷ 0xff ∷ 0x41 ∷ 0x00 ∷
+    0x00 ∷ 0xb6 ∷ 0x00 ∷ 0x00 ∷ 0x00 ∷ 0x01 ∷ []
+
+-- the name A stands at 19
+minus-one : Listed
+minus-one = record { value = negsuc 0; place = 19; length = 1 }
+
 unfoldable pub examples : List Example
-unfolding null erased-entry erased-row plain pointer array-of
+unfolding null erased-entry erased-row plain pointer array-of size-first list-first minus-one
 examples =
     section false [] says rows [] [] ∷
     section false (0x00 ∷ 0x00 ∷ 0x00 ∷ []) says refused-at 4 0 ∷
@@ -174,8 +214,10 @@ examples =
     type-attribute number.ModFundType (0x00 ∷ 0x03 ∷ 0x85 ∷ 0x00 ∷ 0x07 ∷ []) says refused-as 18 ∷
     subscripts (array-of 0 0xff) says array-is (plain 7 3) (7 ∷ 0 ∷ []) ∷
     subscripts (array-of 0 0xfe) says array-is (plain 7 3) (7 ∷ 4294967295 ∷ []) ∷
-    subscripts (array-of 1 0xff) says refused-as 19 ∷ []
+    subscripts (array-of 1 0xff) says refused-as 19 ∷
+    lists size-first (number.ByteSize ∷ 8 ∷ number.ElementList ∷ 14 ∷ []) says members-are (minus-one ∷ []) ∷
+    lists list-first (number.ElementList ∷ 8 ∷ number.ByteSize ∷ 17 ∷ []) says members-are [] ∷ []
 
 pub examples-hold : map (λ e. answer (e .asked)) examples ≡ map (λ e. e .said) examples
-unfolding answer examples numberOf parseInt fundTypeOf fundTypes modifierOf modifiers valueOf there readAt member indexOf lookup tags used alsoKnown attributeKinds known forms formOf zeroFrom fixedEnd blockEnd textEnd valueEnd ending numbered readAttribute textAt nullEnd tagHead sizeHead headAt first plays runEnds readOn runFrom flip littleFlag flagOf flagsOf kindOf ordinary rooted attributes rootEndian rootIn entryFrom entryAt join andThen onward walkFrom walkAt wholeWalk subscriptFormats subscriptFormatOf partAt blockAt isKnown isPointer allKnown anyPointer modifiersOf withModifiers modified knownType fundamental fundType lastOf modFundType typeAt lowBound knownIndex indexAt indexed oneMore highBound constBound elementOf elementAs elementAt subscriptAs subscriptOf dimensionWords elementOr before step subscriptsFrom wholeBlock countSubscripts
+unfolding answer examples numberOf parseInt fundTypeOf fundTypes modifierOf modifiers valueOf there readAt member indexOf lookup tags used alsoKnown attributeKinds known forms formOf zeroFrom fixedEnd blockEnd textEnd valueEnd ending numbered readAttribute textAt nullEnd tagHead sizeHead headAt first plays runEnds readOn runFrom flip littleFlag flagOf flagsOf kindOf ordinary rooted attributes rootEndian rootIn entryFrom entryAt join andThen onward walkFrom walkAt wholeWalk subscriptFormats subscriptFormatOf partAt blockAt isKnown isPointer allKnown anyPointer modifiersOf withModifiers modified knownType fundamental fundType lastOf modFundType typeAt lowBound knownIndex indexAt indexed oneMore highBound constBound elementOf elementAs elementAt subscriptAs subscriptOf dimensionWords elementOr before step subscriptsFrom wholeBlock countSubscripts asValue wordAt takenBy roleTaken takes special taken.plays attributeAt attrAt expectedForms expected expectedForm isType contentFault formFault attributeFault faultAt numberAt formNumber isForm isSought lastFrom asWord wordIn wordBy unless listWidth valueAt namedFrom nameFrom valued element.elementAt element.andThen elementThen elementsFrom elementsIn signedOf signedBelow joined sizeBefore listAt listsFrom
 examples-hold = refl

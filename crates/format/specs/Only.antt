@@ -9,7 +9,7 @@ use Rattle.format.specs.TagKind.{tags}
 use Rattle.format.specs.AttributeKind.{attributeKinds}
 use Rattle.format.specs.Known.{known}
 use Rattle.format.specs.FormKind.{formOf, isForm}
-use Rattle.format.specs.FundType.{fundTypes, fundTypeOf, parseInt}
+use Rattle.format.specs.FundType.{fundTypeOf, parseInt}
 use Rattle.format.specs.Modifier.{modifierOf}
 use Rattle.format.specs.LocationOp.{locationOpOf}
 use Rattle.format.specs.SubscriptFormat.{subscriptFormatOf}

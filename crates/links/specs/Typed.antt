@@ -1,7 +1,7 @@
 -- The typed lookups (document 01, 'Links'; the Rust's `impl Tag`): 1, 2, 3; 11 for a key without a row; then the row's first attribute of a kind.
 use Prim.Native.Nat.{ℕ}
 use mathlib.Core.Path.{_≡_}
-use mathlib.Core.Bool.{Bool, cond}
+use mathlib.Core.Bool.{cond}
 use mathlib.Core.List.{List, [], _∷_}
 use Rattle.numbers.specs.declared.Endian.{Endian}
 use Rattle.numbers.specs.declared.unsigned.Read16.{Read16}

@@ -1,10 +1,11 @@
 -- What follows from `Typed`, for each way that the code comes to an answer.
-use Prim.Native.Nat.{ℕ}
+use Prim.Native.Nat.{ℕ, _<_}
 use mathlib.Core.Path.{_≡_, refl, sym, ap, _∙_, subst}
 use mathlib.Core.Bool.{Bool, true, false}
 use mathlib.Core.List.{List, [], _∷_}
 use lib.ListN.{length}
 use lib.Dec.{ltb}
+use borrow.Author.Tests.{ltb-true}
 use Rattle.numbers.specs.declared.Endian.{Endian}
 use Rattle.format.specs.Limits.{sectionLimit}
 use Rattle.format.specs.Settings.{settingsHold}
@@ -124,17 +125,17 @@ module _ (settings : Settings) (vendors sizes s rows attrs : List ℕ) (counts :
 
 -- ---- what is known of a row that was found
 
--- the table holds, and the row was found in it
-abbrev Known : Bool → Found → Keyed → Type 0
-Known b f (keyed.Row i) = (b ≡ true) × (f ≡ At i)
-Known b f (keyed.Refused why) = Unit
+-- the section is not too long, the table holds, and the row was found in it
+abbrev Known : Bool → Bool → Found → Keyed → Type 0
+Known b c f (keyed.Row i) = (b ≡ true) × (c ≡ true) × (f ≡ At i)
+Known b c f (keyed.Refused why) = Unit
 
-by-known : (key : ℕ) (f : Found) → Known true f (rowBy key keyed.Refused keyed.Row f)
+by-known : (key : ℕ) (f : Found) → Known true true f (rowBy key keyed.Refused keyed.Row f)
 unfolding rowBy
-by-known key (At i) = (refl, refl)
+by-known key (At i) = (refl, refl, refl)
 by-known key Nothing = tt
 
-known : (key : ℕ) (a b c : Bool) (f : Found) → Known c f (afterTests a b c keyed.Refused (rowBy key keyed.Refused keyed.Row f))
+known : (key : ℕ) (a b c : Bool) (f : Found) → Known b c f (afterTests a b c keyed.Refused (rowBy key keyed.Refused keyed.Row f))
 unfolding afterTests
 known key true true true f = by-known key f
 known key true true false f = tt
@@ -143,24 +144,27 @@ known key false b c f = tt
 
 module _ (settings : Settings) (vendors sizes s rows attrs : List ℕ) (counts : Counts) (key : ℕ) {told : Keyed}
     (is : told ≡ inRow settings vendors sizes s rows attrs counts key keyed.Refused keyed.Row) {i : ℕ} (p : told ≡ keyed.Row i) where
-  told-known : Known (tableHolds s vendors rows attrs counts) (rowOfKey rows (counts .rows) key) (keyed.Row i)
+  told-known : Known (ltb (length s) sectionLimit) (tableHolds s vendors rows attrs counts) (rowOfKey rows (counts .rows) key) (keyed.Row i)
   unfolding inRow tested
   told-known =
-      subst (Known _ _) (sym is ∙ p)
+      subst (Known _ _ _) (sym is ∙ p)
       (known key (settingsHold settings vendors sizes) (ltb (length s) sectionLimit) (tableHolds s vendors rows attrs counts) (rowOfKey rows (counts .rows) key))
 
   pub keyed-checked : Checked s vendors rows attrs counts
-  keyed-checked = record { holds = told-known .0 }
+  keyed-checked = record { holds = told-known .1 }
+
+  pub keyed-short : length s < sectionLimit
+  keyed-short = ltb-true (length s) sectionLimit (told-known .0)
 
   pub keyed-asked : Asked rows (counts .rows) i
   keyed-asked =
       record {
         table = record { rising = checked-rising keyed-checked; few = checked-rows-few keyed-checked };
-        there = row-found rows (counts .rows) key (told-known .1) .0;
+        there = row-found rows (counts .rows) key (told-known .2) .0;
       }
 
   pub keyed-key : rowAt rows i .key ≡ key
-  keyed-key = row-found rows (counts .rows) key (told-known .1) .1
+  keyed-key = row-found rows (counts .rows) key (told-known .2) .1
 
 -- ---- in a row
 

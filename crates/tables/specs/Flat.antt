@@ -11,7 +11,7 @@ use lib.Seq.{set-out, getD-set-other, getD-append-add, length-take-le, sets, len
 -- ---- runs of stores
 
 -- one run after the other is one run
-pub sets-append : (t : List ℕ) (i : ℕ) (xs ys : List ℕ) → sets t i (xs ++ ys) ≡ sets (sets t i xs) (i + length xs) ys
+pub sets-append : {A : Type 0} (t : List A) (i : ℕ) (xs ys : List A) → sets t i (xs ++ ys) ≡ sets (sets t i xs) (i + length xs) ys
 sets-append t i [] ys = rw add-zero
 sets-append t i (x ∷ xs) ys =
     let next : suc i + length xs ≡ i + suc (length xs) = omega arith in

@@ -1,0 +1,20 @@
+use Rattle.records.specs.ElementsLaws.{name-there, name-missing}
+use borrow.Author.Needs.{needs}
+use Prim.Native.Nat.{_-_}
+use Rattle.records.proofs.elements.name_from.Statement.{statement}
+use Rattle.records.proofs.elements.name_from.Tie as tie
+
+zero-from-requires : tie.Need-zero-from-requires
+zero-from-requires c κs = search needs
+
+add-t7 : tie.Need-add-t7
+add-t7 c = search needs
+
+returns : tie.Need-returns
+returns c = name-there _ _ (c .before .zero-from .ensures) (c .if1 .taken)
+
+returns-2 : tie.Need-returns-2
+returns-2 c = name-missing _ _ (c .before .zero-from .ensures) (c .if1 .left)
+
+pub name-from-spec : {M : Type 1} → statement M
+name-from-spec = tie.close (tie.spec zero-from-requires add-t7 returns returns-2)

@@ -1,0 +1,24 @@
+use Rattle.records.specs.FrontLaws.{kind-right, kind-wrong}
+use borrow.Author.Needs.{needs}
+use Prim.Native.Nat.{_-_}
+use Rattle.records.proofs.front.kind_fault.Statement.{statement}
+use Rattle.records.proofs.front.kind_fault.Tie as tie
+
+row-at-requires : tie.Need-row-at-requires
+row-at-requires c κs = search needs
+
+kind-taken-requires : tie.Need-kind-taken-requires
+kind-taken-requires c κs = search needs
+
+refused-requires : tie.Need-refused-requires
+refused-requires c κs = search needs
+
+returns : tie.Need-returns
+returns c = kind-right _ _ _ _ (c .before .before .row-at .ensures) (c .before .kind-taken .ensures) (c .if1 .taken)
+
+returns-2 : tie.Need-returns-2
+returns-2 c = kind-wrong _ _ _ _ (c .before .before .before .row-at .ensures) (c .before .before .kind-taken .ensures) (c .before .if1 .left) (c .refused .ensures)
+
+pub kind-fault-spec : {M : Type 1} → statement M
+kind-fault-spec =
+    tie.close (tie.spec row-at-requires kind-taken-requires refused-requires returns returns-2)

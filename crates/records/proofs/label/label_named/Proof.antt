@@ -1,0 +1,38 @@
+use Rattle.records.specs.FieldsLaws.{by-told, needed-told}
+use Rattle.records.specs.Label.{labelNamed, labelPlaced}
+use borrow.Author.Needs.{needs}
+use denote.Ref.{now}
+use mathlib.Core.Path.{refl}
+use Rattle.records.proofs.label.label_named.Statement.{statement}
+use Rattle.records.proofs.label.label_named.Tie as tie
+
+last-word-requires : tie.Need-last-word-requires
+last-word-requires c κs = search needs
+
+needs-requires : tie.Need-needs-requires
+needs-requires c κs = search needs
+
+enum-known-address : tie.Need-enum-known-address
+enum-known-address c = search needs
+
+enum-known-why : tie.Need-enum-known-why
+enum-known-why c = search needs
+
+returns : tie.Need-returns
+unfolding labelNamed labelPlaced
+returns c = by-told (labelPlaced (now (c .before .before .before .before .before .before .before .args .s)) (now (c .before .before .before .before .before .before .before .args .attrs)) (c .before .before .before .before .before .before .before .args .run) _) (needed-told _ (c .before .before .before .before .last-word .ensures) (c .before .before .before .needs .ensures)) (c .before .address .given .1) refl
+
+returns-2 : tie.Need-returns-2
+unfolding labelNamed labelPlaced
+returns-2 c = by-told (labelPlaced (now (c .before .before .before .before .before .before .before .args .s)) (now (c .before .before .before .before .before .before .before .args .attrs)) (c .before .before .before .before .before .before .before .args .run) _) (needed-told _ (c .before .before .before .before .last-word .ensures) (c .before .before .before .needs .ensures)) (c .before .why .given .1) refl
+
+pub label-named-spec : {M : Type 1} → statement M
+label-named-spec =
+    tie.close
+    (tie.spec
+    last-word-requires
+    needs-requires
+    enum-known-address
+    enum-known-why
+    returns
+    returns-2)

@@ -1,0 +1,31 @@
+use Rattle.records.specs.Member.{memberBy}
+use Rattle.records.specs.RecordLaws.{record-there}
+use Rattle.links.specs.TypedLaws.{no-row, keyed-asked}
+use borrow.Author.Needs.{needs}
+use Rattle.records.proofs.member.process_structure_member_tag.Statement.{statement}
+use Rattle.records.proofs.member.process_structure_member_tag.Tie as tie
+
+row-of-requires : tie.Need-row-of-requires
+row-of-requires c κs = search needs
+
+enum-known-i : tie.Need-enum-known-i
+enum-known-i c = search needs
+
+member-at-requires : tie.Need-member-at-requires
+member-at-requires c κs = keyed-asked _ _ _ _ _ _ _ _ (c .before .before .before .row-of .ensures) (c .before .i .given .1)
+
+enum-known-why : tie.Need-enum-known-why
+enum-known-why c = search needs
+
+returns : tie.Need-returns
+unfolding memberBy
+returns c = record-there _ _ _ _ _ _ _ _ _ _ (c .before .before .before .before .row-of .ensures) (c .before .before .i .given .1) (c .member-at .ensures)
+
+returns-2 : tie.Need-returns-2
+unfolding memberBy
+returns-2 c = no-row _ _ _ _ _ _ _ _ (c .before .before .before .row-of .ensures) _ _ (c .before .why .given .1)
+
+pub process-structure-member-tag-spec : {M : Type 1} → statement M
+process-structure-member-tag-spec =
+    tie.close
+    (tie.spec row-of-requires enum-known-i member-at-requires enum-known-why returns returns-2)

@@ -1,0 +1,44 @@
+use Rattle.records.specs.declared.scan.Run.{Run}
+use Rattle.records.specs.OverlayBranch.{overlayAt, overlayFields}
+use Rattle.records.specs.RecordLaws.{fields-clear}
+use Rattle.records.specs.FrontLaws.{unless-refused}
+use Rattle.records.specs.ScanLaws.{plain-overlay-branch}
+use borrow.Author.Needs.{needs}
+use denote.Ref.{now}
+use Rattle.records.proofs.overlay_branch.overlay_at.Statement.{statement}
+use Rattle.records.proofs.overlay_branch.overlay_at.Tie as tie
+
+head-fault-requires : tie.Need-head-fault-requires
+head-fault-requires c κs = plain-overlay-branch
+
+enum-told : tie.Need-enum-told
+enum-told c = search needs
+
+run-of-requires : tie.Need-run-of-requires
+run-of-requires c κs = search needs
+
+overlay-fields-requires : tie.Need-overlay-fields-requires
+overlay-fields-requires c κs = search needs
+
+enum-known-why : tie.Need-enum-known-why
+enum-known-why c = search needs
+
+returns : tie.Need-returns
+unfolding overlayAt
+returns c = fields-clear _ (λ (x : Run). overlayFields (now (c .before .before .before .before .before .before .before .before .before .args .s)) (now (c .before .before .before .before .before .before .before .before .before .args .attrs)) x (c .before .before .before .before .before .before .before .before .before .args .settings .roles)) (c .before .before .before .before .before .head-fault .ensures) (c .before .before .before .enum-told .given .1) (c .before .before .run-of .ensures) (c .overlay-fields .ensures)
+
+returns-2 : tie.Need-returns-2
+unfolding overlayAt
+returns-2 c = unless-refused (c .before .before .before .head-fault .ensures) _ _ (c .before .why .given .1)
+
+pub overlay-at-spec : {M : Type 1} → statement M
+overlay-at-spec =
+    tie.close
+    (tie.spec
+    head-fault-requires
+    enum-told
+    run-of-requires
+    overlay-fields-requires
+    enum-known-why
+    returns
+    returns-2)

@@ -1,0 +1,42 @@
+use Rattle.records.specs.OverlayBranchLaws.{overlay-whole}
+use Rattle.records.specs.FieldsLaws.{by-told, needed-told}
+use Rattle.records.specs.OverlayBranch.{endTaken, overlayEnded}
+use borrow.Author.Needs.{needs}
+use mathlib.Core.Path.{refl}
+use Rattle.records.proofs.overlay_branch.overlay_ended.Statement.{statement}
+use Rattle.records.proofs.overlay_branch.overlay_ended.Tie as tie
+
+last-word-requires : tie.Need-last-word-requires
+last-word-requires c κs = search needs
+
+needs-requires : tie.Need-needs-requires
+needs-requires c κs = search needs
+
+enum-known-end : tie.Need-enum-known-end
+enum-known-end c = search needs
+
+last-word-requires-2 : tie.Need-last-word-requires-2
+last-word-requires-2 c κs = search needs
+
+enum-known-why : tie.Need-enum-known-why
+enum-known-why c = search needs
+
+returns : tie.Need-returns
+unfolding overlayEnded
+returns c = by-told (endTaken _ _ _ _ _ _) (needed-told _ (c .before .before .before .before .before .last-word .ensures) (c .before .before .before .before .needs .ensures)) (c .before .before .end .given .1) (overlay-whole _ _ _ _ _ _ _ (c .last-word2 .ensures))
+
+returns-2 : tie.Need-returns-2
+unfolding overlayEnded endTaken
+returns-2 c = by-told (endTaken _ _ _ _ _ _) (needed-told _ (c .before .before .before .before .last-word .ensures) (c .before .before .before .needs .ensures)) (c .before .why .given .1) refl
+
+pub overlay-ended-spec : {M : Type 1} → statement M
+overlay-ended-spec =
+    tie.close
+    (tie.spec
+    last-word-requires
+    needs-requires
+    enum-known-end
+    last-word-requires-2
+    enum-known-why
+    returns
+    returns-2)

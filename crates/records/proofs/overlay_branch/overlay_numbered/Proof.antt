@@ -1,0 +1,41 @@
+use Rattle.records.specs.FieldsLaws.{by-told, needed-told}
+use Rattle.records.specs.OverlayBranch.{idTaken, overlayNumbered}
+use borrow.Author.Needs.{needs}
+use mathlib.Core.Path.{refl}
+use Rattle.records.proofs.overlay_branch.overlay_numbered.Statement.{statement}
+use Rattle.records.proofs.overlay_branch.overlay_numbered.Tie as tie
+
+role-word-requires : tie.Need-role-word-requires
+role-word-requires c κs = search needs
+
+needs-requires : tie.Need-needs-requires
+needs-requires c κs = search needs
+
+enum-known-id : tie.Need-enum-known-id
+enum-known-id c = search needs
+
+overlay-begun-requires : tie.Need-overlay-begun-requires
+overlay-begun-requires c κs = search needs
+
+enum-known-why : tie.Need-enum-known-why
+enum-known-why c = search needs
+
+returns : tie.Need-returns
+unfolding overlayNumbered idTaken
+returns c = by-told (idTaken _ _ _ _) (needed-told _ (c .before .before .before .before .before .role-word .ensures) (c .before .before .before .before .needs .ensures)) (c .before .before .id .given .1) (c .overlay-begun .ensures)
+
+returns-2 : tie.Need-returns-2
+unfolding overlayNumbered idTaken
+returns-2 c = by-told (idTaken _ _ _ _) (needed-told _ (c .before .before .before .before .role-word .ensures) (c .before .before .before .needs .ensures)) (c .before .why .given .1) refl
+
+pub overlay-numbered-spec : {M : Type 1} → statement M
+overlay-numbered-spec =
+    tie.close
+    (tie.spec
+    role-word-requires
+    needs-requires
+    enum-known-id
+    overlay-begun-requires
+    enum-known-why
+    returns
+    returns-2)

@@ -1,0 +1,48 @@
+use borrow.Author.Tests.{eq-eqb, ne-eqb}
+use Rattle.records.specs.Scan.{contentFault, typedFault, locationFault}
+use Rattle.records.specs.TakenLaws.{test-passed, test-failed}
+use borrow.Author.Needs.{needs}
+use Prim.Native.Nat.{_-_}
+use mathlib.Core.Path.{refl, ap, _∙_}
+use Rattle.records.proofs.scan.content_fault.Statement.{statement}
+use Rattle.records.proofs.scan.content_fault.Tie as tie
+
+is-type-requires : tie.Need-is-type-requires
+is-type-requires c κs = search needs
+
+process-type-requires : tie.Need-process-type-requires
+process-type-requires c κs = search needs
+
+typed-fault-requires : tie.Need-typed-fault-requires
+typed-fault-requires c κs = search needs
+
+block2-requires : tie.Need-block2-requires
+block2-requires c κs = search needs
+
+location-fault-requires : tie.Need-location-fault-requires
+location-fault-requires c κs = search needs
+
+returns : tie.Need-returns
+unfolding contentFault
+returns c = test-passed (c .before .before .before .is-type .ensures) _ (c .before .before .if1 .taken) (c .typed-fault .ensures ∙ ap (typedFault _) (c .before .process-type .ensures))
+
+returns-2 : tie.Need-returns-2
+unfolding contentFault
+returns-2 c = test-failed (c .before .before .before .before .before .is-type .ensures) _ (c .before .before .before .before .if1 .left) (test-passed refl _ (eq-eqb _ _ (c .before .before .if2 .taken)) (c .location-fault .ensures ∙ ap (locationFault _ _ _) (c .before .block2 .ensures)))
+
+returns-3 : tie.Need-returns-3
+unfolding contentFault
+returns-3 c = test-failed (c .before .before .before .is-type .ensures) _ (c .before .before .if1 .left) (test-failed refl _ (ne-eqb _ _ (c .if2 .left)) refl)
+
+pub content-fault-spec : {M : Type 1} → statement M
+content-fault-spec =
+    tie.close
+    (tie.spec
+    is-type-requires
+    process-type-requires
+    typed-fault-requires
+    block2-requires
+    location-fault-requires
+    returns
+    returns-2
+    returns-3)

@@ -1,0 +1,34 @@
+use Rattle.records.specs.ScanLaws.{form-right, form-wrong}
+use borrow.Author.Needs.{needs}
+use Prim.Native.Nat.{_-_}
+use Rattle.records.proofs.scan.form_fault.Statement.{statement}
+use Rattle.records.proofs.scan.form_fault.Tie as tie
+
+expected-form-requires : tie.Need-expected-form-requires
+expected-form-requires c κs = search needs
+
+is-form-requires : tie.Need-is-form-requires
+is-form-requires c κs = search needs
+
+content-fault-requires : tie.Need-content-fault-requires
+content-fault-requires c κs = search needs
+
+refused-requires : tie.Need-refused-requires
+refused-requires c κs = search needs
+
+returns : tie.Need-returns
+returns c = form-right _ _ _ _ _ (c .before .before .before .expected-form .ensures) (c .before .before .is-form .ensures) (c .before .if1 .taken) (c .content-fault .ensures)
+
+returns-2 : tie.Need-returns-2
+returns-2 c = form-wrong _ _ _ _ _ (c .before .before .before .expected-form .ensures) (c .before .before .is-form .ensures) (c .before .if1 .left) (c .refused .ensures)
+
+pub form-fault-spec : {M : Type 1} → statement M
+form-fault-spec =
+    tie.close
+    (tie.spec
+    expected-form-requires
+    is-form-requires
+    content-fault-requires
+    refused-requires
+    returns
+    returns-2)

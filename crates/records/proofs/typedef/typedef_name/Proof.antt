@@ -1,0 +1,31 @@
+use Rattle.records.specs.TypedefLaws.{name-own, name-filled, name-missing}
+use borrow.Author.Needs.{needs}
+use Prim.Native.Nat.{_-_}
+use Rattle.records.proofs.typedef.typedef_name.Statement.{statement}
+use Rattle.records.proofs.typedef.typedef_name.Tie as tie
+
+enum-known-own : tie.Need-enum-known-own
+enum-known-own c = search needs
+
+enum-told : tie.Need-enum-told
+enum-told c = search needs
+
+enum-known-filling : tie.Need-enum-known-filling
+enum-known-filling c = search needs
+
+enum-told-2 : tie.Need-enum-told-2
+enum-told-2 c = search needs
+
+returns : tie.Need-returns
+returns c = name-own _ (c .before .own .given .1)
+
+returns-2 : tie.Need-returns-2
+returns-2 c = name-filled (c .before .before .before .before .enum-told .given .1) (c .before .before .filling .given .1)
+
+returns-3 : tie.Need-returns-3
+returns-3 c = name-missing (c .before .before .enum-told .given .1) (c .enum-told2 .given .1)
+
+pub typedef-name-spec : {M : Type 1} → statement M
+typedef-name-spec =
+    tie.close
+    (tie.spec enum-known-own enum-told enum-known-filling enum-told-2 returns returns-2 returns-3)

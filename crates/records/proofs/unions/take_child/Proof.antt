@@ -1,0 +1,62 @@
+use Rattle.records.specs.UnionsLaws.{take-member, take-unread, take-type, take-other}
+use borrow.Author.Needs.{needs}
+use Prim.Native.Nat.{_-_}
+use Rattle.records.proofs.unions.take_child.Statement.{statement}
+use Rattle.records.proofs.unions.take_child.Tie as tie
+
+row-at-requires : tie.Need-row-at-requires
+row-at-requires c κs = search needs
+
+member-at-requires : tie.Need-member-at-requires
+member-at-requires c κs = search needs
+
+enum-known-member : tie.Need-enum-known-member
+enum-known-member c = search needs
+
+put-member-requires : tie.Need-put-member-requires
+put-member-requires c κs = search needs
+
+add-t20 : tie.Need-add-t20
+add-t20 c = search needs
+
+enum-known-why : tie.Need-enum-known-why
+enum-known-why c = search needs
+
+is-ignored-requires : tie.Need-is-ignored-requires
+is-ignored-requires c κs = search needs
+
+refused-requires : tie.Need-refused-requires
+refused-requires c κs = search needs
+
+same-length : tie.Need-same-length
+same-length c = search needs
+
+returns : tie.Need-returns
+returns c = take-member _ _ _ _ _ _ _ _ _ (c .before .before .before .before .before .before .before .before .before .before .row-at .ensures) (c .before .before .before .before .before .before .before .before .if1 .taken) (c .before .before .before .before .before .before .before .member-at .ensures) (c .before .before .before .before .before .member .given .1) (c .before .before .put-member .ensures)
+
+returns-2 : tie.Need-returns-2
+returns-2 c = take-unread _ _ _ _ _ _ _ _ _ (c .before .before .before .before .before .before .row-at .ensures) (c .before .before .before .before .if1 .taken) (c .before .before .before .member-at .ensures) (c .before .why .given .1)
+
+returns-3 : tie.Need-returns-3
+returns-3 c = take-type _ _ _ _ _ _ _ _ _ (c .before .before .before .before .row-at .ensures) (c .before .before .if1 .left) (c .before .is-ignored .ensures) (c .if2 .taken)
+
+returns-4 : tie.Need-returns-4
+returns-4 c = take-other _ _ _ _ _ _ _ _ _ (c .before .before .before .before .before .row-at .ensures) (c .before .before .before .if1 .left) (c .before .before .is-ignored .ensures) (c .before .if2 .left) (c .refused .ensures)
+
+pub take-child-spec : {M : Type 1} → statement M
+take-child-spec =
+    tie.close
+    (tie.spec
+    row-at-requires
+    member-at-requires
+    enum-known-member
+    put-member-requires
+    add-t20
+    enum-known-why
+    is-ignored-requires
+    refused-requires
+    same-length
+    returns
+    returns-2
+    returns-3
+    returns-4)

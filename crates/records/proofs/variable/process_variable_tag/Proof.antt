@@ -1,0 +1,31 @@
+use Rattle.records.specs.Variable.{variableBy}
+use Rattle.records.specs.RecordLaws.{record-there}
+use Rattle.links.specs.TypedLaws.{no-row, keyed-asked}
+use borrow.Author.Needs.{needs}
+use Rattle.records.proofs.variable.process_variable_tag.Statement.{statement}
+use Rattle.records.proofs.variable.process_variable_tag.Tie as tie
+
+row-of-requires : tie.Need-row-of-requires
+row-of-requires c κs = search needs
+
+enum-known-i : tie.Need-enum-known-i
+enum-known-i c = search needs
+
+variable-at-requires : tie.Need-variable-at-requires
+variable-at-requires c κs = keyed-asked _ _ _ _ _ _ _ _ (c .before .before .before .row-of .ensures) (c .before .i .given .1)
+
+enum-known-why : tie.Need-enum-known-why
+enum-known-why c = search needs
+
+returns : tie.Need-returns
+unfolding variableBy
+returns c = record-there _ _ _ _ _ _ _ _ _ _ (c .before .before .before .before .row-of .ensures) (c .before .before .i .given .1) (c .variable-at .ensures)
+
+returns-2 : tie.Need-returns-2
+unfolding variableBy
+returns-2 c = no-row _ _ _ _ _ _ _ _ (c .before .before .before .row-of .ensures) _ _ (c .before .why .given .1)
+
+pub process-variable-tag-spec : {M : Type 1} → statement M
+process-variable-tag-spec =
+    tie.close
+    (tie.spec row-of-requires enum-known-i variable-at-requires enum-known-why returns returns-2)

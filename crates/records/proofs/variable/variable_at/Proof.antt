@@ -1,0 +1,45 @@
+use Rattle.records.specs.Variable.{variableAt}
+use Rattle.records.specs.VariableLaws.{variable-clear}
+use Rattle.records.specs.FrontLaws.{unless-refused}
+use Rattle.records.specs.ScanLaws.{plain-variable}
+use borrow.Author.Needs.{needs}
+use Rattle.records.proofs.variable.variable_at.Statement.{statement}
+use Rattle.records.proofs.variable.variable_at.Tie as tie
+
+front-fault-requires : tie.Need-front-fault-requires
+front-fault-requires c κs = record { plain = plain-variable; asked = c .before .before .before .pre }
+
+enum-told : tie.Need-enum-told
+enum-told c = search needs
+
+run-of-requires : tie.Need-run-of-requires
+run-of-requires c κs = search needs
+
+row-at-requires : tie.Need-row-at-requires
+row-at-requires c κs = search needs
+
+variable-fields-requires : tie.Need-variable-fields-requires
+variable-fields-requires c κs = search needs
+
+enum-known-why : tie.Need-enum-known-why
+enum-known-why c = search needs
+
+returns : tie.Need-returns
+returns c = variable-clear _ _ _ _ _ _ (c .before .before .before .before .before .before .before .front-fault .ensures) (c .before .before .before .before .before .enum-told .given .1) (c .before .before .before .before .run-of .ensures) (c .before .before .before .row-at .ensures) (c .variable-fields .ensures)
+
+returns-2 : tie.Need-returns-2
+unfolding variableAt
+returns-2 c = unless-refused (c .before .before .before .front-fault .ensures) _ _ (c .before .why .given .1)
+
+pub variable-at-spec : {M : Type 1} → statement M
+variable-at-spec =
+    tie.close
+    (tie.spec
+    front-fault-requires
+    enum-told
+    run-of-requires
+    row-at-requires
+    variable-fields-requires
+    enum-known-why
+    returns
+    returns-2)

@@ -1,0 +1,158 @@
+-- What a record picks out of a row's attributes: the last of a kind counts (a name, a type, an offset, a ByteSize, a visibility).
+use Prim.Native.Nat.{ℕ, zero, suc, _+_, _-_}
+use mathlib.Core.Bool.{Bool, cond, _||_}
+use mathlib.Core.List.{List}
+use lib.Dec.{eqb}
+use Rattle.format.specs.FormKind.{formOf}
+use Rattle.format.specs.AttributeKind as attribute
+use Rattle.format.specs.declared.refusal.Reason.the-variants as reason
+use Rattle.attributes.specs.Text.{zeroFrom}
+use Rattle.attributes.specs.Parts.{blockAt}
+use Rattle.blocks.specs.Location.{offsetOf, addressOf}
+use Rattle.blocks.specs.Types.{typeAt}
+use Rattle.blocks.specs.declared.location.Located.{Located}
+use Rattle.blocks.specs.declared.location.Located.the-variants as located
+use Rattle.blocks.specs.declared.types.Typed.{Typed}
+use Rattle.blocks.specs.declared.types.Typed.the-variants as typed
+use Rattle.tables.specs.Check.{refusedAt}
+use Rattle.tables.specs.declared.find.Found.{Found}
+use Rattle.tables.specs.declared.find.Found.the-variants as found
+use Rattle.links.specs.Typed.{wordAt}
+use Rattle.links.specs.declared.typed.Value.{Value}
+use Rattle.links.specs.declared.typed.Value.the-variants as value
+use Rattle.records.specs.Scan.{attributeAt, isType}
+use Rattle.records.specs.declared.scan.Run.{Run}
+use Rattle.records.specs.declared.scan.Attribute.{Attribute}
+use Rattle.records.specs.declared.fields.Sought.{Sought}
+use Rattle.records.specs.declared.fields.Sought.the-variants as sought
+use Rattle.records.specs.declared.fields.Text.{Text}
+use Rattle.records.specs.declared.fields.Name.{Name}
+use Rattle.records.specs.declared.fields.Name.the-variants as name
+use Rattle.records.specs.declared.fields.Word.{Word}
+use Rattle.records.specs.declared.fields.Word.the-variants as word
+use Rattle.records.specs.declared.fields.Needed.{Needed}
+use Rattle.records.specs.declared.fields.Needed.the-variants as need
+use Rattle.records.specs.declared.fields.Visibility.{Visibility}
+use Rattle.records.specs.declared.fields.Visibility.the-variants as visibility
+
+-- an attribute of this number is sought
+unfoldable pub isSought : Sought → ℕ → Bool
+isSought (sought.Number n) number = eqb number n
+isSought sought.Type number = isType number
+isSought sought.Visibility number = eqb number attribute.Private || (eqb number attribute.Protected || eqb number attribute.Public)
+
+-- the last of n attributes from `first` on that is sought
+unfoldable pub lastFrom : Sought → List ℕ → ℕ → ℕ → Found
+lastFrom what attrs first zero = found.Nothing
+lastFrom what attrs first (suc n) = cond (isSought what (attributeAt attrs (first + n) .number)) (found.At (first + n)) (lastFrom what attrs first n)
+
+-- the last of a row's
+unfoldable pub lastOf : Sought → List ℕ → Run → Found
+lastOf what attrs run = lastFrom what attrs (run .first) (run .count)
+
+-- ---- texts
+
+-- the text at a place: up to its zero
+unfoldable pub textOf : List ℕ → ℕ → Text
+textOf s at = record { place = at; length = zeroFrom s at - at }
+
+unfoldable pub nameBy : List ℕ → List ℕ → Found → Name
+nameBy s attrs (found.At k) = name.Is (textOf s (attributeAt attrs k .value))
+nameBy s attrs found.Nothing = name.Nothing
+
+-- the text of the last attribute of this number
+unfoldable pub nameOf : List ℕ → List ℕ → Run → ℕ → Name
+nameOf s attrs run number = nameBy s attrs (lastOf (sought.Number number) attrs run)
+
+-- ---- types
+
+-- a type whose refusal is placed at the row
+unfoldable pub replaced : ℕ → Typed → Typed
+replaced key (typed.Is t) = typed.Is t
+replaced key (typed.Refused why) = typed.Refused (refusedAt key (why .reason))
+
+-- a record needs its type: 15 without
+unfoldable pub typeBy : List ℕ → List ℕ → Run → Found → Typed
+typeBy s attrs run (found.At k) =
+    replaced (run .key) (typeAt (run .ends) s (attributeAt attrs k .number) (attributeAt attrs k .value))
+typeBy s attrs run found.Nothing = typed.Refused (refusedAt (run .key) reason.Missing)
+
+unfoldable pub typeOf : List ℕ → List ℕ → Run → Typed
+typeOf s attrs run = typeBy s attrs run (lastOf sought.Type attrs run)
+
+-- ---- locations
+
+unfoldable pub asOffset : ℕ → Located → Needed
+asOffset key (located.Is x) = need.Is x
+asOffset key (located.Refused why) = need.Refused (refusedAt key (why .reason))
+
+unfoldable pub offsetIn : Run → List ℕ → Needed
+offsetIn run block = asOffset (run .key) (offsetOf (run .ends .section) block)
+
+-- a member needs its offset: 15 without
+unfoldable pub offsetBy : List ℕ → List ℕ → Run → Found → Needed
+offsetBy s attrs run (found.At k) = offsetIn run (blockAt (run .ends .«data») 2 s (attributeAt attrs k .value))
+offsetBy s attrs run found.Nothing = need.Refused (refusedAt (run .key) reason.Missing)
+
+unfoldable pub offsetField : List ℕ → List ℕ → Run → Needed
+offsetField s attrs run = offsetBy s attrs run (lastOf (sought.Number attribute.Location) attrs run)
+
+-- a location that is no address was refused by the scan
+unfoldable pub asAddress : Located → Word
+asAddress (located.Is x) = word.Is x
+asAddress (located.Refused why) = word.Nothing
+
+unfoldable pub addressIn : Run → List ℕ → Word
+addressIn run block = asAddress (addressOf (run .ends .section) block)
+
+unfoldable pub addressBy : List ℕ → List ℕ → Run → Found → Word
+addressBy s attrs run (found.At k) = addressIn run (blockAt (run .ends .«data») 2 s (attributeAt attrs k .value))
+addressBy s attrs run found.Nothing = word.Nothing
+
+-- a variable's address, if it has one
+unfoldable pub addressField : List ℕ → List ℕ → Run → Word
+addressField s attrs run = addressBy s attrs run (lastOf (sought.Number attribute.Location) attrs run)
+
+-- ---- numbers
+
+unfoldable pub asWord : Value → Word
+asWord (value.Is x) = word.Is x
+asWord value.Nothing = word.Nothing
+asWord (value.Refused why) = word.Nothing
+
+-- what an attribute says by its form; in a table that was tested the bytes are there
+unfoldable pub wordIn : List ℕ → Run → Attribute → Word
+wordIn s run a = asWord (wordAt (formOf (a .number)) s (record { at = a .value; ends = run .ends }))
+
+unfoldable pub wordBy : List ℕ → List ℕ → Run → Found → Word
+wordBy s attrs run (found.At k) = wordIn s run (attributeAt attrs k)
+wordBy s attrs run found.Nothing = word.Nothing
+
+-- the number that the last attribute of this number says
+unfoldable pub wordOf : List ℕ → List ℕ → Run → ℕ → Word
+wordOf s attrs run number = wordBy s attrs run (lastOf (sought.Number number) attrs run)
+
+-- the text of the attribute that plays a role, or the number it says; a role that is absent is played by none
+unfoldable pub roleName : List ℕ → List ℕ → Run → ℕ → Name
+roleName s attrs run role = cond (eqb role 0) name.Nothing (nameOf s attrs run role)
+
+unfoldable pub roleWord : List ℕ → List ℕ → Run → ℕ → Word
+roleWord s attrs run role = cond (eqb role 0) word.Nothing (wordOf s attrs run role)
+
+-- what a record needs: 15 without
+unfoldable pub needed : ℕ → Word → Needed
+needed key (word.Is x) = need.Is x
+needed key word.Nothing = need.Refused (refusedAt key reason.Missing)
+
+-- ---- visibility
+
+unfoldable pub visibilityBy : ℕ → Visibility
+visibilityBy number = cond (eqb number attribute.Private) visibility.Private (cond (eqb number attribute.Protected) visibility.Protected visibility.Public)
+
+-- public where nothing is said
+unfoldable pub visibilityIn : List ℕ → Found → Visibility
+visibilityIn attrs (found.At k) = visibilityBy (attributeAt attrs k .number)
+visibilityIn attrs found.Nothing = visibility.Public
+
+unfoldable pub visibilityOf : List ℕ → Run → Visibility
+visibilityOf attrs run = visibilityIn attrs (lastOf sought.Visibility attrs run)

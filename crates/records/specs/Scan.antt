@@ -1,0 +1,140 @@
+-- The scan over a row's attributes, one for all records (document 01, 'Types, records, sizes' and its refusal numbers): attributes in their order, each of which
+-- the record must take (13), in the form that is expected (14), and whose type or location must be one (17, 18). The first fault met counts; its place is the
+-- row's key.
+use Prim.Native.Nat.{ℕ, zero, suc, _+_, _%_}
+use mathlib.Core.Path.{_≡_}
+use mathlib.Core.Bool.{Bool, false, cond, _||_}
+use mathlib.Core.List.{List, [], _∷_}
+use lib.Dec.{eqb}
+use Rattle.numbers.specs.declared.Endian.{Endian}
+use Rattle.format.specs.Lookup.{Line, _means_, lookup}
+use Rattle.format.specs.FormKind.{formOf, isForm}
+use Rattle.format.specs.AttributeKind.{Location, Name, FundType, ModFundType, UserDefType, ModUDType, ByteSize, BitOffset, BitSize, ElementList, LowPc, HighPc, Member, ContainingType, Specification}
+use Rattle.format.specs.declared.form_kind.FormKind.{FormKind}
+use Rattle.format.specs.declared.form_kind.FormKind.the-variants.{Addr, Ref, Block2, Block4, Data2, Data4, String}
+use Rattle.format.specs.declared.settings.Roles.{Roles}
+use Rattle.format.specs.declared.refusal.Reason.the-variants as reason
+use Rattle.attributes.specs.Parts.{blockAt}
+use Rattle.blocks.specs.Location.{offsetOf, addressOf}
+use Rattle.blocks.specs.Types.{typeAt}
+use Rattle.blocks.specs.declared.location.Located.{Located}
+use Rattle.blocks.specs.declared.location.Located.the-variants as located
+use Rattle.blocks.specs.declared.types.Typed.{Typed}
+use Rattle.blocks.specs.declared.types.Typed.the-variants as typed
+use Rattle.tables.specs.Row.{rowAt, attrAt}
+use Rattle.tables.specs.Check.{refusedAt}
+use Rattle.links.specs.Typed.{endsOf}
+use Rattle.records.specs.Taken.{plays, takes, special}
+use Rattle.records.specs.declared.taken.Record.{Record}
+use Rattle.records.specs.declared.taken.Record.the-variants as record′
+use Rattle.records.specs.declared.scan.Run.{Run}
+use Rattle.records.specs.declared.scan.Attribute.{Attribute}
+use Rattle.records.specs.declared.scan.Fault.{Fault}
+use Rattle.records.specs.declared.scan.Fault.the-variants.{Clear, Refused}
+use Rattle.records.specs.declared.scan.Scan.{Scan}
+use Rattle.records.specs.declared.scan.Scan.the-variants as scan
+
+-- row i's attributes, its key, the endiannesses
+unfoldable pub runOf : Endian → List ℕ → ℕ → Run
+runOf e rows i = record { first = rowAt rows i .first; count = rowAt rows i .count; key = rowAt rows i .key; ends = endsOf e rows i }
+
+-- attribute k of the table: a number has 16 bits, and in a table that was tested no word has more
+unfoldable pub attributeAt : List ℕ → ℕ → Attribute
+attributeAt attrs k = record { number = attrAt attrs k .number % 65536; value = attrAt attrs k .value }
+
+-- ---- 14: the form that the Rust tests a value for
+
+unfoldable pub expectedForms : List (Line FormKind)
+expectedForms =
+    Location means Block2 ∷
+    Name means String ∷
+    ByteSize means Data4 ∷
+    BitOffset means Data2 ∷
+    BitSize means Data4 ∷
+    ElementList means Block4 ∷
+    LowPc means Addr ∷
+    HighPc means Addr ∷
+    Member means Ref ∷
+    ContainingType means Ref ∷
+    Specification means Ref ∷ []
+
+-- any other attribute may have its own
+unfoldable pub expected : ℕ → FormKind
+unfolding expectedForms
+expected number = lookup expectedForms (formOf number) number
+
+-- the vendor attributes that play a role: two texts and a number
+unfoldable pub expectedForm : Roles → ℕ → FormKind
+expectedForm roles number =
+    cond (plays (roles .mangled) number) String
+    (cond (plays (roles .«overlay_name») number) String (cond (plays (roles .«overlay_id») number) Data4 (expected number)))
+
+-- ---- 17 and 18: what a type or a location says
+
+unfoldable pub isType : ℕ → Bool
+isType number = eqb number FundType || (eqb number ModFundType || (eqb number UserDefType || eqb number ModUDType))
+
+unfoldable pub typedFault : ℕ → Typed → Fault
+typedFault key (typed.Is t) = Clear
+typedFault key (typed.Refused why) = Refused (refusedAt key (why .reason))
+
+unfoldable pub locatedFault : ℕ → Located → Fault
+locatedFault key (located.Is x) = Clear
+locatedFault key (located.Refused why) = Refused (refusedAt key (why .reason))
+
+-- a location is an address for a variable, an offset for all others
+unfoldable pub locationFault : Record → ℕ → Endian → List ℕ → Fault
+locationFault record′.Member key e block = locatedFault key (offsetOf e block)
+locationFault record′.Union key e block = locatedFault key (offsetOf e block)
+locationFault record′.Enumeration key e block = locatedFault key (offsetOf e block)
+locationFault record′.Typedef key e block = locatedFault key (offsetOf e block)
+locationFault record′.Variable key e block = locatedFault key (addressOf e block)
+locationFault record′.Label key e block = locatedFault key (offsetOf e block)
+locationFault record′.PtrToMember key e block = locatedFault key (offsetOf e block)
+locationFault record′.OverlayBranch key e block = locatedFault key (offsetOf e block)
+
+unfoldable pub contentFault : Record → Run → List ℕ → Attribute → Fault
+contentFault r run s a =
+    cond (isType (a .number)) (typedFault (run .key) (typeAt (run .ends) s (a .number) (a .value)))
+    (cond (eqb (a .number) Location) (locationFault r (run .key) (run .ends .section) (blockAt (run .ends .«data») 2 s (a .value))) Clear)
+
+-- ---- an attribute, and all of them
+
+unfoldable pub formFault : Roles → Record → Run → List ℕ → Attribute → Fault
+formFault roles r run s a =
+    cond (isForm (expectedForm roles (a .number)) (a .number)) (contentFault r run s a) (Refused (refusedAt (run .key) reason.Form))
+
+unfoldable pub attributeFault : Roles → Record → Run → List ℕ → Attribute → Fault
+attributeFault roles r run s a = cond (takes roles r (a .number)) (formFault roles r run s a) (Refused (refusedAt (run .key) reason.Extra))
+
+-- the first of two faults
+unfoldable pub orElse : Fault → Fault → Fault
+orElse Clear next = next
+orElse (Refused why) next = Refused why
+
+-- the first fault among n attributes from number j of the run on
+unfoldable pub faultsFrom : (ℕ → Fault) → ℕ → ℕ → Fault
+faultsFrom fault j zero = Clear
+faultsFrom fault j (suc n) = orElse (fault j) (faultsFrom fault (suc j) n)
+
+module _ (roles : Roles) (r : Record) (run : Run) (s attrs : List ℕ) where
+  -- attribute j of the run
+  unfoldable pub faultAt : ℕ → Fault
+  faultAt j = attributeFault roles r run s (attributeAt attrs (run .first + j))
+
+  -- the number of attribute j
+  unfoldable pub numberAt : ℕ → ℕ
+  numberAt j = attributeAt attrs (run .first + j) .number
+
+  unfoldable pub passes : Fault → Scan → Scan
+  passes Clear next = next
+  passes (Refused why) next = scan.Refused why
+
+  -- n attributes from number j on, up to the next that the record reads itself
+  unfoldable pub scanFrom : ℕ → ℕ → Scan
+  scanFrom j zero = scan.Stop j
+  scanFrom j (suc n) = cond (special r (numberAt j)) (scan.Stop j) (passes (faultAt j) (scanFrom (suc j) n))
+
+-- the record reads no attribute itself
+pub record Plain (r : Record) : Type 0 where
+  pub plain : (number : ℕ) → special r number ≡ false

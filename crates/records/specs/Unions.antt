@@ -1,0 +1,135 @@
+-- Unions (document 01, 'Types, records, sizes'; the Rust's `process_union_tag`): attributes, then the children in walk order, of which Member rows are read whole,
+-- rows that define a type are passed over and any other is 16 at the union; then a ByteSize is needed.
+use Prim.Native.Nat.{ℕ, _/_}
+use mathlib.Core.Path.{_≡_}
+use mathlib.Core.Bool.{Bool, cond}
+use mathlib.Core.List.{List, [], _∷_, _++_}
+use lib.ListN.{length}
+use lib.Seq.{sets}
+use lib.Dec.{eqb, leb}
+use Rattle.format.specs.Lookup.{member}
+use Rattle.format.specs.AttributeKind as attribute
+use Rattle.format.specs.TagKind as tag
+use Rattle.format.specs.declared.settings.Settings.{Settings}
+use Rattle.format.specs.declared.refusal.Refusal.{Refusal}
+use Rattle.format.specs.declared.refusal.Reason.the-variants as reason
+use Rattle.tables.specs.Row.{rowAt}
+use Rattle.tables.specs.Check.{refusedAt}
+use Rattle.tables.specs.declared.row.Counts.{Counts}
+use Rattle.links.specs.Walk.{Walk, ends, endless}
+use Rattle.links.specs.Links.{childWalk, nonNull}
+use Rattle.links.specs.Typed.{inRow}
+use Rattle.records.specs.Scan.{runOf}
+use Rattle.records.specs.Fields.{nameOf, wordOf, needed}
+use Rattle.records.specs.Front.{headOf, unless}
+use Rattle.records.specs.Member.{memberAt}
+use Rattle.records.specs.MemberWords.{memberWords, memberWidth}
+use Rattle.records.specs.declared.taken.Record.the-variants as record′
+use Rattle.records.specs.declared.scan.Run.{Run}
+use Rattle.records.specs.declared.fields.Needed.{Needed}
+use Rattle.records.specs.declared.fields.Needed.the-variants as need
+use Rattle.records.specs.declared.member.Member.{Member}
+use Rattle.records.specs.declared.member.MemberRead.{MemberRead}
+use Rattle.records.specs.declared.member.MemberRead.the-variants as read
+use Rattle.records.specs.declared.unions.Union.{Union}
+use Rattle.records.specs.declared.unions.UnionWhole.{UnionWhole}
+use Rattle.records.specs.declared.unions.UnionWhole.the-variants as whole
+use Rattle.records.specs.declared.unions.UnionRead.{UnionRead}
+use Rattle.records.specs.declared.unions.UnionRead.the-variants.{Is, Refused, Room}
+
+-- children that only define types
+unfoldable pub ignoredKinds : List ℕ
+ignoredKinds =
+    tag.ArrayType ∷ tag.ClassType ∷ tag.EnumerationType ∷ tag.StructureType ∷ tag.SubroutineType ∷ tag.Typedef ∷ tag.UnionType ∷ tag.PtrToMemberType ∷ []
+
+unfoldable pub ignored : ℕ → Bool
+unfolding ignoredKinds
+ignored kind = member kind ignoredKinds
+
+-- a member with its row's number
+pub record Placed : Type 0 where
+  pub row : ℕ
+  pub member : Member
+
+-- the members among children, or a refusal
+pub data Members : Type 0 where
+  members : List Placed → Members
+  refused : Refusal → Members
+
+unfoldable pub andMember : ℕ → Member → Members → Members
+andMember c m (members ms) = members (record { row = c; member = m } ∷ ms)
+andMember c m (refused why) = refused why
+
+unfoldable pub memberThen : ℕ → MemberRead → Members → Members
+memberThen c (read.Is m) rest = andMember c m rest
+memberThen c (read.Refused why) rest = refused why
+
+module _ (settings : Settings) (s rows attrs : List ℕ) (n : ℕ) where
+  -- child c of the union with this key, and those after it
+  unfoldable pub childThen : ℕ → ℕ → Members → Members
+  childThen key c rest =
+      cond (eqb (rowAt rows c .kind) tag.Member) (memberThen c (memberAt settings s rows attrs n c) rest)
+      (cond (ignored (rowAt rows c .kind)) rest (refused (refusedAt key reason.Child)))
+
+  unfoldable pub membersFrom : ℕ → List ℕ → Members
+  membersFrom key [] = members []
+  membersFrom key (c ∷ cs) = childThen key c (membersFrom key cs)
+
+  -- the walk is done before any child is looked at: 9 where it never ends
+  unfoldable pub membersBy : ℕ → Walk → Members
+  membersBy key (ends cs) = membersFrom key (nonNull rows cs)
+  membersBy key endless = refused (refusedAt key reason.Link)
+
+  unfoldable pub rowMembers : ℕ → Members
+  rowMembers i = membersBy (rowAt rows i .key) (childWalk (settings .endian) s rows attrs n i)
+
+module _ (s attrs : List ℕ) (run : Run) (many : ℕ) where
+  unfoldable pub withSize : Needed → UnionWhole
+  withSize (need.Is size) = whole.Is (record { name = nameOf s attrs run attribute.Name; «byte_size» = size; members = many })
+  withSize (need.Refused why) = whole.Refused why
+
+  -- a ByteSize is needed
+  unfoldable pub sizedBy : UnionWhole
+  sizedBy = withSize (needed (run .key) (wordOf s attrs run attribute.ByteSize))
+
+module _ (settings : Settings) (s rows attrs : List ℕ) (n i : ℕ) where
+  unfoldable pub membersTaken : Members → UnionWhole
+  membersTaken (members ms) = sizedBy s attrs (runOf (settings .endian) rows i) (length ms)
+  membersTaken (refused why) = whole.Refused why
+
+  -- name, size and how many members
+  unfoldable pub unionAt : UnionWhole
+  unionAt = unless (headOf settings s rows attrs record′.Union i) whole.Refused (membersTaken (rowMembers settings s rows attrs n i))
+
+-- ---- into lent room: 8 last, with the count
+
+-- the records of members, one after the other
+unfoldable pub membersWords : List Placed → List ℕ
+membersWords [] = []
+membersWords (m ∷ ms) = memberWords (m .row) (m .member) ++ membersWords ms
+
+pub record Outcome : Type 0 where
+  pub answer : UnionRead
+  pub room : List ℕ
+
+abbrev outcome : UnionRead → List ℕ → Outcome
+outcome answer room = record { answer = answer; room = room }
+
+unfoldable pub membersInto : List ℕ → Members → UnionRead → Outcome
+membersInto room (members ms) answer = outcome answer (sets room 0 (membersWords ms))
+membersInto room (refused why) answer = outcome answer room
+
+unfoldable pub intoRoom : List ℕ → Members → UnionWhole → Outcome
+intoRoom room ms (whole.Is u) = cond (leb (u .members) (length room / memberWidth)) (membersInto room ms (Is u)) (outcome (Room (u .members)) room)
+intoRoom room ms (whole.Refused why) = outcome (Refused why) room
+
+-- the union of a key
+unfoldable pub unionBy : Settings → List ℕ → List ℕ → List ℕ → List ℕ → List ℕ → Counts → ℕ → List ℕ → Outcome
+unionBy settings vendors sizes s rows attrs counts key room =
+    inRow settings vendors sizes s rows attrs counts key (λ why. outcome (Refused why) room)
+    (λ i. intoRoom room (rowMembers settings s rows attrs (counts .rows) i) (unionAt settings s rows attrs (counts .rows) i))
+
+-- answer and room are those of an outcome
+pub record UnionGiven (o : Outcome) (r : UnionRead) (room : List ℕ) : Type 0 where
+  pub answer-is : r ≡ o .answer
+  pub room-is : room ≡ o .room
