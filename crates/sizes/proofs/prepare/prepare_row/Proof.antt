@@ -1,0 +1,109 @@
+use Rattle.sizes.specs.PrepareLaws.{row-shape, row-array, row-other}
+use Rattle.sizes.specs.Ways.{preparedShape}
+use borrow.Author.Needs.{needs}
+use Prim.Native.Nat.{_-_}
+use mathlib.Core.Path.{refl}
+use Rattle.sizes.proofs.prepare.prepare_row.Statement.{statement}
+use Rattle.sizes.proofs.prepare.prepare_row.Tie as tie
+
+row-at-requires : tie.Need-row-at-requires
+row-at-requires c κs = search needs
+
+shape-of-requires : tie.Need-shape-of-requires
+shape-of-requires c κs = search needs
+
+enum-told : tie.Need-enum-told
+enum-told c = search needs
+
+run-of-requires : tie.Need-run-of-requires
+run-of-requires c κs = search needs
+
+prepare-array-requires : tie.Need-prepare-array-requires
+prepare-array-requires c κs = search needs
+
+enum-told-2 : tie.Need-enum-told-2
+enum-told-2 c = search needs
+
+prepare-structure-requires : tie.Need-prepare-structure-requires
+prepare-structure-requires c κs = search needs
+
+enum-told-3 : tie.Need-enum-told-3
+enum-told-3 c = search needs
+
+prepare-enumeration-requires : tie.Need-prepare-enumeration-requires
+prepare-enumeration-requires c κs = search needs
+
+enum-told-4 : tie.Need-enum-told-4
+enum-told-4 c = search needs
+
+prepare-union-requires : tie.Need-prepare-union-requires
+prepare-union-requires c κs = search needs
+
+enum-told-5 : tie.Need-enum-told-5
+enum-told-5 c = search needs
+
+prepare-pointer-requires : tie.Need-prepare-pointer-requires
+prepare-pointer-requires c κs = search needs
+
+enum-told-6 : tie.Need-enum-told-6
+enum-told-6 c = search needs
+
+enum-told-7 : tie.Need-enum-told-7
+enum-told-7 c = search needs
+
+refused-requires : tie.Need-refused-requires
+refused-requires c κs = search needs
+
+returns : tie.Need-returns
+returns c = row-array _ _ _ _ _ _ (c .before .before .before .before .before .row-at .ensures) (c .before .before .before .before .shape-of .ensures) (c .before .before .enum-told .given .1) (c .before .run-of .ensures) (c .prepare-array .ensures)
+
+returns-2 : tie.Need-returns-2
+unfolding preparedShape
+returns-2 c = row-shape _ _ _ _ _ _ (c .before .before .before .before .row-at .ensures) (c .before .before .before .shape-of .ensures) (c .before .enum-told2 .given .1) (c .prepare-structure .ensures)
+
+returns-3 : tie.Need-returns-3
+unfolding preparedShape
+returns-3 c = row-shape _ _ _ _ _ _ (c .before .before .before .before .row-at .ensures) (c .before .before .before .shape-of .ensures) (c .before .enum-told3 .given .1) (c .prepare-enumeration .ensures)
+
+returns-4 : tie.Need-returns-4
+unfolding preparedShape
+returns-4 c = row-shape _ _ _ _ _ _ (c .before .before .before .before .row-at .ensures) (c .before .before .before .shape-of .ensures) (c .before .enum-told4 .given .1) (c .prepare-union .ensures)
+
+returns-5 : tie.Need-returns-5
+unfolding preparedShape
+returns-5 c = row-shape _ _ _ _ _ _ (c .before .before .before .before .row-at .ensures) (c .before .before .before .shape-of .ensures) (c .before .enum-told5 .given .1) (c .prepare-pointer .ensures)
+
+returns-6 : tie.Need-returns-6
+unfolding preparedShape
+returns-6 c = row-shape _ _ _ _ _ _ (c .before .before .before .row-at .ensures) (c .before .before .shape-of .ensures) (c .enum-told6 .given .1) refl
+
+returns-7 : tie.Need-returns-7
+returns-7 c = row-other _ _ _ _ _ _ (c .before .before .before .before .row-at .ensures) (c .before .before .before .shape-of .ensures) (c .before .enum-told7 .given .1) (c .refused .ensures)
+
+pub prepare-row-spec : {M : Type 1} → statement M
+prepare-row-spec =
+    tie.close
+    (tie.spec
+    row-at-requires
+    shape-of-requires
+    enum-told
+    run-of-requires
+    prepare-array-requires
+    enum-told-2
+    prepare-structure-requires
+    enum-told-3
+    prepare-enumeration-requires
+    enum-told-4
+    prepare-union-requires
+    enum-told-5
+    prepare-pointer-requires
+    enum-told-6
+    enum-told-7
+    refused-requires
+    returns
+    returns-2
+    returns-3
+    returns-4
+    returns-5
+    returns-6
+    returns-7)

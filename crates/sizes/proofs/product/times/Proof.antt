@@ -1,0 +1,23 @@
+use Rattle.sizes.specs.ProductLaws.{product-fits, times-is, times-big}
+use borrow.Author.Needs.{needs}
+use Prim.Native.Nat.{_-_}
+use Rattle.sizes.proofs.product.times.Statement.{statement}
+use Rattle.sizes.proofs.product.times.Tie as tie
+
+mul-product : tie.Need-mul-product
+mul-product c = record { fits = product-fits (search needs) (search needs) }
+
+cast-t9 : tie.Need-cast-t9
+cast-t9 c = search needs
+
+refused-requires : tie.Need-refused-requires
+refused-requires c κs = search needs
+
+returns : tie.Need-returns
+returns c = times-is _ _ _ (c .if1 .taken)
+
+returns-2 : tie.Need-returns-2
+returns-2 c = times-big _ _ _ (c .before .if1 .left) (c .refused .ensures)
+
+pub times-spec : {M : Type 1} → statement M
+times-spec = tie.close (tie.spec mul-product cast-t9 refused-requires returns returns-2)

@@ -1,0 +1,41 @@
+use Rattle.sizes.specs.declared.sized.Sized.the-variants.{Refused}
+use Rattle.sizes.specs.Size.{sizeOfKey}
+use Rattle.sizes.specs.SizeLaws.{ready, key-sized}
+use Rattle.tables.specs.CheckLaws.{refused-answer}
+use borrow.Author.Needs.{needs}
+use Rattle.sizes.proofs.size.size_of_key.Statement.{statement}
+use Rattle.sizes.proofs.size.size_of_key.Tie as tie
+
+check-table-requires : tie.Need-check-table-requires
+check-table-requires c κs = search needs
+
+enum-told : tie.Need-enum-told
+enum-told c = search needs
+
+slice-aggregate-entry-size : tie.Need-slice-aggregate-entry-size
+slice-aggregate-entry-size c = search needs
+
+entry-size-requires : tie.Need-entry-size-requires
+entry-size-requires c κs = ready (c .before .before .before .check-table .ensures) (c .before .enum-told .given .1)
+
+enum-known-why : tie.Need-enum-known-why
+enum-known-why c = search needs
+
+returns : tie.Need-returns
+returns c = key-sized (c .before .before .before .before .check-table .ensures) (c .before .before .enum-told .given .1) _ (c .entry-size .ensures)
+
+returns-2 : tie.Need-returns-2
+unfolding sizeOfKey
+returns-2 c = refused-answer Refused _ (c .before .before .before .check-table .ensures) (c .before .why .given .1)
+
+pub size-of-key-spec : {M : Type 1} → statement M
+size-of-key-spec =
+    tie.close
+    (tie.spec
+    check-table-requires
+    enum-told
+    slice-aggregate-entry-size
+    entry-size-requires
+    enum-known-why
+    returns
+    returns-2)

@@ -1,0 +1,251 @@
+-- Sizes (document 01, 'Types, records, sizes'; the Rust's `Type::size` and `UserDefinedType::size`). The size of a type and of the entry it names call each
+-- other: here the entry's size is a function of "the size of a type", and the levels that are left fall from an entry to those it names.
+use Prim.Native.Nat.{ℕ, zero, suc, _+_, _*_}
+use mathlib.Core.Bool.{true, false, cond}
+use mathlib.Core.List.{List, [], _∷_}
+use lib.ListN.{length, getD, drop}
+use lib.Dec.{eqb, leb}
+use Rattle.numbers.specs.declared.Endian.{Endian}
+use Rattle.format.specs.Lookup.{Line, _means_, lookup, indexOf}
+use Rattle.format.specs.FundType.{fundTypes}
+use Rattle.format.specs.AttributeKind as attribute
+use Rattle.format.specs.TagKind as tag
+use Rattle.format.specs.Limits.{depthLimit}
+use Rattle.format.specs.declared.settings.Settings.{Settings}
+use Rattle.format.specs.declared.refusal.Reason.the-variants as reason
+use Rattle.attributes.specs.Parts.{blockAt}
+use Rattle.blocks.specs.Subscript.{subscriptOf}
+use Rattle.blocks.specs.Subscripts.{countSubscripts}
+use Rattle.blocks.specs.declared.types.Type.{«Type»}
+use Rattle.blocks.specs.declared.types.TypeKind.{TypeKind}
+use Rattle.blocks.specs.declared.types.TypeKind.the-variants as kind
+use Rattle.blocks.specs.declared.subscript.Subscript.{Subscript}
+use Rattle.blocks.specs.declared.subscript.Subscript.the-variants as subscript
+use Rattle.blocks.specs.declared.subscripts.Counted.{Counted}
+use Rattle.blocks.specs.declared.subscripts.Counted.the-variants as counted
+use Rattle.tables.specs.Row.{rowAt}
+use Rattle.tables.specs.Find.{rowOfKey}
+use Rattle.tables.specs.Check.{refusedAt, tested}
+use Rattle.tables.specs.declared.row.Counts.{Counts}
+use Rattle.tables.specs.declared.find.Found.{Found}
+use Rattle.tables.specs.declared.find.Found.the-variants as found
+use Rattle.links.specs.Walk.{Walk, ends, endless}
+use Rattle.links.specs.Links.{childWalk, nonNull}
+use Rattle.records.specs.Scan.{runOf, attributeAt, faultsFrom}
+use Rattle.records.specs.Fields.{lastOf, wordOf}
+use Rattle.records.specs.Front.{unless}
+use Rattle.records.specs.Member.{memberAt}
+use Rattle.records.specs.Unions.{Placed, Members, members, refused, memberThen, unionAt}
+use Rattle.records.specs.Enumeration.{enumerationAt}
+use Rattle.records.specs.PtrToMember.{ptrAt}
+use Rattle.records.specs.declared.scan.Run.{Run}
+use Rattle.records.specs.declared.scan.Fault.{Fault}
+use Rattle.records.specs.declared.scan.Fault.the-variants as fault
+use Rattle.records.specs.declared.fields.Sought.the-variants as sought
+use Rattle.records.specs.declared.fields.Word.{Word}
+use Rattle.records.specs.declared.fields.Word.the-variants as word
+use Rattle.records.specs.declared.enumeration.EnumerationWhole.{EnumerationWhole}
+use Rattle.records.specs.declared.enumeration.EnumerationWhole.the-variants as enumeration
+use Rattle.records.specs.declared.unions.UnionWhole.{UnionWhole}
+use Rattle.records.specs.declared.unions.UnionWhole.the-variants as union
+use Rattle.records.specs.declared.ptr_to_member.PtrToMemberRead.{PtrToMemberRead}
+use Rattle.records.specs.declared.ptr_to_member.PtrToMemberRead.the-variants as pointer
+use Rattle.sizes.specs.declared.prepare.Shape.{Shape}
+use Rattle.sizes.specs.declared.prepare.Shape.the-variants as shape
+use Rattle.sizes.specs.declared.sized.Sized.{Sized}
+use Rattle.sizes.specs.declared.sized.Sized.the-variants.{Is, Refused}
+
+-- a size has 32 bits
+abbrev pub sizeLimit : ℕ
+sizeLimit = 0xFFFFFFFF
+
+-- ---- a type
+
+-- a fundamental type's size is its line of the settings' table; `entry` gives the size of the entry that has a key
+unfoldable pub kindSize : List ℕ → (ℕ → Sized) → TypeKind → Sized
+kindSize sizes entry (kind.Fundamental number) = Is (getD sizes (indexOf number fundTypes) 0)
+kindSize sizes entry (kind.UserDefined key) = entry key
+
+-- 4 where a pointer or a reference stands among the modifiers
+unfoldable pub typeSizeBy : List ℕ → (ℕ → Sized) → «Type» → Sized
+typeSizeBy sizes entry t = cond (t .pointer) (Is 4) (kindSize sizes entry (t .kind))
+
+-- what follows a size
+unfoldable pub sizeThen : (ℕ → Sized) → Sized → Sized
+sizeThen next (Is size) = next size
+sizeThen next (Refused why) = Refused why
+
+-- ---- arrays: each SubscrData is read, the last counts, one is needed
+
+-- a running product
+unfoldable pub times : ℕ → (ℕ → Sized) → ℕ → ℕ → Sized
+times key next size many = cond (leb (size * many) sizeLimit) (next (size * many)) (Refused (refusedAt key reason.Big))
+
+module _ (e : Endian) (key : ℕ) where
+  -- the next subscript of a block, `next` going on after so many bytes
+  unfoldable pub subscriptThen : (ℕ → ℕ → Sized) → ℕ → Subscript → Sized
+  subscriptThen next size (subscript.Dimension index many used) = times key (λ product. next used product) size many
+  subscriptThen next size (subscript.Element t used) = next used size
+  subscriptThen next size (subscript.Refused why) = Refused (refusedAt key (why .reason))
+
+  -- the element's size times each dimension, left to right; unbounded counts 0
+  unfoldable pub productFrom : ℕ → ℕ → List ℕ → Sized
+  productFrom zero size block = Is size
+  productFrom (suc turns) size block =
+      elim (eqb (length block) 0) [
+        | true ↦ Is size
+        | false ↦ subscriptThen (λ used product. productFrom turns product (drop used block)) size (subscriptOf e block)
+      ]
+
+  unfoldable pub productOf : List ℕ → ℕ → Sized
+  productOf block size = productFrom (length block) size block
+
+  -- the element's size is taken first
+  unfoldable pub countedSize : («Type» → Sized) → List ℕ → Counted → Sized
+  countedSize typeSize block (counted.Are t n) = sizeThen (productOf block) (typeSize t)
+  countedSize typeSize block (counted.Refused why) = Refused (refusedAt key (why .reason))
+
+unfoldable pub countedFault : ℕ → Counted → Fault
+countedFault key (counted.Are t n) = fault.Clear
+countedFault key (counted.Refused why) = fault.Refused (refusedAt key (why .reason))
+
+module _ (s attrs : List ℕ) (run : Run) where
+  -- the block that is attribute k of the table
+  unfoldable pub subscriptBlock : ℕ → List ℕ
+  subscriptBlock k = blockAt (run .ends .«data») 2 s (attributeAt attrs k .value)
+
+  -- attribute j of the run: its subscripts, if it is SubscrData
+  unfoldable pub subscriptFault : ℕ → Fault
+  subscriptFault j =
+      cond (eqb (attributeAt attrs (run .first + j) .number) attribute.SubscrData)
+      (countedFault (run .key) (countSubscripts (run .ends .section) (subscriptBlock (run .first + j)))) fault.Clear
+
+  unfoldable pub lastSize : («Type» → Sized) → Found → Sized
+  lastSize typeSize (found.At k) = countedSize (run .ends .section) (run .key) typeSize (subscriptBlock k) (countSubscripts (run .ends .section) (subscriptBlock k))
+  lastSize typeSize found.Nothing = Refused (refusedAt (run .key) reason.Missing)
+
+  unfoldable pub arraySize : («Type» → Sized) → Sized
+  arraySize typeSize =
+      unless (faultsFrom subscriptFault 0 (run .count)) Refused (lastSize typeSize (lastOf (sought.Number attribute.SubscrData) attrs run))
+
+-- ---- structures and classes: the Member children are all read whole before any size is taken; other children are passed over
+
+module _ (settings : Settings) (s rows attrs : List ℕ) (n : ℕ) where
+  unfoldable pub childThen : ℕ → Members → Members
+  childThen c rest = cond (eqb (rowAt rows c .kind) tag.Member) (memberThen c (memberAt settings s rows attrs n c) rest) rest
+
+  unfoldable pub membersFrom : List ℕ → Members
+  membersFrom [] = members []
+  membersFrom (c ∷ cs) = childThen c (membersFrom cs)
+
+  unfoldable pub membersBy : ℕ → Walk → Members
+  membersBy key (ends cs) = membersFrom (nonNull rows cs)
+  membersBy key endless = refused (refusedAt key reason.Link)
+
+  -- the members of row i, in walk order
+  unfoldable pub membersOf : ℕ → Members
+  membersOf i = membersBy (rowAt rows i .key) (childWalk (settings .endian) s rows attrs n i)
+
+-- a member's own ByteSize, else its type's size
+unfoldable pub sizeOr : («Type» → Sized) → «Type» → Word → Sized
+sizeOr typeSize t (word.Is size) = Is size
+sizeOr typeSize t word.Nothing = typeSize t
+
+unfoldable pub memberSize : («Type» → Sized) → Placed → Sized
+memberSize typeSize m = sizeOr typeSize (m .member .of) (m .member .«byte_size»)
+
+unfoldable pub larger : ℕ → ℕ → ℕ
+larger a b = cond (leb a b) b a
+
+-- an end that is taken for a size
+unfoldable pub endThen : ℕ → (ℕ → Sized) → ℕ → ℕ → Sized
+endThen key next largest end = cond (leb end sizeLimit) (next (larger largest end)) (Refused (refusedAt key reason.Big))
+
+module _ (rows : List ℕ) (typeSize : «Type» → Sized) where
+  -- member by member: its size, then its end; the largest end is the size
+  unfoldable pub endsFrom : ℕ → List Placed → Sized
+  endsFrom largest [] = Is largest
+  endsFrom largest (m ∷ ms) =
+      sizeThen (λ size. endThen (rowAt rows (m .row) .key) (λ next. endsFrom next ms) largest (m .member .offset + size)) (memberSize typeSize m)
+
+  -- ByteSize, or else the largest member end
+  unfoldable pub sizeOrEnds : List Placed → Word → Sized
+  sizeOrEnds ms (word.Is size) = Is size
+  sizeOrEnds ms word.Nothing = endsFrom 0 ms
+
+  unfoldable pub membersSize : Word → Members → Sized
+  membersSize size (members ms) = sizeOrEnds ms size
+  membersSize size (refused why) = Refused why
+
+-- ---- the other entries that have a size
+
+unfoldable pub enumerationSize : EnumerationWhole → Sized
+enumerationSize (enumeration.Is e) = Is (e .«byte_size»)
+enumerationSize (enumeration.Refused why) = Refused why
+
+unfoldable pub unionSize : UnionWhole → Sized
+unionSize (union.Is u) = Is (u .«byte_size»)
+unionSize (union.Refused why) = Refused why
+
+unfoldable pub pointerSize : PtrToMemberRead → Sized
+pointerSize (pointer.Is p) = Is 4
+pointerSize (pointer.Refused why) = Refused why
+
+-- ---- the kinds of rows that have a size
+
+-- a subroutine type is not looked into; Other has no size
+unfoldable pub shapes : List (Line Shape)
+shapes =
+    tag.ArrayType means shape.Array ∷
+    tag.ClassType means shape.Structure ∷
+    tag.EnumerationType means shape.Enumeration ∷
+    tag.GlobalSubroutine means shape.Subroutine ∷
+    tag.StructureType means shape.Structure ∷
+    tag.Subroutine means shape.Subroutine ∷
+    tag.SubroutineType means shape.Subroutine ∷
+    tag.UnionType means shape.Union ∷
+    tag.PtrToMemberType means shape.PtrToMember ∷ []
+
+unfoldable pub shapeOf : ℕ → Shape
+unfolding shapes
+shapeOf kind = lookup shapes shape.Other kind
+
+module _ (settings : Settings) (s rows attrs : List ℕ) (n : ℕ) where
+  -- row i, which is there and not past the limit; 12 for a kind that has no size
+  unfoldable pub shapeSize : («Type» → Sized) → ℕ → Shape → Sized
+  shapeSize typeSize i shape.Array = arraySize s attrs (runOf (settings .endian) rows i) typeSize
+  shapeSize typeSize i shape.Structure =
+      membersSize rows typeSize (wordOf s attrs (runOf (settings .endian) rows i) attribute.ByteSize) (membersOf settings s rows attrs n i)
+  shapeSize typeSize i shape.Enumeration = enumerationSize (enumerationAt settings s rows attrs n i)
+  shapeSize typeSize i shape.Union = unionSize (unionAt settings s rows attrs n i)
+  shapeSize typeSize i shape.PtrToMember = pointerSize (ptrAt settings s rows attrs n i)
+  shapeSize typeSize i shape.Subroutine = Is 0
+  shapeSize typeSize i shape.Other = Refused (refusedAt (rowAt rows i .key) reason.Kind)
+
+  unfoldable pub entryAt : («Type» → Sized) → ℕ → Sized
+  entryAt typeSize i = shapeSize typeSize i (shapeOf (rowAt rows i .kind))
+
+-- the entry that was found under a key: 11 where there is none
+unfoldable pub foundSize : (ℕ → Sized) → ℕ → Found → Sized
+foundSize entry key (found.At i) = entry i
+foundSize entry key found.Nothing = Refused (refusedAt key reason.Entry)
+
+module _ (settings : Settings) (sizes s rows attrs : List ℕ) (n : ℕ) where
+  -- the size of the entry that has a key, so many levels being left: 10 where none is
+  unfoldable pub entrySize : ℕ → ℕ → Sized
+  entrySize zero key = foundSize (λ i. Refused (refusedAt key reason.Depth)) key (rowOfKey rows n key)
+  entrySize (suc levels) key = foundSize (entryAt settings s rows attrs n (typeSizeBy sizes (entrySize levels))) key (rowOfKey rows n key)
+
+  -- the size of a type
+  unfoldable pub typeSize : ℕ → «Type» → Sized
+  typeSize levels t = typeSizeBy sizes (entrySize levels) t
+
+-- ---- the public calls; the entry asked for is depth 1
+
+unfoldable pub sizeOfKey : Settings → List ℕ → List ℕ → List ℕ → List ℕ → List ℕ → Counts → ℕ → Sized
+sizeOfKey settings vendors sizes s rows attrs counts key =
+    tested settings vendors sizes s rows attrs counts Refused (entrySize settings sizes s rows attrs (counts .rows) depthLimit key)
+
+unfoldable pub sizeOfType : Settings → List ℕ → List ℕ → List ℕ → List ℕ → List ℕ → Counts → «Type» → Sized
+sizeOfType settings vendors sizes s rows attrs counts t =
+    tested settings vendors sizes s rows attrs counts Refused (typeSize settings sizes s rows attrs (counts .rows) depthLimit t)

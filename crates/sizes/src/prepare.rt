@@ -1,0 +1,355 @@
+// What an entry's size takes before any other size is asked for: the row's kind, an array's subscripts, a structure's members and every record are read whole.
+use attributes::decode::block2;
+use blocks::subscripts::Counted;
+use blocks::subscripts::count_subscripts;
+use blocks::types::Type;
+use format::attribute_kind::BYTE_SIZE;
+use format::attribute_kind::SUBSCR_DATA;
+use format::refusal::Reason;
+use format::refusal::Refusal;
+use format::settings::Settings;
+use links::children::Kids;
+use links::children::count_children;
+use links::kids::child_from;
+use links::link::next_row;
+use links::link::sibling_row;
+use records::enumeration::EnumerationWhole;
+use records::enumeration::enumeration_at;
+use records::fields::Sought;
+use records::fields::Word;
+use records::fields::last_from;
+use records::fields::last_word;
+use records::member::MemberRead;
+use records::member::member_at;
+use records::ptr_to_member::PtrToMemberRead;
+use records::ptr_to_member::ptr_to_member_at;
+use records::scan::Fault;
+use records::scan::Run;
+use records::scan::attribute_at;
+use records::scan::placed;
+use records::scan::refused;
+use records::scan::run_of;
+use records::unions::UnionWhole;
+use records::unions::union_at;
+use tables::find::Found;
+use tables::row::row_at;
+ghost use mathlib.Core.Path.{_≡_};
+ghost use Rattle.links.specs.ChildrenWays.{Asked};
+ghost use Rattle.records.specs.Scan.{faultsFrom};
+ghost use Rattle.records.specs.EnumerationWays.{AskedShort};
+ghost use Rattle.sizes.specs.Size.{shapeOf, subscriptBlock, countedFault, subscriptFault};
+ghost use Rattle.links.specs.Kids.{kidsOf};
+ghost use Rattle.records.specs.Enumeration.{enumerationAt};
+ghost use Rattle.records.specs.PtrToMember.{ptrAt};
+ghost use Rattle.records.specs.Unions.{unionAt};
+ghost use Rattle.records.specs.UnionsWays.{EndsAt};
+ghost use Rattle.sizes.specs.Ways.{SmallPlace, memberFault, membersFault, structureFault, preparedLast, preparedArray, preparedStructure, preparedEnumeration, preparedUnion, preparedPointer, preparedRow};
+
+// How a row comes to its size.
+pub enum Shape {
+    Array,
+    Structure,
+    Enumeration,
+    Union,
+    PtrToMember,
+    Subroutine,
+    // No size: 12.
+    Other,
+}
+
+// An entry's size, or what is still needed: the size of an array's element, whose subscripts are attribute `at`; the ends of a structure's members.
+pub enum Prepared {
+    Size(u32),
+    Element { of: Type, at: usize },
+    Ends,
+    Refused(Refusal),
+}
+
+pub fn shape_of(kind: u32) -> Shape
+    ensures { λ r. ⌜ r ≡ shapeOf kind ⌝ }
+{
+    match kind {
+        0x01 => Shape::Array,
+        0x02 => Shape::Structure,
+        0x04 => Shape::Enumeration,
+        0x06 => Shape::Subroutine,
+        0x13 => Shape::Structure,
+        0x14 => Shape::Subroutine,
+        0x15 => Shape::Subroutine,
+        0x17 => Shape::Union,
+        0x1f => Shape::PtrToMember,
+        _ => Shape::Other,
+    }
+}
+
+// ---- arrays
+
+// The block of subscripts that is attribute k of the table.
+pub fn subscript_block<'a>(s: &'a [u8], attrs: &[u32], run: Run, k: usize) -> &'a [u8]
+    ensures { λ r. ⌜ now r ≡ subscriptBlock (now (s .entry)) (now (attrs .entry)) run k ⌝ }
+{
+    let attribute = attribute_at(attrs, k);
+    let ends = run.ends;
+    block2(s, attribute.value, ends)
+}
+
+fn counted_fault(key: u32, counted: Counted) -> Fault
+    ensures { λ r. ⌜ r ≡ countedFault key counted ⌝ }
+{
+    match counted {
+        Counted::Are {
+            element: _,
+            dimensions: _,
+        } => Fault::Clear,
+        Counted::Refused(why) => Fault::Refused(placed(why, key)),
+    }
+}
+
+// Attribute j of the run: its subscripts, if it is SubscrData.
+fn subscript_fault(s: &[u8], attrs: &[u32], run: Run, j: usize) -> Fault
+    requires { ⌜ SmallPlace j ⌝ }
+    ensures { λ r. ⌜ r ≡ subscriptFault (now (s .entry)) (now (attrs .entry)) run j ⌝ }
+{
+    let k = run.first as usize + j;
+    let attribute = attribute_at(attrs, k);
+    if attribute.number == SUBSCR_DATA {
+        let ends = run.ends;
+        let e = ends.section;
+        counted_fault(
+            run.key,
+            count_subscripts(subscript_block(s, attrs, run, k), e),
+        )
+    } else {
+        Fault::Clear
+    }
+}
+
+// Every SubscrData is read.
+fn subscripts_fault(s: &[u8], attrs: &[u32], run: Run) -> Fault
+    ensures { λ r. ⌜ r ≡ faultsFrom (subscriptFault (now (s .entry)) (now (attrs .entry)) run) 0 (run .count) ⌝ }
+{
+    let count = run.count as usize;
+    let mut j: usize = 0;
+    while j < count {
+        match subscript_fault(s, attrs, run, j) {
+            Fault::Clear => {
+                j += 1;
+            }
+            Fault::Refused(why) => return Fault::Refused(why),
+        }
+    }
+    Fault::Clear
+}
+
+fn prepare_last(s: &[u8], attrs: &[u32], run: Run, k: usize) -> Prepared
+    ensures { λ r. ⌜ r ≡ preparedLast (now (s .entry)) (now (attrs .entry)) run k ⌝ }
+{
+    let ends = run.ends;
+    let e = ends.section;
+    match count_subscripts(subscript_block(s, attrs, run, k), e) {
+        Counted::Are {
+            element,
+            dimensions: _,
+        } => Prepared::Element { of: element, at: k },
+        Counted::Refused(why) => Prepared::Refused(placed(why, run.key)),
+    }
+}
+
+// The last SubscrData counts; one is needed.
+fn prepare_array(s: &[u8], attrs: &[u32], run: Run) -> Prepared
+    ensures { λ r. ⌜ r ≡ preparedArray (now (s .entry)) (now (attrs .entry)) run ⌝ }
+{
+    match subscripts_fault(s, attrs, run) {
+        Fault::Clear => {
+            match last_from(attrs, run.first, run.count, Sought::Number(SUBSCR_DATA)) {
+                Found::At(k) => prepare_last(s, attrs, run, k),
+                Found::Nothing => Prepared::Refused(refused(Reason::Missing, run.key)),
+            }
+        }
+        Fault::Refused(why) => Prepared::Refused(why),
+    }
+}
+
+// ---- structures and classes
+
+// A child: a member must be read whole, any other is passed over.
+fn member_fault(
+    s: &[u8],
+    settings: Settings,
+    rows: &[u32],
+    attrs: &[u32],
+    n: usize,
+    c: usize,
+) -> Fault
+    requires { ⌜ Asked (now rows) n c ⌝ }
+    ensures { λ r. ⌜ r ≡ memberFault settings (now (s .entry)) (now (rows .entry)) (now (attrs .entry)) n c ⌝ }
+{
+    let row = row_at(rows, c);
+    if row.kind == 0x0d {
+        match member_at(s, settings, rows, attrs, n, c) {
+            MemberRead::Is(_) => Fault::Clear,
+            MemberRead::Refused(why) => Fault::Refused(why),
+        }
+    } else {
+        Fault::Clear
+    }
+}
+
+// The children of row i, whose walk ends, one at a time.
+fn members_fault(
+    s: &[u8],
+    settings: Settings,
+    rows: &[u32],
+    attrs: &[u32],
+    n: usize,
+    i: usize,
+) -> Fault
+    requires { ⌜ EndsAt (settings .endian) (now s) (now rows) (now attrs) n i ⌝ }
+    ensures { λ r. ⌜ r ≡ membersFault settings (now (s .entry)) (now (rows .entry)) (now (attrs .entry)) n (kidsOf (settings .endian) (now (s .entry)) (now (rows .entry)) (now (attrs .entry)) n i) ⌝ }
+{
+    let e = settings.endian;
+    let end = sibling_row(s, e, rows, attrs, n, i);
+    let mut c = child_from(s, e, rows, attrs, n, end, next_row(rows, n, i));
+    while c < n {
+        match member_fault(s, settings, rows, attrs, n, c) {
+            Fault::Clear => {
+                c = child_from(
+                    s,
+                    e,
+                    rows,
+                    attrs,
+                    n,
+                    end,
+                    sibling_row(s, e, rows, attrs, n, c),
+                );
+            }
+            Fault::Refused(why) => return Fault::Refused(why),
+        }
+    }
+    Fault::Clear
+}
+
+// 9 where the walk never ends.
+pub fn structure_fault(
+    s: &[u8],
+    settings: Settings,
+    rows: &[u32],
+    attrs: &[u32],
+    n: usize,
+    i: usize,
+) -> Fault
+    requires { ⌜ Asked (now rows) n i ⌝ }
+    ensures { λ r. ⌜ r ≡ structureFault settings (now (s .entry)) (now (rows .entry)) (now (attrs .entry)) n i ⌝ }
+{
+    let e = settings.endian;
+    let row = row_at(rows, i);
+    match count_children(s, e, rows, attrs, n, i) {
+        Kids::Count(_) => members_fault(s, settings, rows, attrs, n, i),
+        Kids::Endless => Fault::Refused(refused(Reason::Link, row.key)),
+    }
+}
+
+// ByteSize, or else the largest member end.
+fn prepare_structure(
+    s: &[u8],
+    settings: Settings,
+    rows: &[u32],
+    attrs: &[u32],
+    n: usize,
+    i: usize,
+) -> Prepared
+    requires { ⌜ Asked (now rows) n i ⌝ }
+    ensures { λ r. ⌜ r ≡ preparedStructure settings (now (s .entry)) (now (rows .entry)) (now (attrs .entry)) n i ⌝ }
+{
+    match structure_fault(s, settings, rows, attrs, n, i) {
+        Fault::Clear => {
+            let e = settings.endian;
+            let run = run_of(e, rows, i);
+            match last_word(s, attrs, run, BYTE_SIZE) {
+                Word::Is(size) => Prepared::Size(size),
+                Word::Nothing => Prepared::Ends,
+            }
+        }
+        Fault::Refused(why) => Prepared::Refused(why),
+    }
+}
+
+// ---- the others: read whole
+
+fn prepare_enumeration(
+    s: &[u8],
+    settings: Settings,
+    rows: &[u32],
+    attrs: &[u32],
+    n: usize,
+    i: usize,
+) -> Prepared
+    requires { ⌜ AskedShort (now s) (now rows) n i ⌝ }
+    ensures { λ r. ⌜ r ≡ preparedEnumeration (enumerationAt settings (now (s .entry)) (now (rows .entry)) (now (attrs .entry)) n i) ⌝ }
+{
+    match enumeration_at(s, settings, rows, attrs, n, i) {
+        EnumerationWhole::Is(found) => Prepared::Size(found.byte_size),
+        EnumerationWhole::Refused(why) => Prepared::Refused(why),
+    }
+}
+
+fn prepare_union(
+    s: &[u8],
+    settings: Settings,
+    rows: &[u32],
+    attrs: &[u32],
+    n: usize,
+    i: usize,
+) -> Prepared
+    requires { ⌜ Asked (now rows) n i ⌝ }
+    ensures { λ r. ⌜ r ≡ preparedUnion (unionAt settings (now (s .entry)) (now (rows .entry)) (now (attrs .entry)) n i) ⌝ }
+{
+    match union_at(s, settings, rows, attrs, n, i) {
+        UnionWhole::Is(found) => Prepared::Size(found.byte_size),
+        UnionWhole::Refused(why) => Prepared::Refused(why),
+    }
+}
+
+fn prepare_pointer(
+    s: &[u8],
+    settings: Settings,
+    rows: &[u32],
+    attrs: &[u32],
+    n: usize,
+    i: usize,
+) -> Prepared
+    requires { ⌜ Asked (now rows) n i ⌝ }
+    ensures { λ r. ⌜ r ≡ preparedPointer (ptrAt settings (now (s .entry)) (now (rows .entry)) (now (attrs .entry)) n i) ⌝ }
+{
+    match ptr_to_member_at(s, settings, rows, attrs, n, i) {
+        PtrToMemberRead::Is(_) => Prepared::Size(4),
+        PtrToMemberRead::Refused(why) => Prepared::Refused(why),
+    }
+}
+
+// Row i of a tested table.
+pub fn prepare_row(
+    s: &[u8],
+    settings: Settings,
+    rows: &[u32],
+    attrs: &[u32],
+    n: usize,
+    i: usize,
+) -> Prepared
+    requires { ⌜ AskedShort (now s) (now rows) n i ⌝ }
+    ensures { λ r. ⌜ r ≡ preparedRow settings (now (s .entry)) (now (rows .entry)) (now (attrs .entry)) n i ⌝ }
+{
+    let row = row_at(rows, i);
+    match shape_of(row.kind) {
+        Shape::Array => {
+            let e = settings.endian;
+            prepare_array(s, attrs, run_of(e, rows, i))
+        }
+        Shape::Structure => prepare_structure(s, settings, rows, attrs, n, i),
+        Shape::Enumeration => prepare_enumeration(s, settings, rows, attrs, n, i),
+        Shape::Union => prepare_union(s, settings, rows, attrs, n, i),
+        Shape::PtrToMember => prepare_pointer(s, settings, rows, attrs, n, i),
+        Shape::Subroutine => Prepared::Size(0),
+        Shape::Other => Prepared::Refused(refused(Reason::Kind, row.key)),
+    }
+}

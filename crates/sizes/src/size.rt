@@ -1,0 +1,354 @@
+// The size of a type and of the entry it names: they call each other, and the levels that are left fall from an entry to those it names. `known` are sizes that are
+// known already, for calls that take many; it is empty for none, and then nothing but the levels bounds the calls.
+use crate::known::known_at;
+use crate::prepare::Prepared;
+use crate::prepare::prepare_row;
+use crate::prepare::subscript_block;
+use crate::product::product_of;
+use crate::sized::Sized;
+use blocks::types::Type;
+use blocks::types::TypeKind;
+use format::fund_type::order_of;
+use format::limits::DEPTH_LIMIT;
+use format::refusal::Reason;
+use format::refusal::Refusal;
+use format::settings::Settings;
+use links::kids::child_from;
+use links::link::next_row;
+use links::link::sibling_row;
+use records::fields::Word;
+use records::member::Member;
+use records::member::MemberRead;
+use records::member::member_at;
+use records::scan::refused;
+use records::scan::run_of;
+use tables::check::Check;
+use tables::check::check_table;
+use tables::find::Found;
+use tables::find::find_row;
+use tables::row::Counts;
+use tables::row::row_at;
+ghost use mathlib.Core.Path.{_≡_};
+ghost use lib.ListN.{getD};
+ghost use Rattle.format.specs.Lookup.{indexOf};
+ghost use Rattle.format.specs.FundType.{fundTypes};
+ghost use Rattle.links.specs.ChildrenWays.{Asked};
+ghost use Rattle.links.specs.Kids.{kidsOf};
+ghost use Rattle.records.specs.EnumerationWays.{AskedShort};
+ghost use Rattle.sizes.specs.Size.{entryAt, sizeOfKey, sizeOfType};
+ghost use Rattle.sizes.specs.SizeWays.{Ready, EndsShort, partOf, childPart, grown, arrayProduct, childEnd, endsOver, entryFrom, typeFrom};
+
+// How a child adds to a structure: with its own size or its type's; a child that is no member adds nothing.
+pub enum ChildPart {
+    Whole { offset: u32, size: u32 },
+    Typed { offset: u32, of: Type },
+    Other,
+    Refused(Refusal),
+}
+
+fn fundamental_size(sizes: &[u32], number: u16) -> u32
+    ensures { λ r. ⌜ r ≡ getD (now (sizes .entry)) (indexOf number fundTypes) 0 ⌝ }
+{
+    let k = order_of(number);
+    if k < sizes.len() { sizes[k] } else { 0 }
+}
+
+fn part_of(member: Member) -> ChildPart
+    ensures { λ r. ⌜ r ≡ partOf member ⌝ }
+{
+    let size = member.byte_size;
+    let of = member.of;
+    match size {
+        Word::Is(size) => ChildPart::Whole {
+            offset: member.offset,
+            size,
+        },
+        Word::Nothing => ChildPart::Typed {
+            offset: member.offset,
+            of,
+        },
+    }
+}
+
+pub fn child_part(
+    s: &[u8],
+    settings: Settings,
+    rows: &[u32],
+    attrs: &[u32],
+    n: usize,
+    c: usize,
+) -> ChildPart
+    requires { ⌜ Asked (now rows) n c ⌝ }
+    ensures { λ r. ⌜ r ≡ childPart settings (now (s .entry)) (now (rows .entry)) (now (attrs .entry)) n c ⌝ }
+{
+    let row = row_at(rows, c);
+    if row.kind == 0x0d {
+        match member_at(s, settings, rows, attrs, n, c) {
+            MemberRead::Is(member) => part_of(member),
+            MemberRead::Refused(why) => ChildPart::Refused(why),
+        }
+    } else {
+        ChildPart::Other
+    }
+}
+
+// The largest end so far and that of a member at row c: 20 past 32 bits, at the member.
+pub fn grown(rows: &[u32], c: usize, largest: u32, offset: u32, size: u32) -> Sized
+    ensures { λ r. ⌜ r ≡ grown (now (rows .entry)) c largest offset size ⌝ }
+{
+    let end = offset as u64 + size as u64;
+    if end > 0xffff_ffff {
+        let row = row_at(rows, c);
+        return Sized::Refused(refused(Reason::Big, row.key));
+    }
+    if largest as u64 <= end {
+        Sized::Is(end as u32)
+    } else {
+        Sized::Is(largest)
+    }
+}
+
+// The element's size times the dimensions of attribute `at`.
+fn array_product(
+    s: &[u8],
+    settings: Settings,
+    rows: &[u32],
+    attrs: &[u32],
+    i: usize,
+    at: usize,
+    size: u32,
+) -> Sized
+    ensures { λ r. ⌜ r ≡ arrayProduct settings (now (s .entry)) (now (rows .entry)) (now (attrs .entry)) i at size ⌝ }
+{
+    let e = settings.endian;
+    let run = run_of(e, rows, i);
+    let block = subscript_block(s, attrs, run, at);
+    product_of(block, e, run.key, size)
+}
+
+// The size of a type.
+pub fn type_size(
+    s: &[u8],
+    settings: Settings,
+    sizes: &[u32],
+    rows: &[u32],
+    attrs: &[u32],
+    n: usize,
+    known: &[u64],
+    levels: usize,
+    of: Type,
+) -> Sized
+    requires { ⌜ Ready (now s) (now rows) n ⌝ }
+    ensures { λ r. ⌜ r ≡ typeFrom settings (now (sizes .entry)) (now (s .entry)) (now (rows .entry)) (now (attrs .entry)) n (now (known .entry)) levels of ⌝ }
+{
+    if of.pointer {
+        return Sized::Is(4);
+    }
+    let kind = of.kind;
+    match kind {
+        TypeKind::Fundamental(number) => Sized::Is(fundamental_size(sizes, number)),
+        TypeKind::UserDefined(key) => {
+            entry_size(s, settings, sizes, rows, attrs, n, known, levels, key)
+        }
+    }
+}
+
+// The size of the entry that has a key: 11 where there is none, 10 where no level is left.
+pub fn entry_size(
+    s: &[u8],
+    settings: Settings,
+    sizes: &[u32],
+    rows: &[u32],
+    attrs: &[u32],
+    n: usize,
+    known: &[u64],
+    levels: usize,
+    key: u32,
+) -> Sized
+    requires { ⌜ Ready (now s) (now rows) n ⌝ }
+    ensures { λ r. ⌜ r ≡ entryFrom settings (now (sizes .entry)) (now (s .entry)) (now (rows .entry)) (now (attrs .entry)) n (now (known .entry)) levels key ⌝ }
+{
+    match find_row(rows, n, key) {
+        Found::At(i) => {
+            if known.len() > 0 {
+                return known_at(known, i);
+            }
+            if levels == 0 {
+                return Sized::Refused(refused(Reason::Depth, key));
+            }
+            row_size(s, settings, sizes, rows, attrs, n, known, levels - 1, i)
+        }
+        Found::Nothing => Sized::Refused(refused(Reason::Entry, key)),
+    }
+}
+
+// The size of row i; the entries that it names have so many levels left.
+pub fn row_size(
+    s: &[u8],
+    settings: Settings,
+    sizes: &[u32],
+    rows: &[u32],
+    attrs: &[u32],
+    n: usize,
+    known: &[u64],
+    levels: usize,
+    i: usize,
+) -> Sized
+    requires { ⌜ AskedShort (now s) (now rows) n i ⌝ }
+    ensures { λ r. ⌜ r ≡ entryAt settings (now (s .entry)) (now (rows .entry)) (now (attrs .entry)) n (typeFrom settings (now (sizes .entry)) (now (s .entry)) (now (rows .entry)) (now (attrs .entry)) n (now (known .entry)) levels) i ⌝ }
+{
+    match prepare_row(s, settings, rows, attrs, n, i) {
+        Prepared::Size(size) => Sized::Is(size),
+        Prepared::Element { of, at } => {
+            match type_size(s, settings, sizes, rows, attrs, n, known, levels, of) {
+                Sized::Is(size) => array_product(s, settings, rows, attrs, i, at, size),
+                Sized::Refused(why) => Sized::Refused(why),
+            }
+        }
+        Prepared::Ends => ends_size(s, settings, sizes, rows, attrs, n, known, levels, i),
+        Prepared::Refused(why) => Sized::Refused(why),
+    }
+}
+
+// The largest end so far with that of child c.
+fn child_end(
+    s: &[u8],
+    settings: Settings,
+    sizes: &[u32],
+    rows: &[u32],
+    attrs: &[u32],
+    n: usize,
+    known: &[u64],
+    levels: usize,
+    c: usize,
+    largest: u32,
+) -> Sized
+    requires { ⌜ AskedShort (now s) (now rows) n c ⌝ }
+    ensures { λ r. ⌜ r ≡ childEnd settings (now (s .entry)) (now (rows .entry)) (now (attrs .entry)) n (typeFrom settings (now (sizes .entry)) (now (s .entry)) (now (rows .entry)) (now (attrs .entry)) n (now (known .entry)) levels) largest c ⌝ }
+{
+    match child_part(s, settings, rows, attrs, n, c) {
+        ChildPart::Whole { offset, size } => grown(rows, c, largest, offset, size),
+        ChildPart::Typed { offset, of } => {
+            match type_size(s, settings, sizes, rows, attrs, n, known, levels, of) {
+                Sized::Is(size) => grown(rows, c, largest, offset, size),
+                Sized::Refused(why) => Sized::Refused(why),
+            }
+        }
+        ChildPart::Other => Sized::Is(largest),
+        ChildPart::Refused(why) => Sized::Refused(why),
+    }
+}
+
+// The largest member end of row i, whose child walk ends.
+fn ends_size(
+    s: &[u8],
+    settings: Settings,
+    sizes: &[u32],
+    rows: &[u32],
+    attrs: &[u32],
+    n: usize,
+    known: &[u64],
+    levels: usize,
+    i: usize,
+) -> Sized
+    requires { ⌜ EndsShort settings (now s) (now rows) (now attrs) n i ⌝ }
+    ensures { λ r. ⌜ r ≡ endsOver settings (now (s .entry)) (now (rows .entry)) (now (attrs .entry)) n (typeFrom settings (now (sizes .entry)) (now (s .entry)) (now (rows .entry)) (now (attrs .entry)) n (now (known .entry)) levels) 0 (kidsOf (settings .endian) (now (s .entry)) (now (rows .entry)) (now (attrs .entry)) n i) ⌝ }
+{
+    let e = settings.endian;
+    let end = sibling_row(s, e, rows, attrs, n, i);
+    let mut c = child_from(s, e, rows, attrs, n, end, next_row(rows, n, i));
+    let mut largest: u32 = 0;
+    while c < n {
+        match child_end(
+            s,
+            settings,
+            sizes,
+            rows,
+            attrs,
+            n,
+            known,
+            levels,
+            c,
+            largest,
+        ) {
+            Sized::Is(next) => {
+                largest = next;
+                c = child_from(
+                    s,
+                    e,
+                    rows,
+                    attrs,
+                    n,
+                    end,
+                    sibling_row(s, e, rows, attrs, n, c),
+                );
+            }
+            Sized::Refused(why) => return Sized::Refused(why),
+        }
+    }
+    Sized::Is(largest)
+}
+
+// The size of a key's entry, which is depth 1.
+pub fn size_of_key(
+    s: &[u8],
+    settings: Settings,
+    vendors: &[u16],
+    sizes: &[u32],
+    rows: &[u32],
+    attrs: &[u32],
+    counts: Counts,
+    key: u32,
+) -> Sized
+    ensures { λ r. ⌜ r ≡ sizeOfKey settings (now (vendors .entry)) (now (sizes .entry)) (now (s .entry)) (now (rows .entry)) (now (attrs .entry)) counts key ⌝ }
+{
+    match check_table(s, settings, vendors, sizes, rows, attrs, counts) {
+        Check::Passed => {
+            let known = [0u64; 0];
+            entry_size(
+                s,
+                settings,
+                sizes,
+                rows,
+                attrs,
+                counts.rows,
+                &known,
+                DEPTH_LIMIT,
+                key,
+            )
+        }
+        Check::Refused(why) => Sized::Refused(why),
+    }
+}
+
+// The size of a type; an entry that it names is depth 1.
+pub fn size_of_type(
+    s: &[u8],
+    settings: Settings,
+    vendors: &[u16],
+    sizes: &[u32],
+    rows: &[u32],
+    attrs: &[u32],
+    counts: Counts,
+    of: Type,
+) -> Sized
+    ensures { λ r. ⌜ r ≡ sizeOfType settings (now (vendors .entry)) (now (sizes .entry)) (now (s .entry)) (now (rows .entry)) (now (attrs .entry)) counts of ⌝ }
+{
+    match check_table(s, settings, vendors, sizes, rows, attrs, counts) {
+        Check::Passed => {
+            let known = [0u64; 0];
+            type_size(
+                s,
+                settings,
+                sizes,
+                rows,
+                attrs,
+                counts.rows,
+                &known,
+                DEPTH_LIMIT,
+                of,
+            )
+        }
+        Check::Refused(why) => Sized::Refused(why),
+    }
+}
