@@ -1,4 +1,4 @@
--- Sizes and layouts (document 01, 'Types, records, sizes'). What must be believed: `Size`.
+-- Sizes (document 01, 'Types, records, sizes'). What must be believed: `Size`.
 pub mod Size
 -- How the code goes about it: `Known` are sizes that are known already.
 pub mod Known
