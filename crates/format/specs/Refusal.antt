@@ -1,5 +1,6 @@
 -- The refusal numbers of document 01.
-use Prim.Native.Nat.{ℕ}
+use Prim.Native.Nat.{ℕ, _≤_, _<_}
+use native.Mathlib.Omega.{arith}
 use mathlib.Core.Path.{_≡_, refl}
 use mathlib.Core.List.{List, [], _∷_}
 use Rattle.format.specs.Lookup.{Line, _means_, lookup}
@@ -79,3 +80,27 @@ reason-of-number Block = refl
 reason-of-number Number = refl
 reason-of-number Bound = refl
 reason-of-number Big = refl
+
+-- no reason's number is 0, and each is small
+pub number-some : (why : Reason) → (0 < numberOf why) × (numberOf why ≤ 20)
+unfolding numberOf
+number-some Settings = ((omega arith), (omega arith))
+number-some Long = ((omega arith), (omega arith))
+number-some Table = ((omega arith), (omega arith))
+number-some Short = ((omega arith), (omega arith))
+number-some Tag = ((omega arith), (omega arith))
+number-some Attribute = ((omega arith), (omega arith))
+number-some Nested = ((omega arith), (omega arith))
+number-some Room = ((omega arith), (omega arith))
+number-some Link = ((omega arith), (omega arith))
+number-some Depth = ((omega arith), (omega arith))
+number-some Entry = ((omega arith), (omega arith))
+number-some Kind = ((omega arith), (omega arith))
+number-some Extra = ((omega arith), (omega arith))
+number-some Form = ((omega arith), (omega arith))
+number-some Missing = ((omega arith), (omega arith))
+number-some Child = ((omega arith), (omega arith))
+number-some Block = ((omega arith), (omega arith))
+number-some Number = ((omega arith), (omega arith))
+number-some Bound = ((omega arith), (omega arith))
+number-some Big = ((omega arith), (omega arith))

@@ -1,6 +1,6 @@
 -- What follows from `Kids`: a walk that ends also ends from each row that it meets, so that its children can be taken one at a time.
 use Prim.Native.Nat.{ℕ, zero, suc, _+_, _≤_, _<_}
-use native.Mathlib.Nat.{le-refl, lt-of-not-le, not-suc-le-zero}
+use native.Mathlib.Nat.{le-refl, le-trans, lt-of-not-le, not-suc-le-zero}
 use native.Mathlib.Decide.{decLe}
 use native.Mathlib.Omega.{arith}
 use mathlib.Core.Path.{_≡_, refl, sym, ap, _∙_, subst}
@@ -302,3 +302,30 @@ module _ (e : Endian) (s rows attrs : List ℕ) (n i : ℕ) where
 
     pub endless-walk : told ≡ Endless → childWalk e s rows attrs n i ≡ endless
     endless-walk p = endless-by rows _ is p
+
+-- ---- how many children there are at most
+
+few-met : (c : ℕ) (w : Walk) → length (rowsMet (meets c w)) ≤ suc (length (rowsMet w))
+unfolding meets rowsMet
+few-met c (ends cs) = omega arith
+few-met c endless = omega arith
+
+few-walked : (n : ℕ) (next : ℕ → ℕ) (end turns c : ℕ) → length (rowsMet (walkFrom n next end turns c)) ≤ turns
+unfolding walkFrom rowsMet
+few-walked n next end zero c = cond-all (λ (w : Walk). length (rowsMet w) ≤ 0) (stops n next end c) (λ t. omega arith) (λ t. omega arith)
+few-walked n next end (suc turns) c =
+    cond-all (λ (w : Walk). length (rowsMet w) ≤ suc turns) (stops n next end c) (λ t. omega arith)
+    (λ t. (let here : length (rowsMet (meets c (walkFrom n next end turns (next c)))) ≤ suc (length (rowsMet (walkFrom n next end turns (next c)))) = few-met c (walkFrom n next end turns (next c)) in
+    let rest : length (rowsMet (walkFrom n next end turns (next c))) ≤ turns = few-walked n next end turns (next c) in
+    omega arith))
+
+few-kept : (rows cs : List ℕ) → length (nonNull rows cs) ≤ length cs
+unfolding nonNull
+few-kept rows [] = omega arith
+few-kept rows (c ∷ cs) =
+    let rest : length (nonNull rows cs) ≤ length cs = few-kept rows cs in
+    cond-all (λ (xs : List ℕ). length xs ≤ suc (length cs)) (nullRow rows c) (λ t. omega arith) (λ t. omega arith)
+
+pub few-kids : (e : Endian) (s rows attrs : List ℕ) (n end c : ℕ) → length (kidsFrom e s rows attrs n end c) ≤ n
+unfolding kidsFrom walkOn
+few-kids e s rows attrs n end c = le-trans (few-kept rows _) (few-walked n (λ d. siblingRow e s rows attrs n d) end n c)

@@ -6,10 +6,10 @@ use native.Mathlib.Decide.{decLe}
 use native.Mathlib.Omega.{arith}
 use mathlib.Core.Path.{_≡_, refl, sym, ap, _∙_}
 use mathlib.Core.Logic.{_≢_}
-use mathlib.Core.List.{List, [], _∷_, _++_, append-nil}
-use lib.ListN.{length, getD, take, drop, set, length-append, length-set, length-drop, take-append-drop, drop-of-length-le}
-use lib.Seq.{set-comm, drop-set-add, take-set-le, drop-cons, sets, length-sets, take-all}
-use Rattle.tables.specs.Flat.{sets-append, sets-out}
+use mathlib.Core.List.{List, [], _∷_, _++_}
+use lib.ListN.{length, getD, take, drop, set, length-append, length-set, drop-of-length-le}
+use lib.Seq.{set-comm, drop-cons, sets, length-sets}
+use Rattle.tables.specs.Flat.{sets-append, sets-out, sets-rest}
 use Rattle.listing.specs.Put.{Put}
 
 -- nothing is written where a text is empty
@@ -44,27 +44,12 @@ text-done l text i h = rw (drop-of-length-le text h)
 
 -- ---- the rest of a line
 
--- what is stored in the rest is stored in the line, from the rest's place on
-sets-skip : (l : List ℕ) (n i : ℕ) (xs : List ℕ) → take n l ++ sets (drop n l) i xs ≡ sets l (n + i) xs
-sets-skip l n i [] = take-append-drop n l
-sets-skip l n i (x ∷ xs) =
-    let far : n ≤ n + i = omega arith in
-    let next : n + suc i ≡ suc (n + i) = omega arith in
-    rw (← drop-set-add n l i x, ← take-set-le n l (n + i) x far) (sets-skip (set l (n + i) x) n (suc i) xs) ∙ ap (λ (k : ℕ). sets (set l (n + i) x) k xs) next
-
--- the lent part is all of the rest
-rest-is : (l : List ℕ) (n : ℕ) → take (length l - n) (drop n l) ≡ drop n l
-rest-is l n = take-all (length l - n) (drop n l) (omega (arith, length-drop n l))
-
-rest-ends : (l : List ℕ) (n : ℕ) → drop (length l - n) (drop n l) ≡ []
-rest-ends l n = drop-of-length-le (drop n l) {i = length l - n} (omega (arith, length-drop n l))
-
 -- the rest begins at its place, or at the end where that lies past it
-rest-place : (l : List ℕ) (at : ℕ) (text : List ℕ) → sets l (min at (length l) + 0) text ≡ sets l at text
+rest-place : (l : List ℕ) (at : ℕ) (text : List ℕ) → sets l (min at (length l)) text ≡ sets l at text
 rest-place l at text =
     elim (decLe at (length l)) [
-      | yes h ↦ let e : min at (length l) + 0 ≡ at = omega arith in ap (λ (k : ℕ). sets l k text) e
-      | no h ↦ sets-out l (min at (length l) + 0) text (omega arith) ∙ sym (sets-out l at text (omega arith))
+      | yes h ↦ let e : min at (length l) ≡ at = omega arith in ap (λ (k : ℕ). sets l k text) e
+      | no h ↦ sets-out l (min at (length l)) text (omega arith) ∙ sym (sets-out l at text (omega arith))
     ]
 
 -- a field written into the lent rest of a line is written into the line
@@ -74,9 +59,7 @@ put-rest text l at {n} {m} {part} e f =
     record {
       place-is = omega (arith, f .place-is);
       bytes-are =
-          rw (rest-ends l n, append-nil part, f .bytes-are, rest-is l n) (sets-skip l n 0 text)
-          ∙ ap (λ (k : ℕ). sets l (k + 0) text) e
-          ∙ rest-place l at text;
+          sets-rest l n text (f .bytes-are) ∙ ap (λ (k : ℕ). sets l k text) e ∙ rest-place l at text;
     }
 
 -- a text changes no length

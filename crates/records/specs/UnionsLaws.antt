@@ -1,6 +1,6 @@
 -- What follows from `Unions` and its ways, for each way that the code comes to an answer.
-use Prim.Native.Nat.{ℕ, zero, suc, _+_, _*_, _/_, _≤_, _<_}
-use native.Mathlib.Nat.{add-zero, zero-add, le-trans}
+use Prim.Native.Nat.{ℕ, suc, _+_, _*_, _/_, _≤_, _<_}
+use native.Mathlib.Nat.{add-zero, zero-add}
 use native.Mathlib.Omega.{arith}
 use mathlib.Core.Path.{_≡_, refl, sym, ap, ap₂, _∙_, subst}
 use mathlib.Core.Bool.{Bool, true, false, cond, _||_}
@@ -9,7 +9,6 @@ use lib.ListN.{length}
 use lib.Seq.{sets, length-sets}
 use lib.Dec.{eqb, leb}
 use borrow.Author.Tests.{eq-eqb, ne-eqb, le-leb, lt-leb}
-use Rattle.numbers.specs.Tests.{cond-all}
 use Rattle.numbers.specs.declared.Endian.{Endian}
 use Rattle.format.specs.AttributeKind as attribute
 use Rattle.format.specs.TagKind as tag
@@ -24,10 +23,10 @@ use Rattle.tables.specs.Flat.{sets-append}
 use Rattle.tables.specs.Check.{refusedAt}
 use Rattle.tables.specs.declared.row.Row.{Row}
 use Rattle.tables.specs.declared.row.Counts.{Counts}
-use Rattle.links.specs.Walk.{Walk, ends, endless, meets, stops, walkFrom}
-use Rattle.links.specs.Links.{siblingRow, nextRow, childWalk, nullRow, nonNull, AtRow}
-use Rattle.links.specs.Kids.{rowsMet, walkOn, kidsFrom, kidsOf, Ends, firstOr}
-use Rattle.links.specs.KidsLaws.{kids-more, ends-more, kids-none, kids-same, ends-same, first-same, kids-at, ends-at, counted-ends, counted-walk, walk-kids, endless-walk}
+use Rattle.links.specs.Walk.{ends}
+use Rattle.links.specs.Links.{siblingRow, nextRow, childWalk, AtRow}
+use Rattle.links.specs.Kids.{rowsMet, kidsFrom, kidsOf, Ends, firstOr}
+use Rattle.links.specs.KidsLaws.{few-kids, kids-more, ends-more, kids-none, kids-same, ends-same, first-same, kids-at, ends-at, counted-ends, counted-walk, walk-kids, endless-walk}
 use Rattle.links.specs.ChildrenWays.{filled, Asked}
 use Rattle.links.specs.Typed.{inRow}
 use Rattle.links.specs.TypedLaws.{in-row, no-row}
@@ -178,33 +177,6 @@ module _ (settings : Settings) (s rows attrs : List ℕ) (n key c k : ℕ) (room
           one-more = refused-most;
           same-room = refl;
         }
-
--- ---- how many children there are at most
-
-few-met : (c : ℕ) (w : Walk) → length (rowsMet (meets c w)) ≤ suc (length (rowsMet w))
-unfolding meets rowsMet
-few-met c (ends cs) = omega arith
-few-met c endless = omega arith
-
-few-walked : (n : ℕ) (next : ℕ → ℕ) (end turns c : ℕ) → length (rowsMet (walkFrom n next end turns c)) ≤ turns
-unfolding walkFrom rowsMet
-few-walked n next end zero c = cond-all (λ (w : Walk). length (rowsMet w) ≤ 0) (stops n next end c) (λ t. omega arith) (λ t. omega arith)
-few-walked n next end (suc turns) c =
-    cond-all (λ (w : Walk). length (rowsMet w) ≤ suc turns) (stops n next end c) (λ t. omega arith)
-    (λ t. (let here : length (rowsMet (meets c (walkFrom n next end turns (next c)))) ≤ suc (length (rowsMet (walkFrom n next end turns (next c)))) = few-met c (walkFrom n next end turns (next c)) in
-    let rest : length (rowsMet (walkFrom n next end turns (next c))) ≤ turns = few-walked n next end turns (next c) in
-    omega arith))
-
-few-kept : (rows cs : List ℕ) → length (nonNull rows cs) ≤ length cs
-unfolding nonNull
-few-kept rows [] = omega arith
-few-kept rows (c ∷ cs) =
-    let rest : length (nonNull rows cs) ≤ length cs = few-kept rows cs in
-    cond-all (λ (xs : List ℕ). length xs ≤ suc (length cs)) (nullRow rows c) (λ t. omega arith) (λ t. omega arith)
-
-few-kids : (e : Endian) (s rows attrs : List ℕ) (n end c : ℕ) → length (kidsFrom e s rows attrs n end c) ≤ n
-unfolding kidsFrom walkOn
-few-kids e s rows attrs n end c = le-trans (few-kept rows _) (few-walked n (λ d. siblingRow e s rows attrs n d) end n c)
 
 -- ---- the loop: what is left comes to the whole
 

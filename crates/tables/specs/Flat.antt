@@ -1,12 +1,12 @@
 -- Things of so many words each, one after the other in a table: what holds of rows and of attributes alike. `RowLaws` says it of each.
-use Prim.Native.Nat.{ℕ, zero, suc, _+_, _*_, _≤_, _<_}
+use Prim.Native.Nat.{ℕ, zero, suc, _+_, _-_, _*_, _≤_, _<_}
 use native.Mathlib.Nat.{le-refl, add-zero, add-mul, zero-mul, suc-mul, ne-of-lt}
 use native.Mathlib.Numerals.{add-one}
 use native.Mathlib.Omega.{arith}
 use mathlib.Core.Path.{_≡_, refl, sym, ap, ap₂, _∙_}
-use mathlib.Core.List.{List, [], _∷_, _++_, append-assoc}
-use lib.ListN.{length, getD, take, drop, set, length-append, List·getD-append}
-use lib.Seq.{set-out, getD-set-other, getD-append-add, length-take-le, sets, length-sets, sets-eq}
+use mathlib.Core.List.{List, [], _∷_, _++_, append-nil, append-assoc}
+use lib.ListN.{length, getD, take, drop, set, length-append, length-drop, take-append-drop, drop-of-length-le, List·getD-append}
+use lib.Seq.{set-out, drop-set-add, take-set-le, take-all, getD-set-other, getD-append-add, length-take-le, sets, length-sets, sets-eq}
 
 -- ---- runs of stores
 
@@ -27,6 +27,11 @@ pub sets-before : (t : List ℕ) (i : ℕ) (vs : List ℕ) (k : ℕ) → k < i �
 sets-before t i [] k h = refl
 sets-before t i (v ∷ vs) k h = sets-before (set t i v) (suc i) vs k (omega arith) ∙ getD-set-other t i k v 0 (ne-of-lt h)
 
+-- what lies after a run is as it was
+pub sets-after : (t : List ℕ) (i : ℕ) (vs : List ℕ) (k : ℕ) → i + length vs ≤ k → getD (sets t i vs) k 0 ≡ getD t k 0
+sets-after t i [] k h = refl
+sets-after t i (v ∷ vs) k h = sets-after (set t i v) (suc i) vs k (omega arith) ∙ getD-set-other t i k v 0 (omega arith)
+
 -- a run that fits is read back
 pub sets-back : (t : List ℕ) (i : ℕ) (vs : List ℕ) (k : ℕ) → i + length vs ≤ length t → k < length vs → getD (sets t i vs) (i + k) 0 ≡ getD vs k 0
 sets-back t i vs k h l =
@@ -35,6 +40,23 @@ sets-back t i vs k h l =
     ∙ ap (λ (p : ℕ). getD (take i t ++ (vs ++ drop (i + length vs) t)) (p + k) 0) (sym front)
     ∙ getD-append-add (take i t) (vs ++ drop (i + length vs) t) k 0
     ∙ List·getD-append vs (drop (i + length vs) t) 0 k l
+
+-- ---- a lent rest
+
+sets-skip : (l : List ℕ) (n i : ℕ) (xs : List ℕ) → take n l ++ sets (drop n l) i xs ≡ sets l (n + i) xs
+sets-skip l n i [] = take-append-drop n l
+sets-skip l n i (x ∷ xs) =
+    let far : n ≤ n + i = omega arith in
+    let next : n + suc i ≡ suc (n + i) = omega arith in
+    rw (← drop-set-add n l i x, ← take-set-le n l (n + i) x far) (sets-skip (set l (n + i) x) n (suc i) xs) ∙ ap (λ (k : ℕ). sets (set l (n + i) x) k xs) next
+
+-- what is stored in the rest of a list is stored in the list, from the rest's place on
+pub sets-rest : (l : List ℕ) (n : ℕ) (xs : List ℕ) {part : List ℕ} → part ≡ sets (take (length l - n) (drop n l)) 0 xs
+    → take n l ++ (part ++ drop (length l - n) (drop n l)) ≡ sets l n xs
+sets-rest l n xs {part} p =
+    let rest-is : take (length l - n) (drop n l) ≡ drop n l = take-all (length l - n) (drop n l) (omega (arith, length-drop n l)) in
+    let rest-ends : drop (length l - n) (drop n l) ≡ [] = drop-of-length-le (drop n l) {i = length l - n} (omega (arith, length-drop n l)) in
+    rw (rest-ends, append-nil part, p, rest-is) (sets-skip l n 0 xs) ∙ ap (λ (k : ℕ). sets l k xs) (add-zero n)
 
 -- ---- things of `width` words
 
