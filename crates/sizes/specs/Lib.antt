@@ -1,9 +1,14 @@
--- Sizes (document 01, 'Types, records, sizes'). What must be believed: `Size`.
+-- Sizes and layouts (document 01, 'Types, records, sizes'). What must be believed: `Size`, `Layout` and `All`.
 pub mod Size
+pub mod Layout
+pub mod All
 -- How the code goes about it: `Known` are sizes that are known already.
 pub mod Known
 pub mod Ways
 pub mod SizeWays
+pub mod LevelsWays
+pub mod LayoutWays
+pub mod AllWays
 -- What follows from them, for each way that the code comes to an answer.
 pub mod ProductLaws
 pub mod WalkingLaws
@@ -11,5 +16,15 @@ pub mod PrepareLaws
 pub mod EndsLaws
 pub mod KnownLaws
 pub mod SizeLaws
+pub mod LevelsLaws
+pub mod LayoutLaws
+pub mod AllLaws
+-- Of layouts: where one is given, its members are there; its size is what the size call answers; without ByteSize every member ends at or before it.
+pub mod LayoutFilled
+pub mod LayoutSize
+pub mod LayoutEnds
+-- Of all layouts: each is the one that its key gives, and every structure and class is there once; where they are given, both rooms hold their words.
+pub mod AllEach
+pub mod AllFilled
 -- No second answer fits.
 pub mod Only

@@ -332,7 +332,7 @@ module _ (settings : Settings) (sizes s rows attrs : List ℕ) (n : ℕ) where
   unfolding entrySize typeSize
   entry-more levels key p = ap (foundSize (entryAt settings s rows attrs n (typeSize settings sizes s rows attrs n levels)) key) p
 
-  entry-none : (levels key : ℕ) → rowOfKey rows n key ≡ found.Nothing → entrySize settings sizes s rows attrs n levels key ≡ Refused (refusedAt key reason.Entry)
+  pub entry-none : (levels key : ℕ) → rowOfKey rows n key ≡ found.Nothing → entrySize settings sizes s rows attrs n levels key ≡ Refused (refusedAt key reason.Entry)
   unfolding foundSize
   entry-none zero key p = entry-zero key p
   entry-none (suc levels) key p = entry-more levels key p

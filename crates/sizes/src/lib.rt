@@ -1,7 +1,10 @@
-// Sizes: what the studio needs to be certain of. It stands for the Rust's `Type::size`, `UserDefinedType::size` and `get_udt_by_key`; layouts, an addition, are to
-// follow. `sized` is the answer, `product` an array's, `prepare` what an entry's size takes before any other size is asked for, `known` sizes that are
-// known already, `size` the pair that call each other and the public calls.
+// Sizes: what the studio needs to be certain of. It stands for the Rust's `Type::size`, `UserDefinedType::size` and `get_udt_by_key`; layouts are an
+// addition. `sized` is the answer, `product` an array's, `prepare` what an entry's size takes before any other size is asked for, `known` sizes that are
+// known already, `size` the pair that call each other and the public calls, `layout` one layout, `levels` the sizes of all rows at a bounded cost, `all` every layout.
+pub mod all;
 pub mod known;
+pub mod layout;
+pub mod levels;
 pub mod prepare;
 pub mod product;
 pub mod size;

@@ -1,0 +1,45 @@
+use Rattle.sizes.specs.AllLaws.{all-known}
+use borrow.Author.Needs.{needs}
+use native.Mathlib.Omega.{arith}
+use Prim.Native.Nat.{_*_, _≤_}
+use Rattle.sizes.proofs.all.lay_all.Statement.{statement}
+use Rattle.sizes.proofs.all.lay_all.Tie as tie
+
+slice-aggregate-fill-known : tie.Need-slice-aggregate-fill-known
+slice-aggregate-fill-known c = search needs
+
+slice-aggregate-fill-known-2 : tie.Need-slice-aggregate-fill-known-2
+slice-aggregate-fill-known-2 c = search needs
+
+fill-known-requires : tie.Need-fill-known-requires
+fill-known-requires c κs =
+    let fits : c .before .before .before .before .before .before .before .before .args .n * 3 ≤ 12288 = omega (arith, c .before .before .before .before .before .before .before .before .pre .table .few) in
+    (record { ready = c .before .before .before .before .before .before .before .before .pre; fits = fits }, record { ready = c .before .before .before .before .before .before .before .before .pre; fits = fits })
+
+slice-aggregate-give-layouts : tie.Need-slice-aggregate-give-layouts
+slice-aggregate-give-layouts c = search needs
+
+give-layouts-requires : tie.Need-give-layouts-requires
+give-layouts-requires c κs = search needs
+
+same-length : tie.Need-same-length
+same-length c = search needs
+
+same-length-2 : tie.Need-same-length-2
+same-length-2 c = search needs
+
+returns : tie.Need-returns
+returns c = all-known _ _ _ _ _ _ (c .before .before .before .before .before .before .before .before .before .before .before .before .before .before .before .before .before .before .before .pre) _ (c .before .before .before .before .before .before .before .before .before .before .fill-known .ensures) (search needs) _ _ (c .before .before .before .before .give-layouts .ensures)
+
+pub lay-all-spec : {M : Type 1} → statement M
+lay-all-spec =
+    tie.close
+    (tie.spec
+    slice-aggregate-fill-known
+    slice-aggregate-fill-known-2
+    fill-known-requires
+    slice-aggregate-give-layouts
+    give-layouts-requires
+    same-length
+    same-length-2
+    returns)

@@ -1,0 +1,115 @@
+use Rattle.sizes.specs.AllLaws.{given-asked, refused-asked, puts-other, puts-given, puts-refused}
+use borrow.Author.Tests.{not-true, not-false}
+use borrow.Author.Needs.{needs}
+use native.Mathlib.Omega.{arith}
+use Rattle.sizes.proofs.all.put_row.Statement.{statement}
+use Rattle.sizes.proofs.all.put_row.Tie as tie
+
+row-at-requires : tie.Need-row-at-requires
+row-at-requires c κs = search needs
+
+is-structure-requires : tie.Need-is-structure-requires
+is-structure-requires c κs = search needs
+
+returns : tie.Need-returns
+returns c = puts-other _ _ _ _ _ _ _ (c .before .before .row-at .ensures) (c .before .is-structure .ensures) (c .before .before .before .before .before .before .before .before .before .before .args .counts) (not-true _ (c .if1 .taken))
+
+run-of-requires : tie.Need-run-of-requires
+run-of-requires c κs = search needs
+
+last-name-requires : tie.Need-last-name-requires
+last-name-requires c κs = search needs
+
+slice-aggregate-read-layout : tie.Need-slice-aggregate-read-layout
+slice-aggregate-read-layout c = search needs
+
+read-layout-requires : tie.Need-read-layout-requires
+read-layout-requires c κs = search needs
+
+enum-known-found : tie.Need-enum-known-found
+enum-known-found c = search needs
+
+mul-from : tie.Need-mul-from
+mul-from c = omega (arith, c .before .before .before .before .before .before .before .before .before .before .before .before .before .before .before .before .before .before .pre .counted .few-members, c .before .before .before .before .before .before .before .before .before .before .before .before .before .before .before .before .before .before .pre .counted .asked .asked .there, c .before .before .before .before .before .before .before .before .before .before .before .before .before .before .before .before .before .before .pre .counted .asked .asked .table .few)
+
+mul-read-layout : tie.Need-mul-read-layout
+mul-read-layout c = omega (arith, c .before .before .before .before .before .before .before .before .before .before .before .before .before .before .before .before .before .before .pre .counted .few-members, c .before .before .before .before .before .before .before .before .before .before .before .before .before .before .before .before .before .before .pre .counted .asked .asked .there, c .before .before .before .before .before .before .before .before .before .before .before .before .before .before .before .before .before .before .pre .counted .asked .asked .table .few)
+
+sub-read-layout : tie.Need-sub-read-layout
+sub-read-layout c = c .before .before .before .before .before .before .before .before .before .before .before .before .before .before .before .before .before .before .pre .begins
+
+part-read-layout-start : tie.Need-part-read-layout-start
+part-read-layout-start c = c .before .before .before .before .before .before .before .before .before .before .before .before .before .before .before .before .before .before .pre .begins
+
+part-read-layout-end : tie.Need-part-read-layout-end
+part-read-layout-end c = search needs
+
+read-layout-requires-2 : tie.Need-read-layout-requires-2
+read-layout-requires-2 c κs = c .before .before .before .before .before .before .before .before .before .before .before .before .before .before .before .before .before .before .before .pre .counted .asked
+
+put-structure-requires : tie.Need-put-structure-requires
+put-structure-requires c κs = search needs
+
+one-more-requires : tie.Need-one-more-requires
+one-more-requires c κs = given-asked _ _ _ _ _ _ _ (c .before .before .before .before .before .before .before .before .before .before .before .before .before .before .before .before .before .before .row-at .ensures) (c .before .before .before .before .before .before .before .before .before .before .before .before .before .before .before .before .before .is-structure .ensures) (not-false _ (c .before .before .before .before .before .before .before .before .before .before .before .before .before .before .before .before .if1 .left)) (c .before .before .before .before .before .before .before .before .before .before .before .before .read-layout .ensures .answer-is) (c .before .before .before .before .before .before .before .before .before .before .before .before .before .before .before .before .before .before .before .before .before .before .before .before .before .before .args .counts) (c .before .before .before .before .before .before .before .before .before .found .given .1) (c .before .before .before .before .before .before .before .before .before .before .before .before .before .before .before .before .before .before .before .before .before .before .before .before .before .before .pre .counted)
+
+enum-known-why : tie.Need-enum-known-why
+enum-known-why c = search needs
+
+number-of-requires : tie.Need-number-of-requires
+number-of-requires c κs = search needs
+
+put-structure-requires-2 : tie.Need-put-structure-requires-2
+put-structure-requires-2 c κs = search needs
+
+one-more-requires-2 : tie.Need-one-more-requires-2
+one-more-requires-2 c κs = refused-asked (c .before .before .before .before .before .before .before .before .before .before .before .before .before .before .before .before .before .before .before .before .before .before .before .pre .counted)
+
+same-length : tie.Need-same-length
+same-length c = search needs
+
+same-length-2 : tie.Need-same-length-2
+same-length-2 c = search needs
+
+returns-2 : tie.Need-returns-2
+returns-2 c =
+    puts-given _ _ _ _ _ _ _ (c .before .before .before .before .before .before .before .before .before .before .before .before .before .before .before .before .before .before .before .row-at .ensures) (c .before .before .before .before .before .before .before .before .before .before .before .before .before .before .before .before .before .before .is-structure .ensures) (not-false _ (c .before .before .before .before .before .before .before .before .before .before .before .before .before .before .before .before .before .if1 .left)) (c .before .before .before .before .before .before .before .before .before .before .before .before .before .read-layout .ensures .answer-is) (c .before .before .before .before .before .before .before .before .before .before .before .before .before .before .before .before .before .before .before .before .before .before .before .before .before .before .before .args .counts) (c .before .before .before .before .before .before .before .before .before .before .found .given .1)
+    (c .before .before .before .before .before .before .before .before .before .before .before .before .before .before .before .before .run-of .ensures) (c .before .before .before .before .before .before .before .before .before .before .before .before .before .before .before .last-name .ensures) (c .before .before .before .before .before .before .before .read-layout2 .ensures) (c .before .before .before .put-structure .ensures) (c .one-more .ensures)
+
+same-length-3 : tie.Need-same-length-3
+same-length-3 c = search needs
+
+returns-3 : tie.Need-returns-3
+returns-3 c =
+    puts-refused _ _ _ _ _ _ _ (c .before .before .before .before .before .before .before .before .before .before .before .before .before .before .before .before .row-at .ensures) (c .before .before .before .before .before .before .before .before .before .before .before .before .before .before .before .is-structure .ensures) (not-false _ (c .before .before .before .before .before .before .before .before .before .before .before .before .before .before .if1 .left)) (c .before .before .before .before .before .before .before .before .before .before .read-layout .ensures .answer-is) (c .before .before .before .before .before .before .before .before .before .before .before .before .before .before .before .before .before .before .before .before .before .before .before .before .args .counts) (c .before .before .before .before .before .before .before .why .given .1)
+    (c .before .before .before .before .before .before .before .before .before .before .before .before .before .run-of .ensures) (c .before .before .before .before .before .before .before .before .before .before .before .before .last-name .ensures) (c .before .before .before .before .number-of .ensures) (c .before .before .before .put-structure2 .ensures) (c .one-more2 .ensures)
+
+pub put-row-spec : {M : Type 1} → statement M
+put-row-spec =
+    tie.close
+    (tie.spec
+    row-at-requires
+    is-structure-requires
+    returns
+    run-of-requires
+    last-name-requires
+    slice-aggregate-read-layout
+    read-layout-requires
+    enum-known-found
+    mul-from
+    mul-read-layout
+    sub-read-layout
+    part-read-layout-start
+    part-read-layout-end
+    read-layout-requires-2
+    put-structure-requires
+    one-more-requires
+    enum-known-why
+    number-of-requires
+    put-structure-requires-2
+    one-more-requires-2
+    same-length
+    same-length-2
+    returns-2
+    same-length-3
+    returns-3)

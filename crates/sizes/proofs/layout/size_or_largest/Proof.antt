@@ -1,0 +1,23 @@
+use Rattle.records.specs.TakenLaws.{by-case}
+use Rattle.sizes.specs.Layout.{sizeOrLargest}
+use borrow.Author.Needs.{needs}
+use mathlib.Core.Path.{refl}
+use Rattle.sizes.proofs.layout.size_or_largest.Statement.{statement}
+use Rattle.sizes.proofs.layout.size_or_largest.Tie as tie
+
+enum-known-size : tie.Need-enum-known-size
+enum-known-size c = search needs
+
+enum-told : tie.Need-enum-told
+enum-told c = search needs
+
+returns : tie.Need-returns
+unfolding sizeOrLargest
+returns c = by-case (sizeOrLargest (c .before .before .before .args .largest)) (c .before .size .given .1) refl
+
+returns-2 : tie.Need-returns-2
+unfolding sizeOrLargest
+returns-2 c = by-case (sizeOrLargest (c .before .before .args .largest)) (c .enum-told .given .1) refl
+
+pub size-or-largest-spec : {M : Type 1} → statement M
+size-or-largest-spec = tie.close (tie.spec enum-known-size enum-told returns returns-2)

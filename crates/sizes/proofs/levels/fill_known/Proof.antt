@@ -1,0 +1,80 @@
+use Rattle.sizes.specs.LevelsLaws.{Levelling, levelling-begins, levelling-on, levelling-settled, levelling-ends}
+use borrow.Author.Needs.{needs}
+use Prim.Native.Nat.{_-_}
+use mathlib.Core.Path.{refl}
+use Rattle.sizes.proofs.levels.fill_known.Statement.{statement}
+use Rattle.sizes.proofs.levels.fill_known.Tie as tie
+
+abbrev Inv-loop : tie.InvT-loop
+Inv-loop s settings sizes rows attrs n known₀ next₀ level₀ known next level =
+    Levelling settings sizes s rows attrs n known₀ next₀ known next level
+
+abbrev μ-loop : tie.MeasureT-loop
+μ-loop s settings sizes rows attrs n known₀ next₀ level₀ known next level = 31 - level
+
+last-level-requires : tie.Need-last-level-requires Inv-loop μ-loop
+last-level-requires c κs = search needs
+
+loop-holds : tie.Need-loop-holds Inv-loop μ-loop
+loop-holds c = levelling-begins _ _ _ _ _ _ (c .before .before .before .before .before .before .before .before .before .before .pre .0 .ready) (c .before .before .before .before .before .before .before .before .before .before .pre .1 .fits) (c .before .before .last-level .ensures) refl
+
+sub-loop : tie.Need-sub-loop Inv-loop μ-loop
+sub-loop c = search needs
+
+next-level-requires : tie.Need-next-level-requires Inv-loop μ-loop
+next-level-requires c κs = search needs
+
+mul-take-over : tie.Need-mul-take-over Inv-loop μ-loop
+mul-take-over c = search needs
+
+take-over-requires : tie.Need-take-over-requires Inv-loop μ-loop
+take-over-requires c κs = search needs
+
+same-length : tie.Need-same-length Inv-loop μ-loop
+same-length c = search needs
+
+same-length-2 : tie.Need-same-length-2 Inv-loop μ-loop
+same-length-2 c = search needs
+
+returns : tie.Need-returns Inv-loop μ-loop
+returns c = levelling-settled (c .before .before .before .before .before .before .before .before .before .before .before .before .loop .inv) (c .before .before .before .before .before .before .before .before .next-level .ensures) (c .before .before .before .take-over .ensures) (c .if1 .taken)
+
+add-level : tie.Need-add-level Inv-loop μ-loop
+add-level c = search needs
+
+loop-less : tie.Need-loop-less Inv-loop μ-loop
+loop-less c = search needs
+
+loop-again : tie.Need-loop-again Inv-loop μ-loop
+loop-again c = levelling-on (c .before .before .before .before .before .before .before .before .before .before .before .before .loop .inv) (c .before .before .before .before .before .before .before .before .next-level .ensures) (c .before .before .before .take-over .ensures) (c .before .before .before .before .before .before .before .before .before .before .before .loop-test .taken) (search needs)
+
+same-length-3 : tie.Need-same-length-3 Inv-loop μ-loop
+same-length-3 c = search needs
+
+same-length-4 : tie.Need-same-length-4 Inv-loop μ-loop
+same-length-4 c = search needs
+
+returns-2 : tie.Need-returns-2 Inv-loop μ-loop
+returns-2 c = levelling-ends (c .before .loop .inv) (c .loop-test .left)
+
+pub fill-known-spec : {M : Type 1} → statement M
+fill-known-spec =
+    tie.close
+    (tie.spec
+    Inv-loop
+    μ-loop
+    last-level-requires
+    loop-holds
+    sub-loop
+    next-level-requires
+    mul-take-over
+    take-over-requires
+    same-length
+    same-length-2
+    returns
+    add-level
+    loop-less
+    loop-again
+    same-length-3
+    same-length-4
+    returns-2)

@@ -1,0 +1,66 @@
+use Rattle.format.specs.declared.refusal.Reason.the-variants as reason
+use Rattle.tables.specs.Check.{refusedAt}
+use Rattle.tables.specs.declared.row.Row.{Row}
+use Rattle.sizes.specs.declared.sized.Sized.the-variants.{Refused}
+use Rattle.sizes.specs.LevelsWays.{lastLevel, Filled}
+use Rattle.sizes.specs.LevelsLaws.{put-refusal, filled-none, filled-more, filled-all}
+use borrow.Author.Needs.{needs}
+use Prim.Native.Nat.{_-_}
+use mathlib.Core.Path.{_≡_, refl, ap, _∙_}
+use lib.ListN.{length}
+use Rattle.sizes.proofs.levels.last_level.Statement.{statement}
+use Rattle.sizes.proofs.levels.last_level.Tie as tie
+
+abbrev Inv-loop : tie.InvT-loop
+Inv-loop rows n known₀ i₀ known i = Filled (lastLevel rows) n i known × (length known ≡ length known₀)
+
+abbrev μ-loop : tie.MeasureT-loop
+μ-loop rows n known₀ i₀ known i = n - i
+
+loop-holds : tie.Need-loop-holds Inv-loop μ-loop
+loop-holds c = (filled-none _ _ (c .before .before .pre), refl)
+
+row-at-requires : tie.Need-row-at-requires Inv-loop μ-loop
+row-at-requires c κs = search needs
+
+refused-requires : tie.Need-refused-requires Inv-loop μ-loop
+refused-requires c κs = search needs
+
+put-refusal-requires : tie.Need-put-refusal-requires Inv-loop μ-loop
+put-refusal-requires c κs = search needs
+
+add-i : tie.Need-add-i Inv-loop μ-loop
+add-i c = search needs
+
+loop-less : tie.Need-loop-less Inv-loop μ-loop
+loop-less c = search needs
+
+loop-again : tie.Need-loop-again Inv-loop μ-loop
+unfolding lastLevel
+loop-again c = (
+  filled-more _ _ (c .before .before .before .before .before .before .before .loop .inv .0) (c .before .before .put-refusal .ensures)
+      (ap Refused (c .before .before .before .refused .ensures ∙ ap (λ (r : Row). refusedAt (r .key) reason.Depth) (c .before .before .before .before .before .row-at .ensures))),
+  (c .before .before .put-refusal .ensures .same-long ∙ c .before .before .before .before .before .before .before .loop .inv .1),
+)
+
+same-length : tie.Need-same-length Inv-loop μ-loop
+same-length c = search needs
+
+returns : tie.Need-returns Inv-loop μ-loop
+returns c = filled-all _ _ (c .before .loop .inv .0) (c .loop-test .left)
+
+pub last-level-spec : {M : Type 1} → statement M
+last-level-spec =
+    tie.close
+    (tie.spec
+    Inv-loop
+    μ-loop
+    loop-holds
+    row-at-requires
+    refused-requires
+    put-refusal-requires
+    add-i
+    loop-less
+    loop-again
+    same-length
+    returns)

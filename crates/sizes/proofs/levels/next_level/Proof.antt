@@ -1,0 +1,56 @@
+use Rattle.sizes.specs.LevelsWays.{nextLevel, Filled}
+use Rattle.sizes.specs.LevelsLaws.{filled-none, filled-more, filled-all}
+use borrow.Author.Needs.{needs}
+use Prim.Native.Nat.{_-_}
+use mathlib.Core.Path.{_≡_, refl, _∙_}
+use lib.ListN.{length}
+use Rattle.sizes.proofs.levels.next_level.Statement.{statement}
+use Rattle.sizes.proofs.levels.next_level.Tie as tie
+
+abbrev Inv-loop : tie.InvT-loop
+Inv-loop s settings sizes rows attrs n known next₀ i₀ next i =
+    Filled (nextLevel settings sizes s rows attrs n known) n i next × (length next ≡ length next₀)
+
+abbrev μ-loop : tie.MeasureT-loop
+μ-loop s settings sizes rows attrs n known next₀ i₀ next i = n - i
+
+loop-holds : tie.Need-loop-holds Inv-loop μ-loop
+loop-holds c = (filled-none _ _ (c .before .before .before .before .before .before .pre .fits), refl)
+
+row-size-requires : tie.Need-row-size-requires Inv-loop μ-loop
+row-size-requires c κs = search needs
+
+put-known-requires : tie.Need-put-known-requires Inv-loop μ-loop
+put-known-requires c κs = search needs
+
+add-i : tie.Need-add-i Inv-loop μ-loop
+add-i c = search needs
+
+loop-less : tie.Need-loop-less Inv-loop μ-loop
+loop-less c = search needs
+
+loop-again : tie.Need-loop-again Inv-loop μ-loop
+unfolding nextLevel
+loop-again c =
+    (filled-more _ _ (c .before .before .before .before .before .before .loop .inv .0) (c .before .before .put-known .ensures) (c .before .before .before .before .row-size .ensures), (c .before .before .put-known .ensures .same-long ∙ c .before .before .before .before .before .before .loop .inv .1))
+
+same-length : tie.Need-same-length Inv-loop μ-loop
+same-length c = search needs
+
+returns : tie.Need-returns Inv-loop μ-loop
+returns c = filled-all _ _ (c .before .loop .inv .0) (c .loop-test .left)
+
+pub next-level-spec : {M : Type 1} → statement M
+next-level-spec =
+    tie.close
+    (tie.spec
+    Inv-loop
+    μ-loop
+    loop-holds
+    row-size-requires
+    put-known-requires
+    add-i
+    loop-less
+    loop-again
+    same-length
+    returns)

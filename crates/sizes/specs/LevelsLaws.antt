@@ -1,0 +1,304 @@
+-- What follows from the levels: the sizes of one level are known from those of the level below, and a level that changes nothing is the last.
+use Prim.Native.Nat.{ℕ, zero, suc, _+_, _-_, _*_, _%_, _≤_, _<_}
+use native.Mathlib.Nat.{add-zero, zero-add}
+use native.Mathlib.Decide.{decLe}
+use native.Mathlib.Omega.{arith}
+use mathlib.Core.Logic.{_⊎_, inl, inr}
+use mathlib.Core.Path.{_≡_, refl, sym, ap, _∙_, subst, fun-ext}
+use mathlib.Core.Bool.{Bool, true, false, true≢false}
+use mathlib.Core.List.{List, [], _∷_}
+use lib.ListN.{length, getD, set, length-set}
+use lib.Seq.{sets, length-sets, getD-set-same, getD-set-other}
+use lib.Dec.{eqb}
+use borrow.Author.Tests.{ne-eqb}
+use Rattle.format.specs.Refusal.{numberOf, reason-of-number, number-some}
+use Rattle.format.specs.declared.settings.Settings.{Settings}
+use Rattle.format.specs.declared.refusal.Refusal.{Refusal}
+use Rattle.format.specs.declared.refusal.Reason.the-variants as reason
+use Rattle.blocks.specs.declared.types.Type.{«Type»}
+use Rattle.tables.specs.Flat.{sets-before, sets-after, sets-back}
+use Rattle.tables.specs.Row.{rowAt}
+use Rattle.tables.specs.Find.{rowOfKey}
+use Rattle.tables.specs.FindLaws.{row-found, row-of-own-key}
+use Rattle.tables.specs.Check.{refusedAt}
+use Rattle.tables.specs.declared.find.Found.{Found}
+use Rattle.tables.specs.declared.find.Found.the-variants as found
+use Rattle.sizes.specs.Size.{typeSizeBy, entryAt, foundSize, entrySize, typeSize}
+use Rattle.sizes.specs.Known.{knownAt}
+use Rattle.sizes.specs.SizeWays.{Ready, knownFound, entryFrom, typeFrom}
+use Rattle.sizes.specs.SizeLaws.{entry-zero, entry-more, entry-none}
+use Rattle.sizes.specs.LevelsWays.{knownWidth, lastLevel, nextLevel, sizeLeft, PutKnown, Filled, TakenOver}
+use Rattle.sizes.specs.declared.sized.Sized.{Sized}
+use Rattle.sizes.specs.declared.sized.Sized.the-variants.{Is, Refused}
+
+-- ---- the words of a size
+
+pub three-put : (t : List ℕ) (at a b d : ℕ) {t₁ t₂ t₃ : List ℕ} → t₁ ≡ set t at a → t₂ ≡ set t₁ (at + 1) b → t₃ ≡ set t₂ (at + 2) d
+    → t₃ ≡ sets t at (a ∷ b ∷ d ∷ [])
+three-put t at a b d p q r =
+    let one : at + 1 ≡ suc at = omega arith in
+    let two : at + 2 ≡ suc (suc at) = omega arith in
+    r ∙ rw (q, p, one, two)
+
+known-same : (a b : List ℕ) (i : ℕ) → getD a (i * 3) 0 ≡ getD b (i * 3) 0 → getD a (i * 3 + 1) 0 ≡ getD b (i * 3 + 1) 0
+    → getD a (i * 3 + 2) 0 ≡ getD b (i * 3 + 2) 0 → knownAt a i ≡ knownAt b i
+unfolding knownAt
+known-same a b i p q r = rw (p, q, r)
+
+module _ (known : List ℕ) {known′ : List ℕ} (i a b d : ℕ) (fits : i * knownWidth + knownWidth ≤ length known)
+    (p : known′ ≡ sets known (i * knownWidth) (a ∷ b ∷ d ∷ [])) where
+  back : (k : ℕ) → k < 3 → getD known′ (i * 3 + k) 0 ≡ getD (a ∷ b ∷ d ∷ []) k 0
+  back k l = ap (λ (u : List ℕ). getD u (i * 3 + k) 0) p ∙ sets-back known (i * 3) (a ∷ b ∷ d ∷ []) k fits l
+
+  first-word : getD known′ (i * 3) 0 ≡ a
+  first-word = ap (λ (k : ℕ). getD known′ k 0) (sym (add-zero (i * 3))) ∙ back 0 (omega arith)
+
+  word-other : (k : ℕ) → (k < i * 3) ⊎ (i * 3 + 3 ≤ k) → getD known′ k 0 ≡ getD known k 0
+  word-other k (inl l) = ap (λ (u : List ℕ). getD u k 0) p ∙ sets-before known (i * 3) (a ∷ b ∷ d ∷ []) k l
+  word-other k (inr l) = ap (λ (u : List ℕ). getD u k 0) p ∙ sets-after known (i * 3) (a ∷ b ∷ d ∷ []) k l
+
+  row-other : (j : ℕ) → (j ≡ i → ⊥) → knownAt known′ j ≡ knownAt known j
+  row-other j h =
+      elim (decLe j i) [
+        | yes l ↦ known-same known′ known j (word-other (j * 3) (inl (omega (arith, h)))) (word-other (j * 3 + 1) (inl (omega (arith, h))))
+            (word-other (j * 3 + 2) (inl (omega (arith, h))))
+        | no l ↦ known-same known′ known j (word-other (j * 3) (inr (omega arith))) (word-other (j * 3 + 1) (inr (omega arith)))
+            (word-other (j * 3 + 2) (inr (omega arith)))
+      ]
+
+  put-as : {size : Sized} → knownAt known′ i ≡ size → PutKnown i size known known′
+  put-as q = record { here = q; others = row-other; same-long = ap length p ∙ length-sets known (i * 3) (a ∷ b ∷ d ∷ []) }
+
+pub put-size : (known : List ℕ) {known′ : List ℕ} (i size : ℕ) → i * knownWidth + knownWidth ≤ length known → size < 4294967296
+    → known′ ≡ sets known (i * knownWidth) (0 ∷ size ∷ 0 ∷ []) → PutKnown i (Is size) known known′
+unfolding knownAt
+put-size known {known′} i size fits small p =
+    let none : getD known′ (i * 3) 0 ≡ 0 = first-word known i 0 size 0 fits p in
+    let one : getD known′ (i * 3 + 1) 0 ≡ size = back known i 0 size 0 fits p 1 (omega arith) in
+    let less : size % 4294967296 ≡ size = omega arith in
+    put-as known i 0 size 0 fits p (rw (none, one) (ap Is less))
+
+pub put-refusal : (known : List ℕ) {known′ : List ℕ} (i number : ℕ) (why : Refusal) → i * knownWidth + knownWidth ≤ length known → number ≡ numberOf (why .reason)
+    → known′ ≡ sets known (i * knownWidth) (number ∷ 0 ∷ why .place ∷ []) → PutKnown i (Refused why) known known′
+unfolding knownAt
+put-refusal known {known′} i number why fits is p =
+    let some : (0 < numberOf (why .reason)) × (numberOf (why .reason) ≤ 20) = number-some (why .reason) in
+    let more : 0 < numberOf (why .reason) = some .0 in
+    let few : numberOf (why .reason) ≤ 20 = some .1 in
+    let head : getD known′ (i * 3) 0 ≡ number = first-word known i number 0 (why .place) fits p in
+    let last : getD known′ (i * 3 + 2) 0 ≡ why .place = back known i number 0 (why .place) fits p 2 (omega arith) in
+    let test : eqb number 0 ≡ false = ne-eqb number 0 (λ z. omega (arith, z)) in
+    let less : number % 4294967296 ≡ numberOf (why .reason) = omega arith in
+    put-as known i number 0 (why .place) fits p (rw (head, test, last, less, reason-of-number (why .reason)))
+
+pub put-same : {i : ℕ} {size size′ : Sized} {known known′ : List ℕ} → size ≡ size′ → PutKnown i size′ known known′ → PutKnown i size known known′
+put-same {i} {size} {size′} {known} {known′} p g = subst (λ (x : Sized). PutKnown i x known known′) (sym p) g
+
+-- ---- row after row
+
+module _ (sizeAt : ℕ → Sized) (n : ℕ) where
+  pub filled-none : {known : List ℕ} → n * knownWidth ≤ length known → Filled sizeAt n 0 known
+  filled-none h = record { fits = h; each = λ i l. absurd (omega (arith, l)) }
+
+  pub filled-more : {known known′ : List ℕ} {k : ℕ} {size : Sized} → Filled sizeAt n k known → PutKnown k size known known′ → size ≡ sizeAt k
+      → Filled sizeAt n (k + 1) known′
+  filled-more {known} {known′} {k} {size} w g p =
+      record {
+        fits = omega (arith, w .fits, g .same-long);
+        each = λ i l. elim (decLe k i) [
+          | yes h ↦ let same : i ≡ k = omega arith in subst (λ (j : ℕ). knownAt known′ j ≡ sizeAt j) (sym same) (g .here ∙ p)
+          | no h ↦ g .others i (λ z. omega (arith, z)) ∙ w .each i (omega arith)
+        ];
+      }
+
+  pub filled-all : {known : List ℕ} {k : ℕ} → Filled sizeAt n k known → n ≤ k → Filled sizeAt n n known
+  filled-all w h = record { fits = w .fits; each = λ i l. w .each i (omega arith) }
+
+-- ---- the sizes of a level are those that the next asks for
+
+module _ (settings : Settings) (sizes s rows attrs : List ℕ) (n : ℕ) (ready : Ready s rows n) where
+  own-key : (i : ℕ) → i < n → rowOfKey rows n (rowAt rows i .key) ≡ found.At i
+  own-key i l = row-of-own-key (ready .table .rising) i l
+
+  -- what holds of each row's size holds of every key's
+  key-sizes : {entry : ℕ → Sized} (levels : ℕ) → ((i : ℕ) → i < n → entry (rowAt rows i .key) ≡ sizeLeft settings sizes s rows attrs n levels i)
+      → ((key : ℕ) → rowOfKey rows n key ≡ found.Nothing → entry key ≡ Refused (refusedAt key reason.Entry))
+      → entry ≡ entrySize settings sizes s rows attrs n levels
+  unfolding sizeLeft
+  key-sizes {entry} levels each none = fun-ext (λ key. by-found key (rowOfKey rows n key) refl)
+    where
+      by-found : (key : ℕ) (f : Found) → rowOfKey rows n key ≡ f → entry key ≡ entrySize settings sizes s rows attrs n levels key
+      by-found key (found.At i) p =
+          let here : (i < n) × (rowAt rows i .key ≡ key) = row-found rows n key p in
+          subst (λ (k : ℕ). entry k ≡ entrySize settings sizes s rows attrs n levels k) (here .1) (each i (here .0))
+      by-found key found.Nothing p = none key p ∙ sym (entry-none settings sizes s rows attrs n levels key p)
+
+  module _ {known : List ℕ} (levels : ℕ) (w : Filled (sizeLeft settings sizes s rows attrs n levels) n n known) (some : 0 < length known) where
+    known-entries : (left : ℕ) → entryFrom settings sizes s rows attrs n known left ≡ entrySize settings sizes s rows attrs n levels
+    unfolding entryFrom knownFound
+    known-entries left =
+        let test : eqb (length known) 0 ≡ false = ne-eqb (length known) 0 (λ z. omega (arith, z)) in
+        key-sizes levels (λ i l. rw test (known-row i l)) (λ key p. rw test (known-none key p))
+      where
+        known-row : (i : ℕ) → i < n → knownFound known (rowAt rows i .key) (rowOfKey rows n (rowAt rows i .key)) ≡ sizeLeft settings sizes s rows attrs n levels i
+        known-row i l = ap (knownFound known (rowAt rows i .key)) (own-key i l) ∙ w .each i l
+
+        known-none : (key : ℕ) → rowOfKey rows n key ≡ found.Nothing → knownFound known key (rowOfKey rows n key) ≡ Refused (refusedAt key reason.Entry)
+        known-none key p = ap (knownFound known key) p
+
+    -- with known sizes a type has the size that it has with the levels left
+    pub known-types : (left : ℕ) → typeFrom settings sizes s rows attrs n known left ≡ typeSize settings sizes s rows attrs n levels
+    unfolding typeFrom typeSize
+    known-types left = ap (typeSizeBy sizes) (known-entries left)
+
+  -- no level is left
+  pub level-last : {known : List ℕ} → Filled (lastLevel rows) n n known → Filled (sizeLeft settings sizes s rows attrs n 0) n n known
+  unfolding lastLevel sizeLeft foundSize
+  level-last w =
+      record { fits = w .fits; each = λ i l. w .each i l ∙ sym (entry-zero settings sizes s rows attrs n (rowAt rows i .key) (own-key i l)) }
+
+  -- one level more
+  pub level-more : {known next : List ℕ} (levels : ℕ) → Filled (sizeLeft settings sizes s rows attrs n levels) n n known
+      → Filled (nextLevel settings sizes s rows attrs n known) n n next → Filled (sizeLeft settings sizes s rows attrs n (suc levels)) n n next
+  unfolding nextLevel sizeLeft foundSize
+  level-more {known} {next} levels w g =
+      record {
+        fits = g .fits;
+        each = λ i l. g .each i l
+            ∙ ap (λ (f : «Type» → Sized). entryAt settings s rows attrs n f i) (known-types levels w (omega (arith, w .fits, l)) 0)
+            ∙ sym (entry-more settings sizes s rows attrs n levels (rowAt rows i .key) (own-key i l));
+      }
+
+  -- ---- a level that changes nothing
+
+  abbrev oneMore : (ℕ → Sized) → ℕ → Sized
+  oneMore entry key = foundSize (entryAt settings s rows attrs n (typeSizeBy sizes entry)) key (rowOfKey rows n key)
+
+  same-above : (levels : ℕ) → entrySize settings sizes s rows attrs n levels ≡ entrySize settings sizes s rows attrs n (suc levels)
+      → (k : ℕ) → entrySize settings sizes s rows attrs n (k + levels) ≡ entrySize settings sizes s rows attrs n levels
+  unfolding entrySize
+  same-above levels p zero = ap (entrySize settings sizes s rows attrs n) (zero-add levels)
+  same-above levels p (suc k) =
+      let up : suc k + levels ≡ suc (k + levels) = omega arith in
+      ap (entrySize settings sizes s rows attrs n) up ∙ ap oneMore (same-above levels p k) ∙ sym p
+
+  module _ {known next known′ : List ℕ} (levels : ℕ) {same : Bool} (w : Filled (sizeLeft settings sizes s rows attrs n levels) n n known)
+      (g : TakenOver (n * knownWidth) known next same known′) where
+    over-same : (i : ℕ) → i < n → knownAt known′ i ≡ knownAt next i
+    over-same i l = known-same known′ next i (g .taken (i * 3) (omega arith)) (g .taken (i * 3 + 1) (omega arith)) (g .taken (i * 3 + 2) (omega arith))
+
+    -- what was taken over is known
+    pub level-over : {sizeAt : ℕ → Sized} → Filled sizeAt n n next → Filled sizeAt n n known′
+    level-over v = record { fits = omega (arith, w .fits, g .same-long); each = λ i l. over-same i l ∙ v .each i l }
+
+    -- nothing changed: so it is with every level above
+    pub level-settled : (most : ℕ) → Filled (sizeLeft settings sizes s rows attrs n (suc levels)) n n next → same ≡ true → levels ≤ most
+        → Filled (sizeLeft settings sizes s rows attrs n most) n n known′
+    unfolding sizeLeft
+    level-settled most v t h =
+        let fixed : entrySize settings sizes s rows attrs n levels ≡ entrySize settings sizes s rows attrs n (suc levels) =
+        key-sizes (suc levels) (λ i l. sym (w .each i l) ∙ ap (λ (u : List ℕ). knownAt u i) (sym (g .kept t)) ∙ over-same i l ∙ v .each i l)
+        (λ key p. entry-none settings sizes s rows attrs n levels key p) in
+        let up : (most - levels) + levels ≡ most = omega arith in
+        let top : entrySize settings sizes s rows attrs n most ≡ entrySize settings sizes s rows attrs n levels =
+        ap (entrySize settings sizes s rows attrs n) (sym up) ∙ same-above levels fixed (most - levels) in
+        record {
+          fits = omega (arith, w .fits, g .same-long);
+          each = λ i l. ap (λ (u : List ℕ). knownAt u i) (g .kept t) ∙ w .each i l ∙ ap (λ (f : ℕ → Sized). f (rowAt rows i .key)) (sym top);
+        }
+
+-- ---- level after level
+
+pub record Levelling (settings : Settings) (sizes s rows attrs : List ℕ) (n : ℕ) (known₀ next₀ known next : List ℕ) (level : ℕ) : Type 0 where
+  pub ready : Ready s rows n
+  pub within : level ≤ 31
+  pub filled : Filled (sizeLeft settings sizes s rows attrs n level) n n known
+  pub next-fits : n * knownWidth ≤ length next
+  pub same-known : length known ≡ length known₀
+  pub same-next : length next ≡ length next₀
+
+pub levelling-begins : (settings : Settings) (sizes s rows attrs : List ℕ) (n : ℕ) {known₀ next known : List ℕ} → Ready s rows n → n * knownWidth ≤ length next
+    → Filled (lastLevel rows) n n known → length known ≡ length known₀ → Levelling settings sizes s rows attrs n known₀ next known next 0
+levelling-begins settings sizes s rows attrs n ready fits w e =
+    record {
+      ready = ready;
+      within = omega arith;
+      filled = level-last settings sizes s rows attrs n ready w;
+      next-fits = fits;
+      same-known = e;
+      same-next = refl;
+    }
+
+module _ {settings : Settings} {sizes s rows attrs : List ℕ} {n : ℕ} {known₀ next₀ known next : List ℕ} {level : ℕ}
+    (w : Levelling settings sizes s rows attrs n known₀ next₀ known next level) {next′ known′ : List ℕ} {same : Bool}
+    (g : Filled (nextLevel settings sizes s rows attrs n known) n n next′) (over : TakenOver (n * knownWidth) known next′ same known′) where
+  above : Filled (sizeLeft settings sizes s rows attrs n (suc level)) n n next′
+  above = level-more settings sizes s rows attrs n (w .ready) level (w .filled) g
+
+  pub levelling-on : level < 31 → length next′ ≡ length next → Levelling settings sizes s rows attrs n known₀ next₀ known′ next′ (level + 1)
+  levelling-on l e =
+      let one : suc level ≡ level + 1 = omega arith in
+      record {
+        ready = w .ready;
+        within = omega arith;
+        filled =
+            subst (λ (k : ℕ). Filled (sizeLeft settings sizes s rows attrs n k) n n known′) one
+            (level-over settings sizes s rows attrs n (w .ready) level (w .filled) over above);
+        next-fits = g .fits;
+        same-known = over .same-long ∙ w .same-known;
+        same-next = e ∙ w .same-next;
+      }
+
+  pub levelling-settled : same ≡ true → Filled (sizeLeft settings sizes s rows attrs n 31) n n known′
+  levelling-settled t = level-settled settings sizes s rows attrs n (w .ready) level (w .filled) over 31 above t (w .within)
+
+pub levelling-ends : {settings : Settings} {sizes s rows attrs : List ℕ} {n : ℕ} {known₀ next₀ known next : List ℕ} {level : ℕ}
+    → Levelling settings sizes s rows attrs n known₀ next₀ known next level → 31 ≤ level → Filled (sizeLeft settings sizes s rows attrs n 31) n n known
+levelling-ends {settings} {sizes} {s} {rows} {attrs} {n} {known₀} {next₀} {known} {next} {level} w h =
+    let top : level ≡ 31 = omega (arith, w .within) in
+    subst (λ (k : ℕ). Filled (sizeLeft settings sizes s rows attrs n k) n n known) top (w .filled)
+
+-- ---- taking words over
+
+pub record Taking (words : ℕ) (known₀ next known : List ℕ) (same : Bool) (k : ℕ) : Type 0 where
+  pub within : k ≤ words
+  pub taken : (j : ℕ) → j < k → getD known j 0 ≡ getD next j 0
+  pub same-long : length known ≡ length known₀
+  pub kept : same ≡ true → known ≡ known₀
+
+module _ {words : ℕ} {known₀ next known : List ℕ} {same : Bool} {k : ℕ} (w : Taking words known₀ next known same k) (l : k < words) where
+  taken-on : (known′ : List ℕ) → ((j : ℕ) → j < k → getD known′ j 0 ≡ getD known j 0) → getD known′ k 0 ≡ getD next k 0
+      → (j : ℕ) → j < k + 1 → getD known′ j 0 ≡ getD next j 0
+  taken-on known′ before here j h =
+      elim (decLe k j) [
+        | yes m ↦ let at : j ≡ k = omega arith in subst (λ (i : ℕ). getD known′ i 0 ≡ getD next i 0) (sym at) here
+        | no m ↦ before j (omega arith) ∙ w .taken j (omega arith)
+      ]
+
+  pub taking-same : {known′ : List ℕ} {same′ : Bool} → known′ ≡ known → same′ ≡ same → getD known k 0 ≡ getD next k 0 → Taking words known₀ next known′ same′ (k + 1)
+  taking-same {known′} {same′} p q e =
+      record {
+        within = omega arith;
+        taken = taken-on known′ (λ j h. ap (λ (u : List ℕ). getD u j 0) p) (ap (λ (u : List ℕ). getD u k 0) p ∙ e);
+        same-long = ap length p ∙ w .same-long;
+        kept = λ t. p ∙ w .kept (sym q ∙ t);
+      }
+
+  pub taking-other : {known′ : List ℕ} {same′ : Bool} → words ≤ length known₀ → known′ ≡ set known k (getD next k 0) → same′ ≡ false
+      → Taking words known₀ next known′ same′ (k + 1)
+  taking-other {known′} {same′} fits p q =
+      record {
+        within = omega arith;
+        taken =
+            taken-on known′ (λ j h. ap (λ (u : List ℕ). getD u j 0) p ∙ getD-set-other known k j (getD next k 0) 0 (λ z. omega (arith, z, h)))
+            (ap (λ (u : List ℕ). getD u k 0) p ∙ getD-set-same known k (getD next k 0) 0 (omega (arith, w .same-long)));
+        same-long = ap length p ∙ length-set known k (getD next k 0) ∙ w .same-long;
+        kept = λ t. absurd (true≢false (sym t ∙ q));
+      }
+
+pub taking-begins : (words : ℕ) (known next : List ℕ) → Taking words known next known true 0
+taking-begins words known next = record { within = omega arith; taken = λ j h. absurd (omega (arith, h)); same-long = refl; kept = λ t. refl }
+
+pub taking-ends : {words : ℕ} {known₀ next known : List ℕ} {same : Bool} {k : ℕ} → Taking words known₀ next known same k → words ≤ k
+    → TakenOver words known₀ next same known
+taking-ends w h = record { taken = λ j l. w .taken j (omega arith); same-long = w .same-long; kept = w .kept }

@@ -1,0 +1,53 @@
+-- How the sizes of all rows are taken: level by level, from those of the level below.
+use Prim.Native.Nat.{ℕ, _*_, _≤_, _<_}
+use mathlib.Core.Path.{_≡_}
+use mathlib.Core.Bool.{Bool, true}
+use mathlib.Core.List.{List}
+use lib.ListN.{length, getD}
+use Rattle.format.specs.declared.settings.Settings.{Settings}
+use Rattle.format.specs.declared.refusal.Reason.the-variants as reason
+use Rattle.tables.specs.Row.{rowAt}
+use Rattle.tables.specs.Check.{refusedAt}
+use Rattle.sizes.specs.Size.{entryAt, entrySize}
+use Rattle.sizes.specs.SizeWays.{Ready, typeFrom}
+use Rattle.sizes.specs.Known.{knownAt}
+use Rattle.sizes.specs.declared.sized.Sized.{Sized}
+use Rattle.sizes.specs.declared.sized.Sized.the-variants.{Refused}
+
+abbrev pub knownWidth : ℕ
+knownWidth = 3
+
+-- row i where no level is left
+unfoldable pub lastLevel : List ℕ → ℕ → Sized
+lastLevel rows i = Refused (refusedAt (rowAt rows i .key) reason.Depth)
+
+module _ (settings : Settings) (sizes s rows attrs : List ℕ) (n : ℕ) where
+  -- row i where the entries that it names have known sizes
+  unfoldable pub nextLevel : List ℕ → ℕ → Sized
+  nextLevel known i = entryAt settings s rows attrs n (typeFrom settings sizes s rows attrs n known 0) i
+
+  -- row i with so many levels left
+  unfoldable pub sizeLeft : ℕ → ℕ → Sized
+  sizeLeft levels i = entrySize settings sizes s rows attrs n levels (rowAt rows i .key)
+
+-- row i's size is known now, the others as before
+pub record PutKnown (i : ℕ) (size : Sized) (known known′ : List ℕ) : Type 0 where
+  pub here : knownAt known′ i ≡ size
+  pub others : (j : ℕ) → (j ≡ i → ⊥) → knownAt known′ j ≡ knownAt known j
+  pub same-long : length known′ ≡ length known
+
+-- the first k of n rows are known
+pub record Filled (sizeAt : ℕ → Sized) (n k : ℕ) (known : List ℕ) : Type 0 where
+  pub fits : n * knownWidth ≤ length known
+  pub each : (i : ℕ) → i < k → knownAt known i ≡ sizeAt i
+
+-- a table that was tested, and room for a size of each row
+pub record FillAsked (s rows : List ℕ) (n : ℕ) (known : List ℕ) : Type 0 where
+  pub ready : Ready s rows n
+  pub fits : n * knownWidth ≤ length known
+
+-- so many words are the other list's now; if they were so before, nothing changed
+pub record TakenOver (words : ℕ) (known next : List ℕ) (same : Bool) (known′ : List ℕ) : Type 0 where
+  pub taken : (k : ℕ) → k < words → getD known′ k 0 ≡ getD next k 0
+  pub same-long : length known′ ≡ length known
+  pub kept : same ≡ true → known′ ≡ known

@@ -1,0 +1,338 @@
+// Every structure's and class's layout of a table, in file order, in one call that tests the table once. The sizes of all rows are taken first, so that the
+// row sizes taken are at most rows times depth.
+use crate::layout::LAID_WIDTH;
+use crate::layout::LayoutWhole;
+use crate::layout::is_structure;
+use crate::layout::read_layout;
+use crate::levels::fill_known;
+use format::attribute_kind::NAME;
+use format::refusal::Refusal;
+use format::refusal::number_of;
+use format::settings::Settings;
+use records::fields::Name;
+use records::fields::last_name;
+use records::member_words::name_length;
+use records::member_words::name_place;
+use records::scan::run_of;
+use records::words::put_word;
+use tables::check::Check;
+use tables::check::check_table;
+use tables::row::Counts;
+use tables::row::row_at;
+ghost use mathlib.Core.Path.{_≡_};
+ghost use Prim.Native.Nat.{_*_};
+ghost use lib.Seq.{sets};
+ghost use Rattle.sizes.specs.Size.{typeSize};
+ghost use Rattle.sizes.specs.SizeWays.{Ready, typeFrom};
+ghost use Rattle.sizes.specs.All.{structureWidth, structuresFrom, countsOf, allOf, intoRooms, AllGiven};
+ghost use Rattle.sizes.specs.AllWays.{OneMore, CountAsked, PutAsked, PutsAsked, deepest, eightWords, rowStructures, countedOn, countedWith, Puts, PutAll};
+
+pub struct LayoutCounts {
+    pub structures: usize,
+    pub members: usize,
+}
+
+pub enum AllLayouts {
+    // How many structures and classes there are, and how many members of those that have a layout.
+    Are(LayoutCounts),
+    Refused(Refusal),
+    // Refusal 8, at 0: how many there are.
+    Room(LayoutCounts),
+}
+
+// The words of a structure: row; 0, size and 0, or a refusal's number, 0 and place; its first member, and how many; place and length of its name.
+pub const STRUCTURE_WIDTH: usize = 8;
+
+// Three words for each of 4,096 rows.
+const KNOWN_WORDS: usize = 12288;
+
+fn one_more(counts: LayoutCounts, members: usize) -> LayoutCounts
+    requires { ⌜ OneMore counts members ⌝ }
+    ensures { λ r. ⌜ r ≡ countedOn counts members ⌝ }
+{
+    LayoutCounts {
+        structures: counts.structures + 1,
+        members: counts.members + members,
+    }
+}
+
+// Row i counted too, if it is a structure.
+fn count_row(
+    s: &[u8],
+    settings: Settings,
+    sizes: &[u32],
+    rows: &[u32],
+    attrs: &[u32],
+    n: usize,
+    known: &[u64],
+    i: usize,
+    counts: LayoutCounts,
+) -> LayoutCounts
+    requires { ⌜ CountAsked (now s) (now rows) n i counts ⌝ }
+    ensures { λ r. ⌜ r ≡ countedWith counts (rowStructures settings (now (s .entry)) (now (rows .entry)) (now (attrs .entry)) n (typeFrom settings (now (sizes .entry)) (now (s .entry)) (now (rows .entry)) (now (attrs .entry)) n (now (known .entry)) 0) i) ⌝ }
+{
+    let row = row_at(rows, i);
+    if !is_structure(row.kind) {
+        return counts;
+    }
+    let mut none = [0u64; 0];
+    match read_layout(s, settings, sizes, rows, attrs, n, known, 0, i, &mut none) {
+        LayoutWhole::Is(found) => one_more(counts, found.members),
+        LayoutWhole::Refused(_) => one_more(counts, 0),
+    }
+}
+
+fn count_layouts(
+    s: &[u8],
+    settings: Settings,
+    sizes: &[u32],
+    rows: &[u32],
+    attrs: &[u32],
+    n: usize,
+    known: &[u64],
+) -> LayoutCounts
+    requires { ⌜ Ready (now s) (now rows) n ⌝ }
+    ensures { λ r. ⌜ r ≡ countsOf (structuresFrom settings (now (s .entry)) (now (rows .entry)) (now (attrs .entry)) n (typeFrom settings (now (sizes .entry)) (now (s .entry)) (now (rows .entry)) (now (attrs .entry)) n (now (known .entry)) 0) 0 n) ⌝ }
+{
+    let mut counts = LayoutCounts {
+        structures: 0,
+        members: 0,
+    };
+    let mut i: usize = 0;
+    while i < n {
+        counts = count_row(s, settings, sizes, rows, attrs, n, known, i, counts);
+        i += 1;
+    }
+    counts
+}
+
+// The words of structure number k, if they fit.
+fn put_structure(
+    structures: &mut [u64],
+    k: usize,
+    row: usize,
+    number: u32,
+    size: u32,
+    place: u64,
+    first: usize,
+    members: usize,
+    name: Name,
+)
+    ensures { λ _. ⌜ now (structures .exit) ≡ sets (now (structures .entry)) (k * structureWidth) (eightWords row number size place first members name) ⌝ }
+{
+    if k < structures.len() {
+        let at = k * STRUCTURE_WIDTH;
+        put_word(structures, at, row as u64);
+        put_word(structures, at + 1, number as u64);
+        put_word(structures, at + 2, size as u64);
+        put_word(structures, at + 3, place);
+        put_word(structures, at + 4, first as u64);
+        put_word(structures, at + 5, members as u64);
+        put_word(structures, at + 6, name_place(name));
+        put_word(structures, at + 7, name_length(name));
+    }
+}
+
+// Row i, if it is a structure: its words after those of the others, its members after theirs.
+fn put_row(
+    s: &[u8],
+    settings: Settings,
+    sizes: &[u32],
+    rows: &[u32],
+    attrs: &[u32],
+    n: usize,
+    known: &[u64],
+    i: usize,
+    counts: LayoutCounts,
+    structures: &mut [u64],
+    members: &mut [u64],
+) -> LayoutCounts
+    requires { ⌜ PutAsked (now s) (now rows) n i counts (now members) ⌝ }
+    ensures { λ r. ⌜ Puts (rowStructures settings (now (s .entry)) (now (rows .entry)) (now (attrs .entry)) n (typeFrom settings (now (sizes .entry)) (now (s .entry)) (now (rows .entry)) (now (attrs .entry)) n (now (known .entry)) 0) i) counts r (now (structures .entry)) (now (structures .exit)) (now (members .entry)) (now (members .exit)) ⌝ }
+{
+    let row = row_at(rows, i);
+    if !is_structure(row.kind) {
+        return counts;
+    }
+    let e = settings.endian;
+    let name = last_name(s, attrs, run_of(e, rows, i), NAME);
+    let k = counts.structures;
+    let first = counts.members;
+    let mut none = [0u64; 0];
+    match read_layout(s, settings, sizes, rows, attrs, n, known, 0, i, &mut none) {
+        LayoutWhole::Is(found) => {
+            let from = first * LAID_WIDTH;
+            read_layout(
+                s,
+                settings,
+                sizes,
+                rows,
+                attrs,
+                n,
+                known,
+                0,
+                i,
+                &mut members[from..],
+            );
+            put_structure(
+                structures,
+                k,
+                i,
+                0,
+                found.size,
+                0,
+                first,
+                found.members,
+                name,
+            );
+            one_more(counts, found.members)
+        }
+        LayoutWhole::Refused(why) => {
+            let reason = why.reason;
+            put_structure(
+                structures,
+                k,
+                i,
+                number_of(reason),
+                0,
+                why.place,
+                first,
+                0,
+                name,
+            );
+            one_more(counts, 0)
+        }
+    }
+}
+
+fn put_layouts(
+    s: &[u8],
+    settings: Settings,
+    sizes: &[u32],
+    rows: &[u32],
+    attrs: &[u32],
+    n: usize,
+    known: &[u64],
+    structures: &mut [u64],
+    members: &mut [u64],
+)
+    requires { ⌜ PutsAsked (now s) (now rows) n (structuresFrom settings (now s) (now rows) (now attrs) n (typeFrom settings (now sizes) (now s) (now rows) (now attrs) n (now known) 0) 0 n) (now members) ⌝ }
+    ensures { λ _. ⌜ PutAll (structuresFrom settings (now (s .entry)) (now (rows .entry)) (now (attrs .entry)) n (typeFrom settings (now (sizes .entry)) (now (s .entry)) (now (rows .entry)) (now (attrs .entry)) n (now (known .entry)) 0) 0 n) (now (structures .entry)) (now (structures .exit)) (now (members .entry)) (now (members .exit)) ⌝ }
+{
+    let mut counts = LayoutCounts {
+        structures: 0,
+        members: 0,
+    };
+    let mut i: usize = 0;
+    while i < n {
+        counts = put_row(
+            s,
+            settings,
+            sizes,
+            rows,
+            attrs,
+            n,
+            known,
+            i,
+            counts,
+            structures,
+            members,
+        );
+        i += 1;
+    }
+}
+
+// Counted first, so that with too little room nothing is written.
+fn give_layouts(
+    s: &[u8],
+    settings: Settings,
+    sizes: &[u32],
+    rows: &[u32],
+    attrs: &[u32],
+    n: usize,
+    known: &[u64],
+    structures: &mut [u64],
+    members: &mut [u64],
+) -> AllLayouts
+    requires { ⌜ Ready (now s) (now rows) n ⌝ }
+    ensures { λ r. ⌜ AllGiven (intoRooms (now (structures .entry)) (now (members .entry)) (structuresFrom settings (now (s .entry)) (now (rows .entry)) (now (attrs .entry)) n (typeFrom settings (now (sizes .entry)) (now (s .entry)) (now (rows .entry)) (now (attrs .entry)) n (now (known .entry)) 0) 0 n)) r (now (structures .exit)) (now (members .exit)) ⌝ }
+{
+    let needed = count_layouts(s, settings, sizes, rows, attrs, n, known);
+    if needed.structures > structures.len() / STRUCTURE_WIDTH {
+        return AllLayouts::Room(needed);
+    }
+    if needed.members > members.len() / LAID_WIDTH {
+        return AllLayouts::Room(needed);
+    }
+    put_layouts(
+        s,
+        settings,
+        sizes,
+        rows,
+        attrs,
+        n,
+        known,
+        structures,
+        members,
+    );
+    AllLayouts::Are(needed)
+}
+
+// The sizes of all rows first, once.
+fn lay_all(
+    s: &[u8],
+    settings: Settings,
+    sizes: &[u32],
+    rows: &[u32],
+    attrs: &[u32],
+    n: usize,
+    structures: &mut [u64],
+    members: &mut [u64],
+) -> AllLayouts
+    requires { ⌜ Ready (now s) (now rows) n ⌝ }
+    ensures { λ r. ⌜ AllGiven (intoRooms (now (structures .entry)) (now (members .entry)) (structuresFrom settings (now (s .entry)) (now (rows .entry)) (now (attrs .entry)) n (typeSize settings (now (sizes .entry)) (now (s .entry)) (now (rows .entry)) (now (attrs .entry)) n deepest) 0 n)) r (now (structures .exit)) (now (members .exit)) ⌝ }
+{
+    let mut known = [0u64; KNOWN_WORDS];
+    let mut next = [0u64; KNOWN_WORDS];
+    fill_known(s, settings, sizes, rows, attrs, n, &mut known, &mut next);
+    give_layouts(
+        s,
+        settings,
+        sizes,
+        rows,
+        attrs,
+        n,
+        &known,
+        structures,
+        members,
+    )
+}
+
+// Every structure's and class's layout, their words and their members' into lent rooms; or a refusal, and both stay as they were.
+pub fn all_layouts(
+    s: &[u8],
+    settings: Settings,
+    vendors: &[u16],
+    sizes: &[u32],
+    rows: &[u32],
+    attrs: &[u32],
+    counts: Counts,
+    structures: &mut [u64],
+    members: &mut [u64],
+) -> AllLayouts
+    ensures { λ r. ⌜ AllGiven (allOf settings (now (vendors .entry)) (now (sizes .entry)) (now (s .entry)) (now (rows .entry)) (now (attrs .entry)) counts (now (structures .entry)) (now (members .entry))) r (now (structures .exit)) (now (members .exit)) ⌝ }
+{
+    match check_table(s, settings, vendors, sizes, rows, attrs, counts) {
+        Check::Passed => lay_all(
+            s,
+            settings,
+            sizes,
+            rows,
+            attrs,
+            counts.rows,
+            structures,
+            members,
+        ),
+        Check::Refused(why) => AllLayouts::Refused(why),
+    }
+}

@@ -1,0 +1,444 @@
+// The layout of a structure or class: its size, and for each member in walk order its offset, size and name, into lent room.
+use crate::prepare::Shape;
+use crate::prepare::shape_of;
+use crate::prepare::structure_fault;
+use crate::size::grown;
+use crate::size::type_size;
+use crate::sized::Sized;
+use format::attribute_kind::BYTE_SIZE;
+use format::limits::DEPTH_LIMIT;
+use format::refusal::Reason;
+use format::refusal::Refusal;
+use format::settings::Settings;
+use links::kids::child_from;
+use links::link::next_row;
+use links::link::sibling_row;
+use links::typed::Keyed;
+use links::typed::row_of;
+use records::fields::Word;
+use records::fields::last_word;
+use records::member::Member;
+use records::member::MemberRead;
+use records::member::member_at;
+use records::member_words::name_length;
+use records::member_words::name_place;
+use records::scan::Fault;
+use records::scan::refused;
+use records::scan::run_of;
+use records::words::put_word;
+use tables::row::Counts;
+use tables::row::row_at;
+ghost use mathlib.Core.Path.{_≡_};
+ghost use Prim.Native.Nat.{_+_, _*_};
+ghost use lib.Seq.{sets};
+ghost use mathlib.Core.List.{[], _∷_};
+ghost use Rattle.records.specs.EnumerationWays.{AskedShort};
+ghost use Rattle.records.specs.MemberWords.{namePlace, nameLength};
+ghost use Rattle.tables.specs.Row.{rowAt};
+ghost use Rattle.links.specs.Kids.{kidsOf};
+ghost use Rattle.sizes.specs.Size.{shapeOf, sizeOr};
+ghost use Rattle.sizes.specs.SizeWays.{Ready, EndsShort, typeFrom};
+ghost use Rattle.sizes.specs.Layout.{laidWidth, isStructure, isBounded, sizeOrLargest, endOr, laidFrom, rowLay, layoutAt, intoRoom, layoutOf, LayoutGiven};
+ghost use Rattle.sizes.specs.LayoutWays.{laidWord, childLaid, childrenLaid, structureLaid, LayAsked, Lays, WholeLaid};
+
+pub struct Layout {
+    pub row: usize,
+    pub size: u32,
+    pub members: usize,
+}
+
+// With no room.
+pub enum LayoutWhole {
+    Is(Layout),
+    Refused(Refusal),
+}
+
+pub enum LayoutRead {
+    Is(Layout),
+    Refused(Refusal),
+    // Refusal 8, at 0: how many members there are.
+    Room(usize),
+}
+
+// How many members are laid, and their largest end.
+pub enum Laying {
+    Is { count: usize, largest: u32 },
+    Refused(Refusal),
+}
+
+// The words of a member: offset, size, place and length of its name.
+pub const LAID_WIDTH: usize = 4;
+
+pub fn is_structure(kind: u32) -> bool
+    ensures { λ r. ⌜ r ≡ isStructure (shapeOf kind) ⌝ }
+{
+    match shape_of(kind) {
+        Shape::Array => false,
+        Shape::Structure => true,
+        Shape::Enumeration => false,
+        Shape::Union => false,
+        Shape::PtrToMember => false,
+        Shape::Subroutine => false,
+        Shape::Other => false,
+    }
+}
+
+// Is there a ByteSize?
+fn is_bounded(size: Word) -> bool
+    ensures { λ r. ⌜ r ≡ isBounded size ⌝ }
+{
+    match size {
+        Word::Is(_) => true,
+        Word::Nothing => false,
+    }
+}
+
+fn size_or_largest(size: Word, largest: u32) -> u32
+    ensures { λ r. ⌜ r ≡ sizeOrLargest largest size ⌝ }
+{
+    match size {
+        Word::Is(size) => size,
+        Word::Nothing => largest,
+    }
+}
+
+// A member's own size, else its type's.
+fn member_size(
+    s: &[u8],
+    settings: Settings,
+    sizes: &[u32],
+    rows: &[u32],
+    attrs: &[u32],
+    n: usize,
+    known: &[u64],
+    levels: usize,
+    member: Member,
+) -> Sized
+    requires { ⌜ Ready (now s) (now rows) n ⌝ }
+    ensures { λ r. ⌜ r ≡ sizeOr (typeFrom settings (now (sizes .entry)) (now (s .entry)) (now (rows .entry)) (now (attrs .entry)) n (now (known .entry)) levels) (member .of) (member .«byte_size») ⌝ }
+{
+    let own = member.byte_size;
+    let of = member.of;
+    match own {
+        Word::Is(size) => Sized::Is(size),
+        Word::Nothing => type_size(s, settings, sizes, rows, attrs, n, known, levels, of),
+    }
+}
+
+// The largest end; with a ByteSize no end is taken for a size.
+fn end_or(rows: &[u32], bounded: bool, c: usize, largest: u32, offset: u32, size: u32) -> Sized
+    ensures { λ r. ⌜ r ≡ endOr bounded (rowAt (now (rows .entry)) c .key) largest (offset + size) ⌝ }
+{
+    if bounded {
+        Sized::Is(largest)
+    } else {
+        grown(rows, c, largest, offset, size)
+    }
+}
+
+// Member number k into the room, if it fits.
+fn put_laid(room: &mut [u64], k: usize, member: Member, size: u32)
+    ensures { λ _. ⌜ now (room .exit) ≡ sets (now (room .entry)) (k * laidWidth) (laidWord (member .offset) size (namePlace (member .name)) (nameLength (member .name))) ⌝ }
+{
+    let name = member.name;
+    if k < room.len() {
+        let at = k * LAID_WIDTH;
+        put_word(room, at, member.offset as u64);
+        put_word(room, at + 1, size as u64);
+        put_word(room, at + 2, name_place(name));
+        put_word(room, at + 3, name_length(name));
+    }
+}
+
+// A member at row c, laid as number `count`.
+fn lay_member(
+    s: &[u8],
+    settings: Settings,
+    sizes: &[u32],
+    rows: &[u32],
+    attrs: &[u32],
+    n: usize,
+    known: &[u64],
+    levels: usize,
+    bounded: bool,
+    c: usize,
+    member: Member,
+    count: usize,
+    largest: u32,
+    room: &mut [u64],
+) -> Laying
+    requires { ⌜ LayAsked (now s) (now rows) n c count ⌝ }
+    ensures { λ r. ⌜ Lays (laidFrom (now (rows .entry)) (typeFrom settings (now (sizes .entry)) (now (s .entry)) (now (rows .entry)) (now (attrs .entry)) n (now (known .entry)) levels) bounded largest (record { row = c; member = member } ∷ [])) count r (now (room .entry)) (now (room .exit)) ⌝ }
+{
+    match member_size(s, settings, sizes, rows, attrs, n, known, levels, member) {
+        Sized::Is(size) => match end_or(rows, bounded, c, largest, member.offset, size) {
+            Sized::Is(next) => {
+                put_laid(room, count, member, size);
+                Laying::Is {
+                    count: count + 1,
+                    largest: next,
+                }
+            }
+            Sized::Refused(why) => Laying::Refused(why),
+        },
+        Sized::Refused(why) => Laying::Refused(why),
+    }
+}
+
+// Child c: a member is laid, any other is passed over.
+fn lay_child(
+    s: &[u8],
+    settings: Settings,
+    sizes: &[u32],
+    rows: &[u32],
+    attrs: &[u32],
+    n: usize,
+    known: &[u64],
+    levels: usize,
+    bounded: bool,
+    c: usize,
+    count: usize,
+    largest: u32,
+    room: &mut [u64],
+) -> Laying
+    requires { ⌜ LayAsked (now s) (now rows) n c count ⌝ }
+    ensures { λ r. ⌜ Lays (childLaid settings (now (s .entry)) (now (rows .entry)) (now (attrs .entry)) n (typeFrom settings (now (sizes .entry)) (now (s .entry)) (now (rows .entry)) (now (attrs .entry)) n (now (known .entry)) levels) bounded largest c) count r (now (room .entry)) (now (room .exit)) ⌝ }
+{
+    let row = row_at(rows, c);
+    if row.kind != 0x0d {
+        return Laying::Is { count, largest };
+    }
+    match member_at(s, settings, rows, attrs, n, c) {
+        MemberRead::Is(member) => lay_member(
+            s,
+            settings,
+            sizes,
+            rows,
+            attrs,
+            n,
+            known,
+            levels,
+            bounded,
+            c,
+            member,
+            count,
+            largest,
+            room,
+        ),
+        MemberRead::Refused(why) => Laying::Refused(why),
+    }
+}
+
+// The children of row i, whose walk ends, one at a time.
+fn lay_children(
+    s: &[u8],
+    settings: Settings,
+    sizes: &[u32],
+    rows: &[u32],
+    attrs: &[u32],
+    n: usize,
+    known: &[u64],
+    levels: usize,
+    bounded: bool,
+    i: usize,
+    room: &mut [u64],
+) -> Laying
+    requires { ⌜ EndsShort settings (now s) (now rows) (now attrs) n i ⌝ }
+    ensures { λ r. ⌜ Lays (childrenLaid settings (now (s .entry)) (now (rows .entry)) (now (attrs .entry)) n (typeFrom settings (now (sizes .entry)) (now (s .entry)) (now (rows .entry)) (now (attrs .entry)) n (now (known .entry)) levels) bounded 0 (kidsOf (settings .endian) (now (s .entry)) (now (rows .entry)) (now (attrs .entry)) n i)) 0 r (now (room .entry)) (now (room .exit)) ⌝ }
+{
+    let e = settings.endian;
+    let end = sibling_row(s, e, rows, attrs, n, i);
+    let mut c = child_from(s, e, rows, attrs, n, end, next_row(rows, n, i));
+    let mut k: usize = 0;
+    let mut most: u32 = 0;
+    while c < n {
+        match lay_child(
+            s,
+            settings,
+            sizes,
+            rows,
+            attrs,
+            n,
+            known,
+            levels,
+            bounded,
+            c,
+            k,
+            most,
+            room,
+        ) {
+            Laying::Is { count, largest } => {
+                k = count;
+                most = largest;
+                c = child_from(
+                    s,
+                    e,
+                    rows,
+                    attrs,
+                    n,
+                    end,
+                    sibling_row(s, e, rows, attrs, n, c),
+                );
+            }
+            Laying::Refused(why) => return Laying::Refused(why),
+        }
+    }
+    Laying::Is {
+        count: k,
+        largest: most,
+    }
+}
+
+// The members of a structure: all are read whole before any size is taken.
+fn lay_structure(
+    s: &[u8],
+    settings: Settings,
+    sizes: &[u32],
+    rows: &[u32],
+    attrs: &[u32],
+    n: usize,
+    known: &[u64],
+    levels: usize,
+    bounded: bool,
+    i: usize,
+    room: &mut [u64],
+) -> Laying
+    requires { ⌜ AskedShort (now s) (now rows) n i ⌝ }
+    ensures { λ r. ⌜ Lays (structureLaid settings (now (s .entry)) (now (rows .entry)) (now (attrs .entry)) n (typeFrom settings (now (sizes .entry)) (now (s .entry)) (now (rows .entry)) (now (attrs .entry)) n (now (known .entry)) levels) bounded i) 0 r (now (room .entry)) (now (room .exit)) ⌝ }
+{
+    match structure_fault(s, settings, rows, attrs, n, i) {
+        Fault::Clear => lay_children(
+            s,
+            settings,
+            sizes,
+            rows,
+            attrs,
+            n,
+            known,
+            levels,
+            bounded,
+            i,
+            room,
+        ),
+        Fault::Refused(why) => Laying::Refused(why),
+    }
+}
+
+// Row i: only a structure or a class has a layout.
+pub fn read_layout(
+    s: &[u8],
+    settings: Settings,
+    sizes: &[u32],
+    rows: &[u32],
+    attrs: &[u32],
+    n: usize,
+    known: &[u64],
+    levels: usize,
+    i: usize,
+    room: &mut [u64],
+) -> LayoutWhole
+    requires { ⌜ AskedShort (now s) (now rows) n i ⌝ }
+    ensures { λ r. ⌜ WholeLaid (layoutAt settings (now (s .entry)) (now (rows .entry)) (now (attrs .entry)) n (typeFrom settings (now (sizes .entry)) (now (s .entry)) (now (rows .entry)) (now (attrs .entry)) n (now (known .entry)) levels) i) (rowLay settings (now (s .entry)) (now (rows .entry)) (now (attrs .entry)) n (typeFrom settings (now (sizes .entry)) (now (s .entry)) (now (rows .entry)) (now (attrs .entry)) n (now (known .entry)) levels) i) r (now (room .entry)) (now (room .exit)) ⌝ }
+{
+    let row = row_at(rows, i);
+    if !is_structure(row.kind) {
+        return LayoutWhole::Refused(refused(Reason::Kind, row.key));
+    }
+    let e = settings.endian;
+    let own = last_word(s, attrs, run_of(e, rows, i), BYTE_SIZE);
+    match lay_structure(
+        s,
+        settings,
+        sizes,
+        rows,
+        attrs,
+        n,
+        known,
+        levels,
+        is_bounded(own),
+        i,
+        room,
+    ) {
+        Laying::Is { count, largest } => LayoutWhole::Is(Layout {
+            row: i,
+            size: size_or_largest(own, largest),
+            members: count,
+        }),
+        Laying::Refused(why) => LayoutWhole::Refused(why),
+    }
+}
+
+// Counted first, so that a refusal has written nothing.
+fn give_layout(
+    s: &[u8],
+    settings: Settings,
+    sizes: &[u32],
+    rows: &[u32],
+    attrs: &[u32],
+    n: usize,
+    known: &[u64],
+    levels: usize,
+    i: usize,
+    room: &mut [u64],
+) -> LayoutRead
+    requires { ⌜ AskedShort (now s) (now rows) n i ⌝ }
+    ensures { λ r. ⌜ LayoutGiven (intoRoom (now (room .entry)) (rowLay settings (now (s .entry)) (now (rows .entry)) (now (attrs .entry)) n (typeFrom settings (now (sizes .entry)) (now (s .entry)) (now (rows .entry)) (now (attrs .entry)) n (now (known .entry)) levels) i) (layoutAt settings (now (s .entry)) (now (rows .entry)) (now (attrs .entry)) n (typeFrom settings (now (sizes .entry)) (now (s .entry)) (now (rows .entry)) (now (attrs .entry)) n (now (known .entry)) levels) i)) r (now (room .exit)) ⌝ }
+{
+    let mut none = [0u64; 0];
+    match read_layout(
+        s,
+        settings,
+        sizes,
+        rows,
+        attrs,
+        n,
+        known,
+        levels,
+        i,
+        &mut none,
+    ) {
+        LayoutWhole::Is(found) => {
+            if found.members <= room.len() / LAID_WIDTH {
+                read_layout(s, settings, sizes, rows, attrs, n, known, levels, i, room);
+                LayoutRead::Is(found)
+            } else {
+                LayoutRead::Room(found.members)
+            }
+        }
+        LayoutWhole::Refused(why) => LayoutRead::Refused(why),
+    }
+}
+
+// The layout of a key's entry, which is depth 1, its members into the room, four words each; or a refusal, and the room stays as it was.
+pub fn layout_of_key(
+    s: &[u8],
+    settings: Settings,
+    vendors: &[u16],
+    sizes: &[u32],
+    rows: &[u32],
+    attrs: &[u32],
+    counts: Counts,
+    key: u32,
+    room: &mut [u64],
+) -> LayoutRead
+    ensures { λ r. ⌜ LayoutGiven (layoutOf settings (now (vendors .entry)) (now (sizes .entry)) (now (s .entry)) (now (rows .entry)) (now (attrs .entry)) counts key (now (room .entry))) r (now (room .exit)) ⌝ }
+{
+    match row_of(s, settings, vendors, sizes, rows, attrs, counts, key) {
+        Keyed::Row(i) => {
+            let known = [0u64; 0];
+            give_layout(
+                s,
+                settings,
+                sizes,
+                rows,
+                attrs,
+                counts.rows,
+                &known,
+                DEPTH_LIMIT - 1,
+                i,
+                room,
+            )
+        }
+        Keyed::Refused(why) => LayoutRead::Refused(why),
+    }
+}

@@ -1,0 +1,137 @@
+// The sizes of all rows of a table, level by level: the sizes of one level give those of the next, each row's once, so that the row sizes taken are at most rows times depth.
+use crate::known::KNOWN_WIDTH;
+use crate::size::row_size;
+use crate::sized::Sized;
+use format::limits::DEPTH_LIMIT;
+use format::refusal::Reason;
+use format::refusal::Refusal;
+use format::refusal::number_of;
+use format::settings::Settings;
+use records::scan::refused;
+use records::words::put_word;
+use tables::row::row_at;
+ghost use mathlib.Core.Path.{_≡_};
+ghost use Prim.Native.Nat.{_+_, _*_, _≤_};
+ghost use lib.ListN.{length};
+ghost use lib.Seq.{sets};
+ghost use mathlib.Core.List.{[], _∷_};
+ghost use Rattle.sizes.specs.LevelsWays.{knownWidth, lastLevel, nextLevel, sizeLeft, PutKnown, Filled, FillAsked, TakenOver};
+ghost use Rattle.sizes.specs.declared.sized.Sized.the-variants.{Is, Refused};
+
+fn put_three(known: &mut [u64], at: usize, number: u64, size: u64, place: u64)
+    requires { ⌜ at + 3 ≤ length (now known) ⌝ }
+    ensures { λ _. ⌜ now (known .exit) ≡ sets (now (known .entry)) at (number ∷ size ∷ place ∷ []) ⌝ }
+{
+    put_word(known, at, number);
+    put_word(known, at + 1, size);
+    put_word(known, at + 2, place);
+}
+
+fn put_size(known: &mut [u64], i: usize, size: u32)
+    requires { ⌜ i * knownWidth + knownWidth ≤ length (now known) ⌝ }
+    ensures { λ _. ⌜ PutKnown i (Is size) (now (known .entry)) (now (known .exit)) ⌝ }
+{
+    put_three(known, i * KNOWN_WIDTH, 0, size as u64, 0);
+}
+
+fn put_refusal(known: &mut [u64], i: usize, why: Refusal)
+    requires { ⌜ i * knownWidth + knownWidth ≤ length (now known) ⌝ }
+    ensures { λ _. ⌜ PutKnown i (Refused why) (now (known .entry)) (now (known .exit)) ⌝ }
+{
+    let reason = why.reason;
+    put_three(
+        known,
+        i * KNOWN_WIDTH,
+        number_of(reason) as u64,
+        0,
+        why.place,
+    );
+}
+
+// Row i's size among the known ones.
+fn put_known(known: &mut [u64], i: usize, size: Sized)
+    requires { ⌜ i * knownWidth + knownWidth ≤ length (now known) ⌝ }
+    ensures { λ _. ⌜ PutKnown i size (now (known .entry)) (now (known .exit)) ⌝ }
+{
+    match size {
+        Sized::Is(size) => put_size(known, i, size),
+        Sized::Refused(why) => put_refusal(known, i, why),
+    }
+}
+
+// Where no level is left every row is past the limit.
+fn last_level(rows: &[u32], n: usize, known: &mut [u64])
+    requires { ⌜ n * knownWidth ≤ length (now known) ⌝ }
+    ensures { λ _. ⌜ Filled (lastLevel (now (rows .entry))) n n (now (known .exit)) ⌝ }
+{
+    let mut i: usize = 0;
+    while i < n {
+        let row = row_at(rows, i);
+        put_refusal(known, i, refused(Reason::Depth, row.key));
+        i += 1;
+    }
+}
+
+// One level more: the entries that a row names have the sizes that are known.
+fn next_level(
+    s: &[u8],
+    settings: Settings,
+    sizes: &[u32],
+    rows: &[u32],
+    attrs: &[u32],
+    n: usize,
+    known: &[u64],
+    next: &mut [u64],
+)
+    requires { ⌜ FillAsked (now s) (now rows) n (now next) ⌝ }
+    ensures { λ _. ⌜ Filled (nextLevel settings (now (sizes .entry)) (now (s .entry)) (now (rows .entry)) (now (attrs .entry)) n (now (known .entry))) n n (now (next .exit)) ⌝ }
+{
+    let mut i: usize = 0;
+    while i < n {
+        let size = row_size(s, settings, sizes, rows, attrs, n, known, 0, i);
+        put_known(next, i, size);
+        i += 1;
+    }
+}
+
+// The first words of `known` become those of `next`; were they the same already?
+fn take_over(known: &mut [u64], next: &[u64], words: usize) -> bool
+    requires { ⌜ words ≤ length (now known) × words ≤ length (now next) ⌝ }
+    ensures { λ r. ⌜ TakenOver words (now (known .entry)) (now (next .entry)) r (now (known .exit)) ⌝ }
+{
+    let mut same = true;
+    let mut k: usize = 0;
+    while k < words {
+        if known[k] != next[k] {
+            same = false;
+            known[k] = next[k];
+        }
+        k += 1;
+    }
+    same
+}
+
+// The sizes of all rows, the entry that is asked for being depth 2. Once a level changes nothing, none above it does.
+pub fn fill_known(
+    s: &[u8],
+    settings: Settings,
+    sizes: &[u32],
+    rows: &[u32],
+    attrs: &[u32],
+    n: usize,
+    known: &mut [u64],
+    next: &mut [u64],
+)
+    requires { ⌜ FillAsked (now s) (now rows) n (now known) × FillAsked (now s) (now rows) n (now next) ⌝ }
+    ensures { λ _. ⌜ Filled (sizeLeft settings (now (sizes .entry)) (now (s .entry)) (now (rows .entry)) (now (attrs .entry)) n 31) n n (now (known .exit)) ⌝ }
+{
+    last_level(rows, n, known);
+    let mut level: usize = 0;
+    while level < DEPTH_LIMIT - 1 {
+        next_level(s, settings, sizes, rows, attrs, n, known, next);
+        if take_over(known, next, n * KNOWN_WIDTH) {
+            return;
+        }
+        level += 1;
+    }
+}
