@@ -13,12 +13,27 @@ use Rattle.format.specs.declared.settings.Producer.{Producer}
 use Rattle.format.specs.declared.settings.Producer.the-variants.{Mwcc, Gcc, Other}
 use Rattle.format.specs.declared.settings.Settings.{Settings}
 use Rattle.tables.specs.declared.row.Counts.{Counts}
-use Rattle.entries.specs.Section.{Outcome}
+use Rattle.entries.specs.Section as entries
 use Rattle.entries.specs.declared.section.Count.{Count}
 use Rattle.entries.specs.declared.section.Count.the-variants as count
 use Rattle.entries.specs.declared.section.Section.{Section}
 use Rattle.entries.specs.declared.section.Section.the-variants as section
-use Rattle.exports.specs.declared.Told.{Told}
+use Rattle.sizes.specs.declared.sized.Sized.{Sized}
+use Rattle.sizes.specs.declared.sized.Sized.the-variants as sized
+use Rattle.sizes.specs.Layout as laying
+use Rattle.sizes.specs.declared.layout.Layout.{Layout}
+use Rattle.sizes.specs.declared.layout.LayoutRead.{LayoutRead}
+use Rattle.sizes.specs.declared.layout.LayoutRead.the-variants as layout
+use Rattle.sizes.specs.All as every
+use Rattle.sizes.specs.declared.all.LayoutCounts.{LayoutCounts}
+use Rattle.sizes.specs.declared.all.AllLayouts.{AllLayouts}
+use Rattle.sizes.specs.declared.all.AllLayouts.the-variants as layouts
+use Rattle.blocks.specs.declared.location.Located.{Located}
+use Rattle.blocks.specs.declared.location.Located.the-variants as located
+use Rattle.tree.specs.Tree as tree
+use Rattle.tree.specs.declared.listing.Listing.{Listing}
+use Rattle.tree.specs.declared.listing.Listing.the-variants as listing
+use Rattle.exports.specs.declared.told.Told.{Told}
 
 -- ---- settings
 
@@ -43,13 +58,21 @@ settingsFrom endian erased producer global mangled name id =
       roles = record { «global_ref» = global; mangled = mangled; «overlay_name» = name; «overlay_id» = id };
     }
 
--- ---- answers: a number (0 for read, else the refusal's), a place (0 where nothing is refused), two counts (0 where nothing is counted)
+-- how many rows and attributes a lent table has
+abbrev pub countsFrom : ℕ → ℕ → Counts
+countsFrom rows attrs = record { rows = rows; attrs = attrs }
 
-unfoldable pub countedAs : ℕ → Counts → Told
-countedAs n c = record { number = n; place = 0; rows = c .rows; attrs = c .attrs }
+-- ---- answers: a number (0 for given, else the refusal's), a place (0 where nothing is refused), up to three results (0 where there is none)
+
+unfoldable pub toldAs : ℕ → ℕ → ℕ → ℕ → Told
+toldAs n a b c = record { number = n; place = 0; first = a; second = b; third = c }
 
 unfoldable pub refusedAs : Refusal → Told
-refusedAs why = record { number = numberOf (why .reason); place = why .place; rows = 0; attrs = 0 }
+refusedAs why = record { number = numberOf (why .reason); place = why .place; first = 0; second = 0; third = 0 }
+
+-- rows and attributes
+unfoldable pub countedAs : ℕ → Counts → Told
+countedAs n c = toldAs n (c .rows) (c .attrs) 0
 
 unfoldable pub countTold : Count → Told
 countTold (count.Counted c) = countedAs 0 c
@@ -60,20 +83,84 @@ sectionTold (section.Read c) = countedAs 0 c
 sectionTold (section.Refused why) = refusedAs why
 sectionTold (section.Room c) = countedAs (numberOf reason.Room) c
 
+-- the size
+unfoldable pub sizeTold : Sized → Told
+sizeTold (sized.Is size) = toldAs 0 size 0 0
+sizeTold (sized.Refused why) = refusedAs why
+
+-- the offset
+unfoldable pub offsetTold : Located → Told
+offsetTold (located.Is offset) = toldAs 0 offset 0 0
+offsetTold (located.Refused why) = refusedAs why
+
+-- rows
+unfoldable pub treeTold : Listing → Told
+treeTold (listing.Listed n) = toldAs 0 n 0 0
+treeTold (listing.Refused why) = refusedAs why
+treeTold (listing.Room n) = toldAs (numberOf reason.Room) n 0 0
+
+-- row, size and members
+unfoldable pub laidAs : Layout → Told
+laidAs x = toldAs 0 (x .row) (x .size) (x .members)
+
+unfoldable pub layoutTold : LayoutRead → Told
+layoutTold (layout.Is x) = laidAs x
+layoutTold (layout.Refused why) = refusedAs why
+layoutTold (layout.Room n) = toldAs (numberOf reason.Room) 0 0 n
+
+-- structures and members
+unfoldable pub layoutsAs : ℕ → LayoutCounts → Told
+layoutsAs n c = toldAs n (c .structures) (c .members) 0
+
+unfoldable pub layoutsTold : AllLayouts → Told
+layoutsTold (layouts.Are c) = layoutsAs 0 c
+layoutsTold (layouts.Refused why) = refusedAs why
+layoutsTold (layouts.Room c) = layoutsAs (numberOf reason.Room) c
+
 -- ---- what the functions hand back
 
--- a number, a place and two counts that say what was told
-pub record Says (told : Told) (number place rows attrs : ℕ) : Type 0 where
+-- a number, a place and one result that say what was told
+pub record SaysOne (told : Told) (number place first : ℕ) : Type 0 where
   pub number-is : number ≡ told .number
   pub place-is : place ≡ told .place
-  pub rows-are : rows ≡ told .rows
-  pub attrs-are : attrs ≡ told .attrs
+  pub first-is : first ≡ told .first
+
+-- the same with a second result
+pub record SaysTwo (told : Told) (number place first second : ℕ) : Type 0 where
+  pub says : SaysOne told number place first
+  pub second-is : second ≡ told .second
+
+-- and with a third
+pub record SaysThree (told : Told) (number place first second third : ℕ) : Type 0 where
+  pub says : SaysTwo told number place first second
+  pub third-is : third ≡ told .third
 
 abbrev pub CountCrosses : Count → ℕ → ℕ → ℕ → ℕ → Type 0
-CountCrosses answer number place rows attrs = Says (countTold answer) number place rows attrs
+CountCrosses answer number place rows attrs = SaysTwo (countTold answer) number place rows attrs
 
 -- the same of an outcome's answer, and the lent tables hold what the outcome has
-pub record SectionCrosses (o : Outcome) (number place rows attrs : ℕ) (rowTable attrTable : List ℕ) : Type 0 where
-  pub says : Says (sectionTold (o .answer)) number place rows attrs
+pub record SectionCrosses (o : entries.Outcome) (number place rows attrs : ℕ) (rowTable attrTable : List ℕ) : Type 0 where
+  pub says : SaysTwo (sectionTold (o .answer)) number place rows attrs
   pub row-table : rowTable ≡ o .rows
   pub attr-table : attrTable ≡ o .attrs
+
+abbrev pub SizeCrosses : Sized → ℕ → ℕ → ℕ → Type 0
+SizeCrosses answer number place size = SaysOne (sizeTold answer) number place size
+
+abbrev pub OffsetCrosses : Located → ℕ → ℕ → ℕ → Type 0
+OffsetCrosses answer number place offset = SaysOne (offsetTold answer) number place offset
+
+-- of an outcome's answer, and the lent room holds what the outcome has
+pub record TreeCrosses (o : tree.Outcome) (number place rows : ℕ) (room : List ℕ) : Type 0 where
+  pub says : SaysOne (treeTold (o .answer)) number place rows
+  pub room-is : room ≡ o .room
+
+pub record LayoutCrosses (o : laying.Outcome) (number place row size members : ℕ) (room : List ℕ) : Type 0 where
+  pub says : SaysThree (layoutTold (o .answer)) number place row size members
+  pub room-is : room ≡ o .room
+
+-- the same with both lent rooms
+pub record LayoutsCross (o : every.Outcome) (number place structures members : ℕ) (structureRoom memberRoom : List ℕ) : Type 0 where
+  pub says : SaysTwo (layoutsTold (o .answer)) number place structures members
+  pub structure-room : structureRoom ≡ o .structures
+  pub member-room : memberRoom ≡ o .members

@@ -2,31 +2,86 @@
 use Prim.Native.Nat.{ℕ}
 use mathlib.Core.Path.{_≡_, ap, _∙_, subst}
 use mathlib.Core.List.{List}
+use Rattle.numbers.specs.declared.Endian.{Endian}
 use Rattle.format.specs.declared.settings.Settings.{Settings}
+use Rattle.tables.specs.declared.row.Counts.{Counts}
 use Rattle.entries.specs.Section.{countSection, readSection, SectionRead}
 use Rattle.entries.specs.declared.section.Count.{Count}
 use Rattle.entries.specs.declared.section.Section.{Section}
-use Rattle.exports.specs.Crossing.{countTold, sectionTold, Says, CountCrosses, SectionCrosses}
-use Rattle.exports.specs.declared.Told.{Told}
+use Rattle.sizes.specs.Size.{sizeOfKey}
+use Rattle.sizes.specs.All.{allOf, AllGiven}
+use Rattle.sizes.specs.declared.all.AllLayouts.{AllLayouts}
+use Rattle.sizes.specs.Layout.{layoutOf, LayoutGiven}
+use Rattle.sizes.specs.declared.sized.Sized.{Sized}
+use Rattle.sizes.specs.declared.layout.LayoutRead.{LayoutRead}
+use Rattle.blocks.specs.Location.{offsetOf}
+use Rattle.blocks.specs.declared.location.Located.{Located}
+use Rattle.tree.specs.Tree.{treeOf, Given}
+use Rattle.tree.specs.declared.listing.Listing.{Listing}
+use Rattle.exports.specs.Crossing.{countTold, sectionTold, sizeTold, offsetTold, treeTold, layoutTold, layoutsTold, SaysOne, SaysTwo, SaysThree, CountCrosses, SectionCrosses, SizeCrosses, OffsetCrosses, TreeCrosses, LayoutCrosses, LayoutsCross}
+use Rattle.exports.specs.declared.told.Told.{Told}
 
 -- what was told, field by field
-said : (told : Told) {t : Told} → t ≡ told → Says told (t .number) (t .place) (t .rows) (t .attrs)
-said told p =
+said-one : (told : Told) {t : Told} → t ≡ told → SaysOne told (t .number) (t .place) (t .first)
+said-one told p =
     record {
       number-is = ap (λ (x : Told). x .number) p;
       place-is = ap (λ (x : Told). x .place) p;
-      rows-are = ap (λ (x : Told). x .rows) p;
-      attrs-are = ap (λ (x : Told). x .attrs) p;
+      first-is = ap (λ (x : Told). x .first) p;
     }
+
+said-two : (told : Told) {t : Told} → t ≡ told → SaysTwo told (t .number) (t .place) (t .first) (t .second)
+said-two told p = record { says = said-one told p; second-is = ap (λ (x : Told). x .second) p }
+
+said-three : (told : Told) {t : Told} → t ≡ told → SaysThree told (t .number) (t .place) (t .first) (t .second) (t .third)
+said-three told p = record { says = said-two told p; third-is = ap (λ (x : Told). x .third) p }
 
 module _ {settings settings′ : Settings} (same : settings ≡ settings′) (vendors sizes s : List ℕ) where
   pub count-crosses : {answer : Count} {t : Told} → answer ≡ countSection settings vendors sizes s → t ≡ countTold answer
-      → CountCrosses (countSection settings′ vendors sizes s) (t .number) (t .place) (t .rows) (t .attrs)
-  count-crosses p q = said _ (q ∙ ap countTold (p ∙ ap (λ (x : Settings). countSection x vendors sizes s) same))
+      → CountCrosses (countSection settings′ vendors sizes s) (t .number) (t .place) (t .first) (t .second)
+  count-crosses p q = said-two _ (q ∙ ap countTold (p ∙ ap (λ (x : Settings). countSection x vendors sizes s) same))
 
-  pub read-crosses : (rows attrs : List ℕ) {answer : Section} {t : Told} {rows₁ attrs₁ : List ℕ}
-      → SectionRead (readSection settings vendors sizes s rows attrs) answer rows₁ attrs₁ → t ≡ sectionTold answer
-      → SectionCrosses (readSection settings′ vendors sizes s rows attrs) (t .number) (t .place) (t .rows) (t .attrs) rows₁ attrs₁
-  read-crosses rows attrs {answer} {t} {rows₁} {attrs₁} p q =
-      subst (λ (x : Settings). SectionCrosses (readSection x vendors sizes s rows attrs) (t .number) (t .place) (t .rows) (t .attrs) rows₁ attrs₁) same
-      (record { says = said _ (q ∙ ap sectionTold (p .answer-is)); row-table = p .rows-are; attr-table = p .attrs-are })
+  module _ (rows attrs : List ℕ) where
+    pub read-crosses : {answer : Section} {t : Told} {rows₁ attrs₁ : List ℕ}
+        → SectionRead (readSection settings vendors sizes s rows attrs) answer rows₁ attrs₁ → t ≡ sectionTold answer
+        → SectionCrosses (readSection settings′ vendors sizes s rows attrs) (t .number) (t .place) (t .first) (t .second) rows₁ attrs₁
+    read-crosses {answer} {t} {rows₁} {attrs₁} p q =
+        subst (λ (x : Settings). SectionCrosses (readSection x vendors sizes s rows attrs) (t .number) (t .place) (t .first) (t .second) rows₁ attrs₁) same
+        (record { says = said-two _ (q ∙ ap sectionTold (p .answer-is)); row-table = p .rows-are; attr-table = p .attrs-are })
+
+    module _ {counts counts′ : Counts} (many : counts ≡ counts′) where
+      pub size-crosses : (key : ℕ) {answer : Sized} {t : Told} → answer ≡ sizeOfKey settings vendors sizes s rows attrs counts key → t ≡ sizeTold answer
+          → SizeCrosses (sizeOfKey settings′ vendors sizes s rows attrs counts′ key) (t .number) (t .place) (t .first)
+      size-crosses key p q =
+          said-one _
+          (q
+          ∙ ap sizeTold
+          (p ∙ ap (λ (x : Settings). sizeOfKey x vendors sizes s rows attrs counts key) same ∙ ap (λ (n : Counts). sizeOfKey settings′ vendors sizes s rows attrs n key) many))
+
+      pub tree-crosses : (room : List ℕ) {answer : Listing} {t : Told} {room₁ : List ℕ}
+          → Given (treeOf settings vendors sizes s rows attrs counts room) answer room₁ → t ≡ treeTold answer
+          → TreeCrosses (treeOf settings′ vendors sizes s rows attrs counts′ room) (t .number) (t .place) (t .first) room₁
+      tree-crosses room {answer} {t} {room₁} p q =
+          subst (λ (n : Counts). TreeCrosses (treeOf settings′ vendors sizes s rows attrs n room) (t .number) (t .place) (t .first) room₁) many
+          (subst (λ (x : Settings). TreeCrosses (treeOf x vendors sizes s rows attrs counts room) (t .number) (t .place) (t .first) room₁) same
+          (record { says = said-one _ (q ∙ ap treeTold (p .answer-is)); room-is = p .room-is }))
+
+      pub layout-crosses : (key : ℕ) (room : List ℕ) {answer : LayoutRead} {t : Told} {room₁ : List ℕ}
+          → LayoutGiven (layoutOf settings vendors sizes s rows attrs counts key room) answer room₁ → t ≡ layoutTold answer
+          → LayoutCrosses (layoutOf settings′ vendors sizes s rows attrs counts′ key room) (t .number) (t .place) (t .first) (t .second) (t .third) room₁
+      layout-crosses key room {answer} {t} {room₁} p q =
+          subst (λ (n : Counts). LayoutCrosses (layoutOf settings′ vendors sizes s rows attrs n key room) (t .number) (t .place) (t .first) (t .second) (t .third) room₁) many
+          (subst (λ (x : Settings). LayoutCrosses (layoutOf x vendors sizes s rows attrs counts key room) (t .number) (t .place) (t .first) (t .second) (t .third) room₁) same
+          (record { says = said-three _ (q ∙ ap layoutTold (p .answer-is)); room-is = p .room-is }))
+
+      pub layouts-cross : (structures room : List ℕ) {answer : AllLayouts} {t : Told} {structures₁ room₁ : List ℕ}
+          → AllGiven (allOf settings vendors sizes s rows attrs counts structures room) answer structures₁ room₁ → t ≡ layoutsTold answer
+          → LayoutsCross (allOf settings′ vendors sizes s rows attrs counts′ structures room) (t .number) (t .place) (t .first) (t .second) structures₁ room₁
+      layouts-cross structures room {answer} {t} {structures₁} {room₁} p q =
+          subst (λ (n : Counts). LayoutsCross (allOf settings′ vendors sizes s rows attrs n structures room) (t .number) (t .place) (t .first) (t .second) structures₁ room₁) many
+          (subst (λ (x : Settings). LayoutsCross (allOf x vendors sizes s rows attrs counts structures room) (t .number) (t .place) (t .first) (t .second) structures₁ room₁) same
+          (record { says = said-two _ (q ∙ ap layoutsTold (p .answer-is)); structure-room = p .structures-are; member-room = p .members-are }))
+
+pub offset-crosses : {e e′ : Endian} → e ≡ e′ → (block : List ℕ) {answer : Located} {t : Told} → answer ≡ offsetOf e block → t ≡ offsetTold answer
+    → OffsetCrosses (offsetOf e′ block) (t .number) (t .place) (t .first)
+offset-crosses same block p q = said-one _ (q ∙ ap offsetTold (p ∙ ap (λ (x : Endian). offsetOf x block) same))

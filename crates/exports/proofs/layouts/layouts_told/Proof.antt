@@ -1,0 +1,54 @@
+use Rattle.exports.specs.Crossing.{layoutsAs, layoutsTold}
+use borrow.Author.Needs.{needs}
+use Prim.Native.Nat.{ℕ}
+use mathlib.Core.Path.{sym, ap, _∙_}
+use Rattle.exports.proofs.layouts.layouts_told.Statement.{statement}
+use Rattle.exports.proofs.layouts.layouts_told.Tie as tie
+
+enum-known-answer : tie.Need-enum-known-answer
+enum-known-answer c = search needs
+
+layouts-as-requires : tie.Need-layouts-as-requires
+layouts-as-requires c κs = search needs
+
+enum-known-answer-2 : tie.Need-enum-known-answer-2
+enum-known-answer-2 c = search needs
+
+refused-as-requires : tie.Need-refused-as-requires
+refused-as-requires c κs = search needs
+
+enum-known-answer-3 : tie.Need-enum-known-answer-3
+enum-known-answer-3 c = search needs
+
+number-of-requires : tie.Need-number-of-requires
+number-of-requires c κs = search needs
+
+layouts-as-requires-2 : tie.Need-layouts-as-requires-2
+layouts-as-requires-2 c κs = search needs
+
+returns : tie.Need-returns
+unfolding layoutsTold
+returns c = c .layouts-as .ensures ∙ sym (ap layoutsTold (c .before .before .answer .given .1))
+
+returns-2 : tie.Need-returns-2
+unfolding layoutsTold
+returns-2 c = c .refused-as .ensures ∙ sym (ap layoutsTold (c .before .before .answer2 .given .1))
+
+returns-3 : tie.Need-returns-3
+unfolding layoutsTold
+returns-3 c = c .layouts-as2 .ensures ∙ ap (λ (n : ℕ). layoutsAs n (c .before .before .before .answer3 .given .0 .0)) (c .before .number-of .ensures) ∙ sym (ap layoutsTold (c .before .before .before .answer3 .given .1))
+
+pub layouts-told-spec : {M : Type 1} → statement M
+layouts-told-spec =
+    tie.close
+    (tie.spec
+    enum-known-answer
+    layouts-as-requires
+    enum-known-answer-2
+    refused-as-requires
+    enum-known-answer-3
+    number-of-requires
+    layouts-as-requires-2
+    returns
+    returns-2
+    returns-3)

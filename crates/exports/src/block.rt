@@ -1,0 +1,35 @@
+// What a block alone says. One result: the offset.
+use crate::settings::endian_from;
+use crate::told::Told;
+use crate::told::refused_as;
+use crate::told::told_as;
+use blocks::location::Located;
+use blocks::location::process_offset;
+ghost use mathlib.Core.Path.{_≡_};
+ghost use Rattle.blocks.specs.Location.{offsetOf};
+ghost use Rattle.exports.specs.Crossing.{endianFrom, offsetTold, OffsetCrosses};
+
+fn offset_told(answer: Located) -> Told
+    ensures { λ r. ⌜ r ≡ offsetTold answer ⌝ }
+{
+    match answer {
+        Located::Is(offset) => told_as(0, offset as u64, 0, 0),
+        Located::Refused(why) => refused_as(why),
+    }
+}
+
+// `process_offset` of `blocks`; a refusal's place is 0.
+#[no_mangle]
+pub extern "C" fn capbeacon_process_offset(
+    block: &[u8],
+    endian: u32,
+    place: &mut u64,
+    offset: &mut u64,
+) -> u32
+    ensures { λ r. ⌜ OffsetCrosses (offsetOf (endianFrom endian) (now (block .entry))) r (now (place .exit)) (now (offset .exit)) ⌝ }
+{
+    let told = offset_told(process_offset(block, endian_from(endian)));
+    *place = told.place;
+    *offset = told.first;
+    told.number
+}

@@ -1,0 +1,89 @@
+// Layouts. Results: the row, its size, how many members were laid or, with 8, are to be.
+use crate::settings::counts_from;
+use crate::settings::settings_from;
+use crate::told::Told;
+use crate::told::refused_as;
+use crate::told::told_as;
+use format::refusal::Reason;
+use format::refusal::number_of;
+use sizes::layout::Layout;
+use sizes::layout::LayoutRead;
+use sizes::layout::layout_of_key;
+ghost use mathlib.Core.Path.{_≡_};
+ghost use Rattle.sizes.specs.Layout.{layoutOf};
+ghost use Rattle.exports.specs.Crossing.{settingsFrom, countsFrom, laidAs, layoutTold, LayoutCrosses};
+
+fn laid_as(layout: Layout) -> Told
+    ensures { λ r. ⌜ r ≡ laidAs layout ⌝ }
+{
+    told_as(
+        0,
+        layout.row as u64,
+        layout.size as u64,
+        layout.members as u64,
+    )
+}
+
+fn layout_told(answer: LayoutRead) -> Told
+    ensures { λ r. ⌜ r ≡ layoutTold answer ⌝ }
+{
+    match answer {
+        LayoutRead::Is(layout) => laid_as(layout),
+        LayoutRead::Refused(why) => refused_as(why),
+        LayoutRead::Room(members) => told_as(number_of(Reason::Room), 0, 0, members as u64),
+    }
+}
+
+// `layout_of_key` of `sizes`; `room` has four words for each member: offset, size, place and length of its name.
+#[no_mangle]
+pub extern "C" fn capbeacon_layout_of_key(
+    s: &[u8],
+    endian: u32,
+    erased: u32,
+    producer: u32,
+    global_ref: u16,
+    mangled: u16,
+    overlay_name: u16,
+    overlay_id: u16,
+    vendors: &[u16],
+    sizes: &[u32],
+    rows: &[u32],
+    attrs: &[u32],
+    row_count: u64,
+    attr_count: u64,
+    key: u32,
+    room: &mut [u64],
+    place: &mut u64,
+    row: &mut u64,
+    size: &mut u64,
+    members: &mut u64,
+) -> u32
+    ensures { λ r. ⌜ LayoutCrosses (layoutOf (settingsFrom endian erased producer «global_ref» mangled «overlay_name» «overlay_id») (now (vendors .entry)) (now (sizes .entry)) (now (s .entry)) (now (rows .entry)) (now (attrs .entry)) (countsFrom «row_count» «attr_count») key (now (room .entry))) r (now (place .exit)) (now (row .exit)) (now (size .exit)) (now (members .exit)) (now (room .exit)) ⌝ }
+{
+    let settings = settings_from(
+        endian,
+        erased,
+        producer,
+        global_ref,
+        mangled,
+        overlay_name,
+        overlay_id,
+    );
+    let counts = counts_from(row_count, attr_count);
+    let told = layout_told(layout_of_key(
+        s,
+        settings,
+        vendors,
+        sizes,
+        rows,
+        attrs,
+        counts,
+        key,
+        room,
+    ));
+    *place = told.place;
+    *row = told.first;
+    *size = told.second;
+    *members = told.third;
+    told.number
+}

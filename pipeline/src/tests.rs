@@ -1,0 +1,143 @@
+//! What the safe functions cannot do: forged tables, and tables and rooms of any length.
+use crate::{
+    Endian, Settings,
+    raw::{self, Answer, Table},
+};
+
+/// Document 01's input A, and its table.
+const INPUT_A: [u8; 42] = [
+    0x00, 0x00, 0x00, 0x12, 0x00, 0x13, 0x00, 0x12, 0x00, 0x00, 0x00, 0x2a, 0x00, 0xb6, 0x00, 0x00, 0x00,
+    0x04, 0x00, 0x00, 0x00, 0x14, 0x00, 0x0d, 0x00, 0x55, 0x00, 0x07, 0x00, 0x23, 0x00, 0x06, 0x04, 0x00,
+    0x00, 0x00, 0x00, 0x07, 0x00, 0x00, 0x00, 0x04,
+];
+const ROWS: [u32; 15] = [0x00, 0x13, 0, 0, 2, 0x12, 0x0d, 0, 2, 2, 0x26, 0x00, 0, 4, 0];
+const ATTRS: [u32; 8] = [0x12, 0x08, 0xb6, 0x0e, 0x55, 0x1a, 0x23, 0x1e];
+
+/// What stands in a word that was not written.
+const FILL: u32 = 0xabab_abab;
+
+fn settings() -> Settings {
+    Settings::none(Endian::Big)
+}
+
+fn table<'a>(rows: &'a [u32], attrs: &'a [u32], row_count: u64, attr_count: u64) -> Table<'a> {
+    Table { rows, attrs, row_count, attr_count }
+}
+
+/// The answers of the four calls on a table.
+fn asked(bytes: &[u8], table: Table) -> [Answer; 4] {
+    let (settings, mut places, mut members, mut all) = (settings(), [FILL; 32], [7; 32], ([7; 32], [7; 32]));
+    let tree = raw::tree(bytes, &settings, table, &mut places);
+    let size = raw::size(bytes, &settings, table, 0);
+    let layout = raw::layout(bytes, &settings, table, 0, &mut members);
+    if tree.number != 0 {
+        assert_eq!(places, [FILL; 32]);
+    }
+    if layout.number != 0 {
+        assert_eq!(members, [7; 32]);
+    }
+    let layouts = raw::layouts(bytes, &settings, table, &mut all.0, &mut all.1);
+    if layouts.number != 0 {
+        assert_eq!(all, ([7; 32], [7; 32]));
+    }
+    [tree, size, layout, layouts]
+}
+
+fn given(results: [u64; 3]) -> Answer {
+    Answer { number: 0, place: 0, results }
+}
+
+fn refused(number: u32, place: u64) -> Answer {
+    Answer { number, place, results: [0; 3] }
+}
+
+#[test]
+fn reading_fills_the_table() {
+    let (mut rows, mut attrs) = ([FILL; 16], [FILL; 9]);
+    assert_eq!(raw::count(&INPUT_A, &settings()), given([3, 4, 0]));
+    assert_eq!(raw::read(&INPUT_A, &settings(), &mut rows, &mut attrs), given([3, 4, 0]));
+    assert_eq!((&rows[..15], rows[15]), (&ROWS[..], FILL));
+    assert_eq!((&attrs[..8], attrs[8]), (&ATTRS[..], FILL));
+    assert_eq!(
+        asked(&INPUT_A, table(&rows, &attrs, 3, 4)),
+        [given([3, 0, 0]), given([4, 0, 0]), given([0, 4, 1]), given([1, 1, 0])]
+    );
+}
+
+#[test]
+fn tables_too_small() {
+    for (row_words, attr_words) in [(14, 8), (15, 7), (0, 0), (0, 100), (100, 0)] {
+        let (mut rows, mut attrs) = (vec![FILL; row_words], vec![FILL; attr_words]);
+        let answer = raw::read(&INPUT_A, &settings(), &mut rows, &mut attrs);
+        assert_eq!(answer, Answer { number: 8, place: 0, results: [3, 4, 0] });
+        assert!(rows.iter().chain(&attrs).all(|word| *word == FILL));
+    }
+}
+
+#[test]
+fn rooms_too_small() {
+    let lent = table(&ROWS, &ATTRS, 3, 4);
+    let mut places = [FILL; 5];
+    let answer = raw::tree(&INPUT_A, &settings(), lent, &mut places);
+    assert_eq!((answer, places), (Answer { number: 8, place: 0, results: [3, 0, 0] }, [FILL; 5]));
+    let mut members = [7; 3];
+    let answer = raw::layout(&INPUT_A, &settings(), lent, 0, &mut members);
+    assert_eq!((answer, members), (Answer { number: 8, place: 0, results: [0, 0, 1] }, [7; 3]));
+    for (structure_words, member_words) in [(7, 4), (8, 3), (0, 0)] {
+        let (mut structures, mut members) = (vec![7; structure_words], vec![7; member_words]);
+        let answer = raw::layouts(&INPUT_A, &settings(), lent, &mut structures, &mut members);
+        assert_eq!(answer, Answer { number: 8, place: 0, results: [1, 1, 0] });
+        assert!(structures.iter().chain(&members).all(|word| *word == 7));
+    }
+}
+
+#[test]
+fn forged_tables() {
+    let refusals = [refused(3, 0); 4];
+    // more rows or attributes than lent or allowed
+    for (row_count, attr_count) in [(4, 4), (3, 5), (u64::MAX, 4), (3, u64::MAX), (4097, 4), (3, 32769)] {
+        assert_eq!(asked(&INPUT_A, table(&ROWS, &ATTRS, row_count, attr_count)), refusals);
+    }
+    // a key, a kind, flags, a run, that cannot be
+    for (at, word) in
+        [(5, 3), (5, 0x26), (10, 42), (1, 0x08), (2, 8), (3, 1), (4, 1), (9, 3), (14, 1), (4, u32::MAX)]
+    {
+        let mut rows = ROWS;
+        rows[at] = word;
+        assert_eq!(asked(&INPUT_A, table(&rows, &ATTRS, 3, 4)), refusals, "row word {at} {word}");
+    }
+    // an attribute number that is unknown, a value that is not wholly inside
+    for (at, word) in [(0, 0x10012), (0, 0x22), (1, 39), (1, 42), (1, u32::MAX), (7, 0x24)] {
+        let mut attrs = ATTRS;
+        attrs[at] = word;
+        assert_eq!(asked(&INPUT_A, table(&ROWS, &attrs, 3, 4)), refusals, "attribute word {at} {word}");
+    }
+    // the table of another section
+    assert_eq!(asked(&INPUT_A[..30], table(&ROWS, &ATTRS, 3, 4)), refusals);
+}
+
+#[test]
+fn an_empty_table_is_one() {
+    for bytes in [&INPUT_A[..], &[]] {
+        let lent = table(&[], &[], 0, 0);
+        assert_eq!(asked(bytes, lent), [given([0; 3]), refused(11, 0), refused(11, 0), given([0; 3])]);
+    }
+}
+
+#[test]
+fn any_words_are_answered() {
+    let mut state = 1u32;
+    let mut next = |below: u32| {
+        state = state.wrapping_mul(1_664_525).wrapping_add(1_013_904_223);
+        (state >> 8) % below
+    };
+    for _ in 0..20_000 {
+        let (mut rows, mut attrs) = (ROWS, ATTRS);
+        for _ in 0..=next(3) {
+            rows[next(15) as usize] = next(60);
+            attrs[next(8) as usize] = next(60);
+        }
+        let (row_count, attr_count) = (next(5) as u64, next(6) as u64);
+        asked(&INPUT_A, table(&rows, &attrs, row_count, attr_count));
+    }
+}
