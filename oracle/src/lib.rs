@@ -1,6 +1,13 @@
 //! The Rust made to run: decomp-toolkit's DWARF module, unchanged, with the shims that it lacks; our archive beside it; and sections for both.
+pub mod answers;
+pub mod blocks;
+pub mod foresee;
+pub mod form;
+pub mod known;
 pub mod ours;
 pub mod sections;
+pub mod shapes;
+pub mod theirs;
 pub mod util;
 
 /// A fixed number of elements of a slice, as an array.

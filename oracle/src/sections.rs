@@ -1,6 +1,6 @@
 //! Sections made from a seed: well-formed, overrun, erased, nested, and damaged copies of them.
 use crate::{
-    ours::{NAMED, vendors},
+    known::{NAMED, vendors},
     util::{
         dwarf::{AttributeKind, TagKind},
         reader::Endian,
@@ -29,6 +29,16 @@ impl Rng {
 
     pub fn pick<T: Copy>(&mut self, of: &[T]) -> T {
         of[self.below(of.len())]
+    }
+
+    /// Small mostly, else around a limit, or any.
+    pub fn some_number(&mut self) -> u32 {
+        match self.below(100) {
+            0..3 => self.next() as u32,
+            3..6 => self.pick(&[u32::MAX, u32::MAX - 1, 0x8000_0000, 0x7fff_ffff, 0x1_0000, 0xffff]),
+            6..16 => 0,
+            _ => self.below(120) as u32,
+        }
     }
 }
 
@@ -133,6 +143,15 @@ impl Maker {
         let most = if self.rng.chance(3) { 700 } else { 12 };
         let bytes = self.some_bytes(most);
         w.attribute(data, number, value, &bytes);
+    }
+
+    /// An attribute of any known number.
+    pub fn any_attribute(&mut self, w: &mut Writer, data: Endian) {
+        self.attribute(w, data, None);
+    }
+
+    pub fn any_tag(&mut self) -> u16 {
+        self.rng.pick(&self.tags)
     }
 
     /// Mostly the true size, else, in a loose section, a little less (the last attribute overruns) or more (what follows is taken in).

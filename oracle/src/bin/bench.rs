@@ -1,6 +1,7 @@
 //! bench [ROUNDS] [SHAPE]: ours (counts, then fills lent tables) against the Rust (builds its map) on sections of several shapes; medians of alternating runs.
 use oracle::{
-    ours::{Reader, vendors},
+    known::vendors,
+    ours::Reader,
     sections::{Rng, Writer},
     util::{dwarf::read_debug_section, reader::Endian},
 };

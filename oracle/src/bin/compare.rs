@@ -2,84 +2,21 @@
 //!
 //! Short inputs come first, exhaustively, then SECTIONS sections from SEED, three in four of them damaged copies. Each is read with the erased flag off and on.
 use oracle::{
-    ours::{ATTRIBUTE, ATTRIBUTES, Answer, LEVELS, ROW, ROWS, Reader},
+    known::{ATTRIBUTES, LEVELS, ROWS},
+    ours::{ATTRIBUTE, Answer, ROW, Reader},
     sections::{Maker, Writer},
+    theirs::{read as rust, too_deep},
     util::{
-        dwarf::{AttributeValue, DwarfInfo, Tag, TagMap, read_debug_section},
+        dwarf::{AttributeValue, DwarfInfo, Tag},
         reader::{Endian, FromReader},
     },
 };
-use std::{
-    collections::BTreeMap,
-    env,
-    io::{self, BufRead, Cursor, Read, Seek, SeekFrom},
-    panic::{self, AssertUnwindSafe},
-    process::ExitCode,
-};
+use std::{collections::BTreeMap, env, panic, process::ExitCode};
 
 const BOTH: [Endian; 2] = [Endian::Big, Endian::Little];
 
 /// What the lent tables hold before a call.
 const UNTOUCHED: u32 = 0xa5a5_a5a5;
-
-/// A section that remembers where the innermost entry began: only `read_tags` asks for its place and then reads four bytes.
-struct Traced<'a> {
-    cursor: Cursor<&'a [u8]>,
-    asked: bool,
-    entry: u64,
-}
-
-impl Read for Traced<'_> {
-    fn read(&mut self, bytes: &mut [u8]) -> io::Result<usize> {
-        self.cursor.read(bytes)
-    }
-
-    fn read_exact(&mut self, bytes: &mut [u8]) -> io::Result<()> {
-        if self.asked && bytes.len() == 4 {
-            self.entry = self.cursor.position();
-        }
-        self.asked = false;
-        self.cursor.read_exact(bytes)
-    }
-}
-
-impl BufRead for Traced<'_> {
-    fn fill_buf(&mut self) -> io::Result<&[u8]> {
-        self.cursor.fill_buf()
-    }
-
-    fn consume(&mut self, n: usize) {
-        self.cursor.consume(n);
-    }
-}
-
-impl Seek for Traced<'_> {
-    fn seek(&mut self, to: SeekFrom) -> io::Result<u64> {
-        self.cursor.seek(to)
-    }
-
-    fn stream_position(&mut self) -> io::Result<u64> {
-        self.asked = true;
-        self.cursor.stream_position()
-    }
-}
-
-/// What the Rust does: its tags, or the refusal that its error stands for (0 for a panic) and the innermost entry's key.
-fn rust(section: &[u8], e: Endian, erased: bool) -> Result<DwarfInfo, (u32, u64)> {
-    let mut reader = Traced { cursor: Cursor::new(section), asked: false, entry: 0 };
-    let read = AssertUnwindSafe(|| read_debug_section(&mut reader, e, erased));
-    let why = match panic::catch_unwind(read) {
-        Ok(Ok(info)) => return Ok(info),
-        Ok(Err(error)) => match error.to_string().as_str() {
-            "Unknown DWARF tag type" => 5,
-            "Unknown DWARF attribute type" | "Unknown DWARF form type" => 6,
-            _ if error.is::<io::Error>() => 4,
-            text => panic!("the Rust fails with {text}"),
-        },
-        Err(_) => 0,
-    };
-    Err((why, reader.entry))
-}
 
 /// Is the value that stands at a place of the section the Rust's?
 fn same_value(section: &[u8], e: Endian, data: Endian, place: usize, value: &AttributeValue) -> bool {
@@ -105,26 +42,6 @@ fn same_block(section: &[u8], data: Endian, place: usize, form: u32, block: &[u8
         _ => u32::from_reader(at, data).unwrap() as usize,
     };
     at[..len] == *block
-}
-
-/// The key of the first erased root on a level that we do not allow.
-fn too_deep(section: &[u8], e: Endian, tags: &TagMap) -> Option<u64> {
-    let mut ends = Vec::new();
-    for tag in tags.values() {
-        let key = tag.key as u64;
-        while ends.last().is_some_and(|end| *end <= key) {
-            ends.pop();
-        }
-        if tag.is_erased_root {
-            let around = if ends.is_empty() { e } else { tag.data_endian };
-            let size = u32::from_reader(&mut &section[tag.key as usize..], around).unwrap();
-            ends.push(key + size as u64);
-            if ends.len() > LEVELS {
-                return Some(key);
-            }
-        }
-    }
-    None
 }
 
 /// What became of one comparison: read by both, refused by both at one place for one reason, or outside our limits.

@@ -1,0 +1,46 @@
+use borrow.Author.Needs.{needs}
+use Prim.Native.Nat.{_-_}
+use lib.ListN.{length}
+use Rattle.examples.proofs.alone.element_at.Statement.{statement}
+use Rattle.examples.proofs.alone.element_at.Tie as tie
+
+abbrev Inv-loop : tie.InvT-loop
+Inv-loop block e found₀ at₀ found at = Unit {0}
+
+abbrev μ-loop : tie.MeasureT-loop
+μ-loop block e found₀ at₀ found at = length block - at
+
+loop-holds : tie.Need-loop-holds Inv-loop μ-loop
+loop-holds c = tt
+
+step-at-requires : tie.Need-step-at-requires Inv-loop μ-loop
+step-at-requires c κs = search needs
+
+returns : tie.Need-returns Inv-loop μ-loop
+returns c = tt
+
+if-element-requires : tie.Need-if-element-requires Inv-loop μ-loop
+if-element-requires c κs = search needs
+
+loop-less : tie.Need-loop-less Inv-loop μ-loop
+loop-less c = search needs
+
+loop-again : tie.Need-loop-again Inv-loop μ-loop
+loop-again c = tt
+
+returns-2 : tie.Need-returns-2 Inv-loop μ-loop
+returns-2 c = tt
+
+pub element-at-spec : {M : Type 1} → statement M
+element-at-spec =
+    tie.close
+    (tie.spec
+    Inv-loop
+    μ-loop
+    loop-holds
+    step-at-requires
+    returns
+    if-element-requires
+    loop-less
+    loop-again
+    returns-2)

@@ -1,0 +1,46 @@
+use borrow.Author.Needs.{needs}
+use Prim.Native.Nat.{_-_}
+use lib.ListN.{length}
+use Rattle.examples.proofs.fields.modifier_bytes.Statement.{statement}
+use Rattle.examples.proofs.fields.modifier_bytes.Tie as tie
+
+abbrev Inv-loop : tie.InvT-loop
+Inv-loop body raw d₀ i₀ d i = Unit {0}
+
+abbrev μ-loop : tie.MeasureT-loop
+μ-loop body raw d₀ i₀ d i = length raw - i
+
+loop-holds : tie.Need-loop-holds Inv-loop μ-loop
+loop-holds c = tt
+
+shared-slice-read-modifier-byte : tie.Need-shared-slice-read-modifier-byte Inv-loop μ-loop
+shared-slice-read-modifier-byte c = search needs
+
+modifier-byte-requires : tie.Need-modifier-byte-requires Inv-loop μ-loop
+modifier-byte-requires c κs = search needs
+
+add-i : tie.Need-add-i Inv-loop μ-loop
+add-i c = search needs
+
+loop-less : tie.Need-loop-less Inv-loop μ-loop
+loop-less c = search needs
+
+loop-again : tie.Need-loop-again Inv-loop μ-loop
+loop-again c = tt
+
+returns : tie.Need-returns Inv-loop μ-loop
+returns c = tt
+
+pub modifier-bytes-spec : {M : Type 1} → statement M
+modifier-bytes-spec =
+    tie.close
+    (tie.spec
+    Inv-loop
+    μ-loop
+    loop-holds
+    shared-slice-read-modifier-byte
+    modifier-byte-requires
+    add-i
+    loop-less
+    loop-again
+    returns)

@@ -1,0 +1,34 @@
+use borrow.Author.Needs.{needs}
+use Prim.Native.Nat.{_-_}
+use lib.ListN.{length}
+use Rattle.examples.proofs.questions.ask_all.Statement.{statement}
+use Rattle.examples.proofs.questions.ask_all.Tie as tie
+
+abbrev Inv-loop : tie.InvT-loop
+Inv-loop packet t₀ at₀ t at = Unit {0}
+
+abbrev μ-loop : tie.MeasureT-loop
+μ-loop packet t₀ at₀ t at = length packet - at
+
+loop-holds : tie.Need-loop-holds Inv-loop μ-loop
+loop-holds c = tt
+
+ask-requires : tie.Need-ask-requires Inv-loop μ-loop
+ask-requires c κs = search needs
+
+returns : tie.Need-returns Inv-loop μ-loop
+returns c = tt
+
+loop-less : tie.Need-loop-less Inv-loop μ-loop
+loop-less c = search needs
+
+loop-again : tie.Need-loop-again Inv-loop μ-loop
+loop-again c = tt
+
+returns-2 : tie.Need-returns-2 Inv-loop μ-loop
+returns-2 c = tt
+
+pub ask-all-spec : {M : Type 1} → statement M
+ask-all-spec =
+    tie.close
+    (tie.spec Inv-loop μ-loop loop-holds ask-requires returns loop-less loop-again returns-2)

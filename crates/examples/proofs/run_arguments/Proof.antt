@@ -1,0 +1,33 @@
+use borrow.Author.Needs.{needs}
+use Prim.Native.Nat.{_-_}
+use Rattle.examples.proofs.run_arguments.Statement.{statement}
+use Rattle.examples.proofs.run_arguments.Tie as tie
+
+abbrev Inv-loop : tie.InvT-loop
+Inv-loop n packet₀ i₀ packet i = Unit {0}
+
+abbrev μ-loop : tie.MeasureT-loop
+μ-loop n packet₀ i₀ packet i = n - i
+
+loop-holds : tie.Need-loop-holds Inv-loop μ-loop
+loop-holds c = tt
+
+run-argument-requires : tie.Need-run-argument-requires Inv-loop μ-loop
+run-argument-requires c κs = search needs
+
+add-i : tie.Need-add-i Inv-loop μ-loop
+add-i c = search needs
+
+loop-less : tie.Need-loop-less Inv-loop μ-loop
+loop-less c = search needs
+
+loop-again : tie.Need-loop-again Inv-loop μ-loop
+loop-again c = tt
+
+returns : tie.Need-returns Inv-loop μ-loop
+returns c = tt
+
+pub run-arguments-spec : {M : Type 1} → statement M
+run-arguments-spec =
+    tie.close
+    (tie.spec Inv-loop μ-loop loop-holds run-argument-requires add-i loop-less loop-again returns)
