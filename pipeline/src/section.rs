@@ -3,7 +3,7 @@ use std::fmt;
 
 use crate::{
     Endian, Error, Needed, Settings,
-    raw::{self, Table},
+    raw::{self, Answer, Table},
 };
 
 /// A section's bytes with the tables that were read from them.
@@ -216,16 +216,16 @@ impl Section {
         let ask = |structures: &mut [u64], members: &mut [u64]| {
             raw::layouts(&self.bytes, &self.settings, self.table(), structures, members)
         };
-        // Without room they are counted.
-        let counted = ask(&mut [], &mut []);
-        if counted.number != 8 {
-            counted.given(needed)?;
+        let mut structures = vec![0; raw::STRUCTURE_WIDTH * self.row_count];
+        let mut members = vec![0; raw::LAID_WIDTH * self.row_count];
+        let mut answer = ask(&mut structures, &mut members);
+        // References can make one row a member of several structures.
+        if let Answer { number: 8, results: [_, count, _], .. } = answer {
+            members.resize(raw::LAID_WIDTH * count as usize, 0);
+            answer = ask(&mut structures, &mut members);
         }
-        let [structure_count, member_count, _] = counted.results.map(|n| n as usize);
-        let mut structures = vec![0; raw::STRUCTURE_WIDTH * structure_count];
-        let mut members = vec![0; raw::LAID_WIDTH * member_count];
-        ask(&mut structures, &mut members).given(needed)?;
-        let words = structures.chunks_exact(raw::STRUCTURE_WIDTH);
+        let [count, ..] = answer.given(needed)?;
+        let words = structures.chunks_exact(raw::STRUCTURE_WIDTH).take(count as usize);
         Ok(words.filter_map(|words| self.structure(words, &members)).collect())
     }
 

@@ -50,12 +50,28 @@ fn row_number(rows: &[u32], n: usize, key: u32) -> usize
     }
 }
 
+// The same; mostly it is the row after row i, which is looked at first.
+fn row_number_near(rows: &[u32], n: usize, i: usize, key: u32) -> usize
+    requires { ⌜ AtRow (now rows) n i ⌝ }
+    ensures { λ r. ⌜ r ≡ rowNumber n (rowOfKey (now (rows .entry)) n key) ⌝ }
+{
+    let next = i + 1;
+    if next >= n {
+        return row_number(rows, n, key);
+    }
+    let row = row_at(rows, next);
+    if row.key == key {
+        return next;
+    }
+    row_number(rows, n, key)
+}
+
 pub fn sibling_row(s: &[u8], e: Endian, rows: &[u32], attrs: &[u32], n: usize, i: usize) -> usize
     requires { ⌜ AtRow (now rows) n i ⌝ }
     ensures { λ r. ⌜ r ≡ siblingRow e (now (s .entry)) (now (rows .entry)) (now (attrs .entry)) n i ⌝ }
 {
     match reference_of(s, e, rows, attrs, i, SIBLING) {
-        Reference::To(key) => row_number(rows, n, key),
+        Reference::To(key) => row_number_near(rows, n, i, key),
         Reference::Nothing => next_row(rows, n, i),
     }
 }

@@ -134,7 +134,8 @@ module _ (settings : Settings) (vendors sizes s rows₀ attrs₀ : List ℕ) (c 
   unfolding firstErased
   no-erased = none-first (λ i. erasedRow (rowAt rows i .flags)) (c .rows) unerased
 
-  tree-listed : (room : List ℕ) → treeOf settings vendors sizes s rows attrs c room ≡ listed rows (c .rows) reach room
+  -- with the tests passed, the listing is that of the table's reaches
+  pub tree-listed : (room : List ℕ) → treeOf settings vendors sizes s rows attrs c room ≡ listed rows (c .rows) reach room
   unfolding treeOf tested afterTests
   tree-listed room = rw (tests-pass .0, tests-pass .1, table-holds)
 

@@ -25,3 +25,5 @@ pub mod WalkTree
 pub mod Only
 -- The tree theorem.
 pub mod Demand3
+-- The wrong readers of document 01, each shut out by name.
+pub mod ShutOut

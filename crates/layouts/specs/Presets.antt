@@ -1,0 +1,44 @@
+-- What a section is read with.
+use Prim.Native.Nat.{ℕ}
+use mathlib.Core.Bool.{Bool, true, false, cond}
+use mathlib.Core.List.{List, [], _∷_}
+use lib.Dec.{eqb}
+use Rattle.numbers.specs.declared.Endian.{Endian}
+use Rattle.numbers.specs.declared.Endian.the-variants as endian
+use Rattle.format.specs.declared.settings.Producer.the-variants as producer
+use Rattle.layouts.specs.declared.presets.Preset.{Preset}
+
+-- the same bytes
+unfoldable pub isWord : List ℕ → List ℕ → Bool
+isWord [] [] = true
+isWord [] (w ∷ ws) = false
+isWord (t ∷ ts) [] = false
+isWord (t ∷ ts) (w ∷ ws) = cond (eqb w t) (isWord ts ws) false
+
+unfoldable pub endianOf : Bool → Endian
+endianOf little = cond little endian.Little endian.Big
+
+-- the vendor's 47 numbers and four roles, or none; erased entries stay out
+unfoldable pub presetOf : Bool → Bool → Preset
+presetOf little true =
+    record {
+      settings =
+          record {
+            endian = endianOf little;
+            erased = false;
+            producer = producer.Mwcc;
+            roles = record { «global_ref» = 0x2022; mangled = 0x2008; «overlay_name» = 0x22a8; «overlay_id» = 0x2296 };
+          };
+      vendors = 47;
+    }
+presetOf little false =
+    record {
+      settings =
+          record {
+            endian = endianOf little;
+            erased = false;
+            producer = producer.Other;
+            roles = record { «global_ref» = 0; mangled = 0; «overlay_name» = 0; «overlay_id» = 0 };
+          };
+      vendors = 0;
+    }
