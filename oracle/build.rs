@@ -12,12 +12,15 @@ fn path(variable: &str) -> Option<PathBuf> {
     Some(path)
 }
 
-/// Our archive is for x86-64, and only `compare` and `bench` need it.
-fn link_archive(archive: &Path) {
+/// Our archive is for x86-64 unless one is named; only `compare`, `bench` and `calls` need it.
+fn link_archive(named: Option<PathBuf>, root: &Path) {
+    let here = env::var("CARGO_CFG_TARGET_ARCH").unwrap() == "x86_64" || named.is_some();
+    let archive = named.unwrap_or_else(|| root.join("../target/staticlib/libexports.a"));
     println!("cargo:rerun-if-changed={}", archive.display());
-    if archive.exists() && env::var("CARGO_CFG_TARGET_ARCH").unwrap() == "x86_64" {
+    let name = archive.file_stem().and_then(|n| n.to_str()).and_then(|n| n.strip_prefix("lib"));
+    if let Some(name) = name.filter(|_| here && archive.exists()) {
         println!("cargo:rustc-link-search=native={}", archive.parent().unwrap().display());
-        println!("cargo:rustc-link-lib=static=exports");
+        println!("cargo:rustc-link-lib=static={name}");
     }
 }
 
@@ -33,5 +36,5 @@ fn main() {
     let declaration = format!("#[path = {:?}]\npub mod dwarf;\n", out.join("mod.rs"));
     fs::write(out.join("declaration.rs"), declaration).unwrap();
 
-    link_archive(&path("CAPBEACON_LIB").unwrap_or_else(|| root.join("../target/staticlib/libexports.a")));
+    link_archive(path("CAPBEACON_LIB"), &root);
 }

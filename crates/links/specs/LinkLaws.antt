@@ -7,8 +7,7 @@ use mathlib.Core.List.{List}
 use Rattle.tables.specs.Row.{rowAt, erasedRow}
 use Rattle.tables.specs.declared.row.Row.{Row}
 use Rattle.numbers.specs.declared.Endian.{Endian}
-use Rattle.tables.specs.Find.{rowOfKey, Rising}
-use Rattle.tables.specs.FindLaws.{row-of-own-key}
+use Rattle.tables.specs.Find.{rowOfKey}
 use Rattle.links.specs.Attribute.{siblingNumber, referenceOf}
 use Rattle.links.specs.Links.{nextFrom, nextRow, rowNumber, siblingBy, siblingRow}
 use Rattle.links.specs.declared.lookup.Reference.{Reference}
@@ -60,10 +59,3 @@ module _ (e : Endian) (s rows attrs : List ℕ) (n i : ℕ) {told : Reference} (
   pub sibling-next : {r : ℕ} → told ≡ reference.Nothing → r ≡ nextRow rows n i → r ≡ siblingRow e s rows attrs n i
   unfolding siblingRow siblingBy
   sibling-next p h = h ∙ ap (siblingBy rows n i) (sym p ∙ is)
-
--- a row that has the key is the one
-pub number-near : {rows : List ℕ} {n next key : ℕ} {row : Row} → Rising rows n → next < n → row ≡ rowAt rows next → row .key ≡ key
-    → next ≡ rowNumber n (rowOfKey rows n key)
-unfolding rowNumber
-number-near {rows} {n} {next} rising l p q =
-    ap (rowNumber n) (sym (row-of-own-key rising next l) ∙ ap (rowOfKey rows n) (ap (λ (r : Row). r .key) (sym p) ∙ q))

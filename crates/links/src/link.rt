@@ -3,12 +3,12 @@ use crate::lookup::Reference;
 use crate::lookup::reference_of;
 use numbers::Endian;
 use tables::find::Found;
-use tables::find::find_row;
+use tables::find::find_row_near;
 use tables::row::is_erased;
 use tables::row::row_at;
 ghost use mathlib.Core.Path.{_≡_};
 ghost use Prim.Native.Nat.{_-_, _≤_};
-ghost use Rattle.tables.specs.Find.{rowOfKey, Rising};
+ghost use Rattle.tables.specs.Find.{rowOfKey};
 ghost use Rattle.links.specs.Links.{nextFrom, nextRow, rowNumber, siblingRow, AtRow};
 
 const SIBLING: u32 = 0x12;
@@ -40,30 +40,15 @@ pub fn next_row(rows: &[u32], n: usize, i: usize) -> usize
     next_from(rows, n, i + 1, is_erased(row.flags))
 }
 
-fn row_number(rows: &[u32], n: usize, key: u32) -> usize
-    requires { ⌜ Rising (now rows) n ⌝ }
-    ensures { λ r. ⌜ r ≡ rowNumber n (rowOfKey (now (rows .entry)) n key) ⌝ }
-{
-    match find_row(rows, n, key) {
-        Found::At(j) => j,
-        Found::Nothing => n,
-    }
-}
-
-// The same; mostly it is the row after row i, which is looked at first.
-fn row_number_near(rows: &[u32], n: usize, i: usize, key: u32) -> usize
+// The row of a key that row i names, or n.
+fn row_number(rows: &[u32], n: usize, i: usize, key: u32) -> usize
     requires { ⌜ AtRow (now rows) n i ⌝ }
     ensures { λ r. ⌜ r ≡ rowNumber n (rowOfKey (now (rows .entry)) n key) ⌝ }
 {
-    let next = i + 1;
-    if next >= n {
-        return row_number(rows, n, key);
+    match find_row_near(rows, n, i, key) {
+        Found::At(j) => j,
+        Found::Nothing => n,
     }
-    let row = row_at(rows, next);
-    if row.key == key {
-        return next;
-    }
-    row_number(rows, n, key)
 }
 
 pub fn sibling_row(s: &[u8], e: Endian, rows: &[u32], attrs: &[u32], n: usize, i: usize) -> usize
@@ -71,7 +56,7 @@ pub fn sibling_row(s: &[u8], e: Endian, rows: &[u32], attrs: &[u32], n: usize, i
     ensures { λ r. ⌜ r ≡ siblingRow e (now (s .entry)) (now (rows .entry)) (now (attrs .entry)) n i ⌝ }
 {
     match reference_of(s, e, rows, attrs, i, SIBLING) {
-        Reference::To(key) => row_number_near(rows, n, i, key),
+        Reference::To(key) => row_number(rows, n, i, key),
         Reference::Nothing => next_row(rows, n, i),
     }
 }

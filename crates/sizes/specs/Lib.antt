@@ -28,3 +28,5 @@ pub mod AllEach
 pub mod AllFilled
 -- No second answer fits.
 pub mod Only
+-- An example, computed.
+pub mod Examples

@@ -162,3 +162,8 @@ unfolding rowOfKey
 row-of-own-key {rows} {n} rising i h =
     sym (from-at rows (rowAt rows i .key) 0 n i (omega arith) (omega arith)
     (λ k l m p. (let less : rowAt rows k .key < rowAt rows i .key = rises rising k i m h in omega arith)) refl)
+
+-- a row whose first word is the key is the one
+pub row-near : {rows : List ℕ} {n next key : ℕ} {w : ℕ} → Rising rows n → next < n → w ≡ getD rows (next * rowWidth) 0 → w ≡ key → At next ≡ rowOfKey rows n key
+row-near {rows} {n} {next} rising l p q =
+    sym (row-of-own-key rising next l) ∙ ap (rowOfKey rows n) (sym (key-word rows next) ∙ sym p ∙ q)

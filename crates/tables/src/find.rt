@@ -2,6 +2,7 @@
 use crate::row::ROW_WIDTH;
 use crate::words::cell;
 ghost use mathlib.Core.Path.{_≡_};
+ghost use Prim.Native.Nat.{_<_};
 ghost use Rattle.tables.specs.Find.{rowOfKey, Rising};
 ghost use Rattle.tables.specs.FindLaws.{FirstFrom};
 
@@ -42,4 +43,19 @@ pub fn find_row(rows: &[u32], n: usize, key: u32) -> Found
     } else {
         Found::Nothing
     }
+}
+
+// The same; references mostly name the row after the one that has them, so the row after row i is looked at before the search.
+pub fn find_row_near(rows: &[u32], n: usize, i: usize, key: u32) -> Found
+    requires { ⌜ Rising (now rows) n × (i < n) ⌝ }
+    ensures { λ r. ⌜ r ≡ rowOfKey (now (rows .entry)) n key ⌝ }
+{
+    let next = i + 1;
+    if next >= n {
+        return find_row(rows, n, key);
+    }
+    if cell(rows, next * ROW_WIDTH) == key {
+        return Found::At(next);
+    }
+    find_row(rows, n, key)
 }

@@ -3,10 +3,10 @@ use links::lookup::Reference;
 use links::lookup::reference_of;
 use numbers::Endian;
 use tables::find::Found;
-use tables::find::find_row;
+use tables::find::find_row_near;
 ghost use mathlib.Core.Path.{_≡_};
 ghost use Prim.Native.Nat.{_<_};
-ghost use Rattle.tables.specs.Find.{rowOfKey, Rising};
+ghost use Rattle.tables.specs.Find.{rowOfKey};
 ghost use Rattle.links.specs.Links.{AtRow};
 ghost use Rattle.tree.specs.Reach.{laterRow, reachEnd};
 
@@ -14,10 +14,10 @@ const SIBLING: u32 = 0x12;
 
 // The row of this key, if it comes after row i; else 0.
 fn later_row(rows: &[u32], n: usize, i: usize, key: u32) -> usize
-    requires { ⌜ Rising (now rows) n ⌝ }
+    requires { ⌜ AtRow (now rows) n i ⌝ }
     ensures { λ r. ⌜ r ≡ laterRow i (rowOfKey (now (rows .entry)) n key) ⌝ }
 {
-    match find_row(rows, n, key) {
+    match find_row_near(rows, n, i, key) {
         Found::At(j) => { if i < j { j } else { 0 } }
         Found::Nothing => 0,
     }

@@ -9,8 +9,8 @@ reference-of-requires c κs = search needs
 enum-known-key : tie.Need-enum-known-key
 enum-known-key c = search needs
 
-row-number-near-requires : tie.Need-row-number-near-requires
-row-number-near-requires c κs = search needs
+row-number-requires : tie.Need-row-number-requires
+row-number-requires c κs = search needs
 
 enum-told : tie.Need-enum-told
 enum-told c = search needs
@@ -19,7 +19,7 @@ next-row-requires : tie.Need-next-row-requires
 next-row-requires c κs = search needs
 
 returns : tie.Need-returns
-returns c = sibling-named _ _ _ _ _ _ (c .before .before .before .before .reference-of .ensures) (c .before .before .key .given .1) (c .row-number-near .ensures)
+returns c = sibling-named _ _ _ _ _ _ (c .before .before .before .before .reference-of .ensures) (c .before .before .key .given .1) (c .row-number .ensures)
 
 returns-2 : tie.Need-returns-2
 returns-2 c = sibling-next _ _ _ _ _ _ (c .before .before .before .reference-of .ensures) (c .before .enum-told .given .1) (c .next-row .ensures)
@@ -30,7 +30,7 @@ sibling-row-spec =
     (tie.spec
     reference-of-requires
     enum-known-key
-    row-number-near-requires
+    row-number-requires
     enum-told
     next-row-requires
     returns

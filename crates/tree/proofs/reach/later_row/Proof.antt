@@ -3,8 +3,8 @@ use borrow.Author.Needs.{needs}
 use Rattle.tree.proofs.reach.later_row.Statement.{statement}
 use Rattle.tree.proofs.reach.later_row.Tie as tie
 
-find-row-requires : tie.Need-find-row-requires
-find-row-requires c κs = search needs
+find-row-near-requires : tie.Need-find-row-near-requires
+find-row-near-requires c κs = search needs
 
 enum-known-j : tie.Need-enum-known-j
 enum-known-j c = search needs
@@ -13,14 +13,14 @@ enum-told : tie.Need-enum-told
 enum-told c = search needs
 
 returns : tie.Need-returns
-returns c = later-named _ (c .before .before .before .before .find-row .ensures) (c .before .before .j .given .1) (c .if1 .taken)
+returns c = later-named _ (c .before .before .before .before .find-row-near .ensures) (c .before .before .j .given .1) (c .if1 .taken)
 
 returns-2 : tie.Need-returns-2
-returns-2 c = earlier-named _ (c .before .before .before .before .find-row .ensures) (c .before .before .j .given .1) (c .if1 .left)
+returns-2 c = earlier-named _ (c .before .before .before .before .find-row-near .ensures) (c .before .before .j .given .1) (c .if1 .left)
 
 returns-3 : tie.Need-returns-3
-returns-3 c = none-named _ (c .before .before .find-row .ensures) (c .enum-told .given .1)
+returns-3 c = none-named _ (c .before .before .find-row-near .ensures) (c .enum-told .given .1)
 
 pub later-row-spec : {M : Type 1} → statement M
 later-row-spec =
-    tie.close (tie.spec find-row-requires enum-known-j enum-told returns returns-2 returns-3)
+    tie.close (tie.spec find-row-near-requires enum-known-j enum-told returns returns-2 returns-3)
