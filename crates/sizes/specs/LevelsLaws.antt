@@ -5,12 +5,12 @@ use native.Mathlib.Decide.{decLe}
 use native.Mathlib.Omega.{arith}
 use mathlib.Core.Logic.{_⊎_, inl, inr}
 use mathlib.Core.Path.{_≡_, refl, sym, ap, _∙_, subst, fun-ext}
-use mathlib.Core.Bool.{Bool, true, false, true≢false}
+use mathlib.Core.Bool.{Bool, true, false, not, true≢false}
 use mathlib.Core.List.{List, [], _∷_}
 use lib.ListN.{length, getD, set, length-set}
 use lib.Seq.{sets, length-sets, getD-set-same, getD-set-other}
 use lib.Dec.{eqb}
-use borrow.Author.Tests.{ne-eqb}
+use borrow.Author.Tests.{eq-eqb, ne-eqb}
 use Rattle.format.specs.Refusal.{numberOf, reason-of-number, number-some}
 use Rattle.format.specs.declared.settings.Settings.{Settings}
 use Rattle.format.specs.declared.refusal.Refusal.{Refusal}
@@ -27,7 +27,9 @@ use Rattle.sizes.specs.Size.{typeSizeBy, entryAt, foundSize, entrySize, 
 use Rattle.sizes.specs.Known.{knownAt}
 use Rattle.sizes.specs.SizeWays.{Ready, knownFound, entryFrom, typeFrom}
 use Rattle.sizes.specs.SizeLaws.{entry-zero, entry-more, entry-none}
-use Rattle.sizes.specs.LevelsWays.{knownWidth, lastLevel, nextLevel, sizeLeft, PutKnown, Filled, TakenOver}
+use Rattle.sizes.specs.StayLaws.{Settled, size-stays}
+use Rattle.numbers.specs.Tests.{cond-all}
+use Rattle.sizes.specs.LevelsWays.{knownWidth, lastLevel, settled, nextLevel, sizeLeft, PutKnown, Filled, TakenOver}
 use Rattle.sizes.specs.declared.sized.Sized.{Sized}
 use Rattle.sizes.specs.declared.sized.Sized.the-variants.{Is, Refused}
 
@@ -114,6 +116,25 @@ module _ (sizeAt : ℕ → Sized) (n : ℕ) where
   pub filled-all : {known : List ℕ} {k : ℕ} → Filled sizeAt n k known → n ≤ k → Filled sizeAt n n known
   filled-all w h = record { fits = w .fits; each = λ i l. w .each i (omega arith) }
 
+-- ---- a size that is settled
+
+settled-is : (x : Sized) → settled x ≡ true → Settled x
+unfolding settled
+settled-is (Is size) t = tt
+settled-is (Refused why) t = λ z. true≢false (sym t ∙ ap not (eq-eqb (numberOf (why .reason)) 10 z))
+
+module _ (known : List ℕ) (i : ℕ) {size : Sized} {b : Bool} (at : size ≡ knownAt known i) (is : b ≡ settled size) (settings : Settings) (sizes s rows attrs : List ℕ) (n : ℕ) where
+  test-is : {x : Bool} → b ≡ x → settled (knownAt known i) ≡ x
+  test-is t = ap settled (sym at) ∙ sym is ∙ t
+
+  pub next-kept : b ≡ true → size ≡ nextLevel settings sizes s rows attrs n known i
+  unfolding nextLevel
+  next-kept t = at ∙ sym (rw (test-is t))
+
+  pub next-taken : b ≡ false → {r : Sized} → r ≡ entryAt settings s rows attrs n (typeFrom settings sizes s rows attrs n known 0) i → r ≡ nextLevel settings sizes s rows attrs n known i
+  unfolding nextLevel
+  next-taken t p = p ∙ sym (rw (test-is t))
+
 -- ---- the sizes of a level are those that the next asks for
 
 module _ (settings : Settings) (sizes s rows attrs : List ℕ) (n : ℕ) (ready : Ready s rows n) where
@@ -165,8 +186,10 @@ module _ (settings : Settings) (sizes s rows attrs : List ℕ) (n : ℕ) (ready 
       record {
         fits = g .fits;
         each = λ i l. g .each i l
-            ∙ ap (λ (f : «Type» → Sized). entryAt settings s rows attrs n f i) (known-types levels w (omega (arith, w .fits, l)) 0)
-            ∙ sym (entry-more settings sizes s rows attrs n levels (rowAt rows i .key) (own-key i l));
+            ∙ cond-all (λ (x : Sized). x ≡ entrySize settings sizes s rows attrs n (suc levels) (rowAt rows i .key)) (settled (knownAt known i))
+            (λ t. w .each i l ∙ sym (size-stays settings sizes s rows attrs n levels (rowAt rows i .key) (subst Settled (w .each i l) (settled-is (knownAt known i) t))))
+            (λ t. ap (λ (f : «Type» → Sized). entryAt settings s rows attrs n f i) (known-types levels w (omega (arith, w .fits, l)) 0)
+            ∙ sym (entry-more settings sizes s rows attrs n levels (rowAt rows i .key) (own-key i l)));
       }
 
   -- ---- a level that changes nothing

@@ -1,7 +1,9 @@
 -- How the sizes of all rows are taken: level by level, from those of the level below.
 use Prim.Native.Nat.{ℕ, _*_, _≤_, _<_}
 use mathlib.Core.Path.{_≡_}
-use mathlib.Core.Bool.{Bool, true}
+use mathlib.Core.Bool.{Bool, true, not, cond}
+use lib.Dec.{eqb}
+use Rattle.format.specs.Refusal.{numberOf}
 use mathlib.Core.List.{List}
 use lib.ListN.{length, getD}
 use Rattle.format.specs.declared.settings.Settings.{Settings}
@@ -12,7 +14,7 @@ use Rattle.sizes.specs.Size.{entryAt, entrySize}
 use Rattle.sizes.specs.SizeWays.{Ready, typeFrom}
 use Rattle.sizes.specs.Known.{knownAt}
 use Rattle.sizes.specs.declared.sized.Sized.{Sized}
-use Rattle.sizes.specs.declared.sized.Sized.the-variants.{Refused}
+use Rattle.sizes.specs.declared.sized.Sized.the-variants.{Is, Refused}
 
 abbrev pub knownWidth : ℕ
 knownWidth = 3
@@ -21,10 +23,15 @@ knownWidth = 3
 unfoldable pub lastLevel : List ℕ → ℕ → Sized
 lastLevel rows i = Refused (refusedAt (rowAt rows i .key) reason.Depth)
 
+-- only a refusal for its depth can change with a level more
+unfoldable pub settled : Sized → Bool
+settled (Is size) = true
+settled (Refused why) = not (eqb (numberOf (why .reason)) 10)
+
 module _ (settings : Settings) (sizes s rows attrs : List ℕ) (n : ℕ) where
-  -- row i where the entries that it names have known sizes
+  -- row i: its known size if that is settled; else its size where the entries that it names have known sizes
   unfoldable pub nextLevel : List ℕ → ℕ → Sized
-  nextLevel known i = entryAt settings s rows attrs n (typeFrom settings sizes s rows attrs n known 0) i
+  nextLevel known i = cond (settled (knownAt known i)) (knownAt known i) (entryAt settings s rows attrs n (typeFrom settings sizes s rows attrs n known 0) i)
 
   -- row i with so many levels left
   unfoldable pub sizeLeft : ℕ → ℕ → Sized

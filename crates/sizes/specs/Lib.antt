@@ -16,6 +16,7 @@ pub mod PrepareLaws
 pub mod EndsLaws
 pub mod KnownLaws
 pub mod SizeLaws
+pub mod StayLaws
 pub mod LevelsLaws
 pub mod LayoutLaws
 pub mod AllLaws

@@ -1,5 +1,6 @@
-// The sizes of all rows of a table, level by level: the sizes of one level give those of the next, each row's once, so that the row sizes taken are at most rows times depth.
+// The sizes of all rows of a table, level by level: the sizes of one level give those of the next, each row's once, so that the cost is bounded by rows times depth.
 use crate::known::KNOWN_WIDTH;
+use crate::known::known_at;
 use crate::size::row_size;
 use crate::sized::Sized;
 use format::limits::DEPTH_LIMIT;
@@ -15,7 +16,8 @@ ghost use Prim.Native.Nat.{_+_, _*_, _≤_};
 ghost use lib.ListN.{length};
 ghost use lib.Seq.{sets};
 ghost use mathlib.Core.List.{[], _∷_};
-ghost use Rattle.sizes.specs.LevelsWays.{knownWidth, lastLevel, nextLevel, sizeLeft, PutKnown, Filled, FillAsked, TakenOver};
+ghost use Rattle.records.specs.EnumerationWays.{AskedShort};
+ghost use Rattle.sizes.specs.LevelsWays.{knownWidth, lastLevel, settled, nextLevel, sizeLeft, PutKnown, Filled, FillAsked, TakenOver};
 ghost use Rattle.sizes.specs.declared.sized.Sized.the-variants.{Is, Refused};
 
 fn put_three(known: &mut [u64], at: usize, number: u64, size: u64, place: u64)
@@ -72,7 +74,41 @@ fn last_level(rows: &[u32], n: usize, known: &mut [u64])
     }
 }
 
-// One level more: the entries that a row names have the sizes that are known.
+// Only a refusal for its depth can change with a level more.
+fn is_settled(size: Sized) -> bool
+    ensures { λ r. ⌜ r ≡ settled size ⌝ }
+{
+    match size {
+        Sized::Is(_) => true,
+        Sized::Refused(why) => {
+            let reason = why.reason;
+            number_of(reason) != 10
+        }
+    }
+}
+
+// Row i with one level more: the entries that it names have the sizes that are known.
+fn next_size(
+    s: &[u8],
+    settings: Settings,
+    sizes: &[u32],
+    rows: &[u32],
+    attrs: &[u32],
+    n: usize,
+    known: &[u64],
+    i: usize,
+) -> Sized
+    requires { ⌜ AskedShort (now s) (now rows) n i ⌝ }
+    ensures { λ r. ⌜ r ≡ nextLevel settings (now (sizes .entry)) (now (s .entry)) (now (rows .entry)) (now (attrs .entry)) n (now (known .entry)) i ⌝ }
+{
+    let size = known_at(known, i);
+    if is_settled(size) {
+        return size;
+    }
+    row_size(s, settings, sizes, rows, attrs, n, known, 0, i)
+}
+
+// One level more.
 fn next_level(
     s: &[u8],
     settings: Settings,
@@ -88,7 +124,7 @@ fn next_level(
 {
     let mut i: usize = 0;
     while i < n {
-        let size = row_size(s, settings, sizes, rows, attrs, n, known, 0, i);
+        let size = next_size(s, settings, sizes, rows, attrs, n, known, i);
         put_known(next, i, size);
         i += 1;
     }

@@ -17,8 +17,8 @@ abbrev μ-loop : tie.MeasureT-loop
 loop-holds : tie.Need-loop-holds Inv-loop μ-loop
 loop-holds c = (filled-none _ _ (c .before .before .before .before .before .before .pre .fits), refl)
 
-row-size-requires : tie.Need-row-size-requires Inv-loop μ-loop
-row-size-requires c κs = search needs
+next-size-requires : tie.Need-next-size-requires Inv-loop μ-loop
+next-size-requires c κs = search needs
 
 put-known-requires : tie.Need-put-known-requires Inv-loop μ-loop
 put-known-requires c κs = search needs
@@ -30,9 +30,8 @@ loop-less : tie.Need-loop-less Inv-loop μ-loop
 loop-less c = search needs
 
 loop-again : tie.Need-loop-again Inv-loop μ-loop
-unfolding nextLevel
 loop-again c =
-    (filled-more _ _ (c .before .before .before .before .before .before .loop .inv .0) (c .before .before .put-known .ensures) (c .before .before .before .before .row-size .ensures), (c .before .before .put-known .ensures .same-long ∙ c .before .before .before .before .before .before .loop .inv .1))
+    (filled-more _ _ (c .before .before .before .before .before .before .loop .inv .0) (c .before .before .put-known .ensures) (c .before .before .before .before .next-size .ensures), (c .before .before .put-known .ensures .same-long ∙ c .before .before .before .before .before .before .loop .inv .1))
 
 same-length : tie.Need-same-length Inv-loop μ-loop
 same-length c = search needs
@@ -47,7 +46,7 @@ next-level-spec =
     Inv-loop
     μ-loop
     loop-holds
-    row-size-requires
+    next-size-requires
     put-known-requires
     add-i
     loop-less
