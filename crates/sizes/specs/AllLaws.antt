@@ -41,7 +41,7 @@ use Rattle.records.specs.declared.member.MemberRead.{MemberRead}
 use Rattle.records.specs.declared.member.MemberRead.the-variants as read
 use Rattle.sizes.specs.Size.{shapeOf, typeSize, memberSize, childThen, membersFrom, membersBy, membersOf}
 use Rattle.sizes.specs.SizeWays.{Ready, typeFrom}
-use Rattle.sizes.specs.LevelsWays.{sizeLeft, Filled}
+use Rattle.sizes.specs.LevelsWays.{deepest, sizeLeft, Filled}
 use Rattle.sizes.specs.LevelsLaws.{known-types}
 use Rattle.sizes.specs.Layout.{Laid, Lay, laid, nowhere, laidMember, andLaid, layThen, endOr, laidFrom, isStructure, isBounded, ownSize, membersLaid, shapeLaid, rowLay, layoutBy, layoutAt, laidWords, laidWidth}
 use Rattle.sizes.specs.LayoutWays.{WholeLaid}
@@ -609,17 +609,17 @@ module _ (xs : List Structure) {needed : LayoutCounts} (is : needed ≡ countsOf
 -- ---- the sizes of all rows are known
 
 pub all-known : (settings : Settings) (sizes s rows attrs : List ℕ) (n : ℕ) → Ready s rows n → (known : List ℕ)
-    → Filled (sizeLeft settings sizes s rows attrs n 31) n n known → 0 < length known → (structures room : List ℕ) {structures′ room′ : List ℕ} {r : AllLayouts}
+    → Filled (sizeLeft settings sizes s rows attrs n deepest) n n known → 0 < length known → (structures room : List ℕ) {structures′ room′ : List ℕ} {r : AllLayouts}
     → AllGiven (intoRooms structures room (structuresFrom settings s rows attrs n (typeFrom settings sizes s rows attrs n known 0) 0 n)) r structures′ room′
-    → AllGiven (intoRooms structures room (structuresFrom settings s rows attrs n (typeSize settings sizes s rows attrs n 31) 0 n)) r structures′ room′
+    → AllGiven (intoRooms structures room (structuresFrom settings s rows attrs n (typeSize settings sizes s rows attrs n deepest) 0 n)) r structures′ room′
 all-known settings sizes s rows attrs n ready known w some structures room {structures′} {room′} {r} g =
     subst (λ (sizeOf : «Type» → Sized). AllGiven (intoRooms structures room (structuresFrom settings s rows attrs n sizeOf 0 n)) r structures′ room′)
-    (known-types settings sizes s rows attrs n ready 31 w some 0) g
+    (known-types settings sizes s rows attrs n ready deepest w some 0) g
 
 module _ {settings : Settings} {vendors sizes s rows attrs : List ℕ} {counts : Counts} {told : Check} (is : Tells settings vendors sizes s rows attrs counts told)
     (structures room : List ℕ) where
   pub all-passed : told ≡ check.Passed → {structures′ room′ : List ℕ} {r : AllLayouts}
-      → AllGiven (intoRooms structures room (structuresFrom settings s rows attrs (counts .rows) (typeSize settings sizes s rows attrs (counts .rows) 31) 0 (counts .rows)))
+      → AllGiven (intoRooms structures room (structuresFrom settings s rows attrs (counts .rows) (typeSize settings sizes s rows attrs (counts .rows) deepest) 0 (counts .rows)))
       r structures′ room′
       → AllGiven (allOf settings vendors sizes s rows attrs counts structures room) r structures′ room′
   unfolding allOf

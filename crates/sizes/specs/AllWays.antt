@@ -18,10 +18,6 @@ use Rattle.sizes.specs.All.{Structure, keptIf, structureAt, structureWor
 use Rattle.sizes.specs.declared.sized.Sized.{Sized}
 use Rattle.sizes.specs.declared.all.LayoutCounts.{LayoutCounts}
 
--- the levels that a structure's members have left
-abbrev pub deepest : ℕ
-deepest = 31
-
 -- row i, if it is a structure
 unfoldable pub rowStructures : Settings → List ℕ → List ℕ → List ℕ → ℕ → («Type» → Sized) → ℕ → List Structure
 rowStructures settings s rows attrs n sizeOf i = keptIf (isStructure (shapeOf (rowAt rows i .kind))) (structureAt settings s rows attrs n sizeOf i) []

@@ -1,19 +1,14 @@
 -- Sizes that are known already, for calls that take many: three words for each row.
 use Prim.Native.Nat.{ℕ, _+_, _*_, _%_}
 use mathlib.Core.Bool.{cond}
-use mathlib.Core.List.{List, [], _∷_}
+use mathlib.Core.List.{List}
 use lib.ListN.{getD}
 use lib.Dec.{eqb}
-use Rattle.format.specs.Refusal.{numberOf, reasonOf}
+use Rattle.format.specs.Refusal.{reasonOf}
 use Rattle.sizes.specs.declared.sized.Sized.{Sized}
 use Rattle.sizes.specs.declared.sized.Sized.the-variants.{Is, Refused}
 
--- 0 and the size; or a refusal's number and its place
-unfoldable pub knownWords : Sized → List ℕ
-knownWords (Is size) = 0 ∷ size ∷ 0 ∷ []
-knownWords (Refused why) = numberOf (why .reason) ∷ 0 ∷ why .place ∷ []
-
--- the size of row i
+-- the size of row i: 0, the size and 0; or a refusal's number, 0 and its place
 unfoldable pub knownAt : List ℕ → ℕ → Sized
 knownAt known i =
     cond (eqb (getD known (i * 3) 0) 0) (Is (getD known (i * 3 + 1) 0 % 0x100000000))

@@ -29,7 +29,7 @@ use Rattle.sizes.specs.SizeWays.{Ready, knownFound, entryFrom, typeFrom}
 use Rattle.sizes.specs.SizeLaws.{entry-zero, entry-more, entry-none}
 use Rattle.sizes.specs.StayLaws.{Settled, size-stays}
 use Rattle.numbers.specs.Tests.{cond-all}
-use Rattle.sizes.specs.LevelsWays.{knownWidth, lastLevel, settled, nextLevel, sizeLeft, PutKnown, Filled, TakenOver}
+use Rattle.sizes.specs.LevelsWays.{knownWidth, deepest, lastLevel, settled, nextLevel, sizeLeft, PutKnown, Filled, TakenOver}
 use Rattle.sizes.specs.declared.sized.Sized.{Sized}
 use Rattle.sizes.specs.declared.sized.Sized.the-variants.{Is, Refused}
 
@@ -234,7 +234,7 @@ module _ (settings : Settings) (sizes s rows attrs : List ℕ) (n : ℕ) (ready 
 
 pub record Levelling (settings : Settings) (sizes s rows attrs : List ℕ) (n : ℕ) (known₀ next₀ known next : List ℕ) (level : ℕ) : Type 0 where
   pub ready : Ready s rows n
-  pub within : level ≤ 31
+  pub within : level ≤ deepest
   pub filled : Filled (sizeLeft settings sizes s rows attrs n level) n n known
   pub next-fits : n * knownWidth ≤ length next
   pub same-known : length known ≡ length known₀
@@ -258,7 +258,7 @@ module _ {settings : Settings} {sizes s rows attrs : List ℕ} {n : ℕ} {known�
   above : Filled (sizeLeft settings sizes s rows attrs n (suc level)) n n next′
   above = level-more settings sizes s rows attrs n (w .ready) level (w .filled) g
 
-  pub levelling-on : level < 31 → length next′ ≡ length next → Levelling settings sizes s rows attrs n known₀ next₀ known′ next′ (level + 1)
+  pub levelling-on : level < deepest → length next′ ≡ length next → Levelling settings sizes s rows attrs n known₀ next₀ known′ next′ (level + 1)
   levelling-on l e =
       let one : suc level ≡ level + 1 = omega arith in
       record {
@@ -272,13 +272,13 @@ module _ {settings : Settings} {sizes s rows attrs : List ℕ} {n : ℕ} {known�
         same-next = e ∙ w .same-next;
       }
 
-  pub levelling-settled : same ≡ true → Filled (sizeLeft settings sizes s rows attrs n 31) n n known′
-  levelling-settled t = level-settled settings sizes s rows attrs n (w .ready) level (w .filled) over 31 above t (w .within)
+  pub levelling-settled : same ≡ true → Filled (sizeLeft settings sizes s rows attrs n deepest) n n known′
+  levelling-settled t = level-settled settings sizes s rows attrs n (w .ready) level (w .filled) over deepest above t (w .within)
 
 pub levelling-ends : {settings : Settings} {sizes s rows attrs : List ℕ} {n : ℕ} {known₀ next₀ known next : List ℕ} {level : ℕ}
-    → Levelling settings sizes s rows attrs n known₀ next₀ known next level → 31 ≤ level → Filled (sizeLeft settings sizes s rows attrs n 31) n n known
+    → Levelling settings sizes s rows attrs n known₀ next₀ known next level → deepest ≤ level → Filled (sizeLeft settings sizes s rows attrs n deepest) n n known
 levelling-ends {settings} {sizes} {s} {rows} {attrs} {n} {known₀} {next₀} {known} {next} {level} w h =
-    let top : level ≡ 31 = omega (arith, w .within) in
+    let top : level ≡ deepest = omega (arith, w .within) in
     subst (λ (k : ℕ). Filled (sizeLeft settings sizes s rows attrs n k) n n known) top (w .filled)
 
 -- ---- taking words over

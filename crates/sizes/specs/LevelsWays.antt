@@ -19,6 +19,10 @@ use Rattle.sizes.specs.declared.sized.Sized.the-variants.{Is, Refused}
 abbrev pub knownWidth : ℕ
 knownWidth = 3
 
+-- the levels that a structure's members have left: one less than the limit
+abbrev pub deepest : ℕ
+deepest = 31
+
 -- row i where no level is left
 unfoldable pub lastLevel : List ℕ → ℕ → Sized
 lastLevel rows i = Refused (refusedAt (rowAt rows i .key) reason.Depth)

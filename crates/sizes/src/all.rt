@@ -24,8 +24,9 @@ ghost use Prim.Native.Nat.{_*_};
 ghost use lib.Seq.{sets};
 ghost use Rattle.sizes.specs.Size.{typeSize};
 ghost use Rattle.sizes.specs.SizeWays.{Ready, typeFrom};
+ghost use Rattle.sizes.specs.LevelsWays.{deepest};
 ghost use Rattle.sizes.specs.All.{structureWidth, structuresFrom, countsOf, allOf, intoRooms, AllGiven};
-ghost use Rattle.sizes.specs.AllWays.{OneMore, CountAsked, PutAsked, PutsAsked, deepest, eightWords, rowStructures, countedOn, countedWith, Puts, PutAll};
+ghost use Rattle.sizes.specs.AllWays.{OneMore, CountAsked, PutAsked, PutsAsked, eightWords, rowStructures, countedOn, countedWith, Puts, PutAll};
 
 pub struct LayoutCounts {
     pub structures: usize,

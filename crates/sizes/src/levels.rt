@@ -17,7 +17,7 @@ ghost use lib.ListN.{length};
 ghost use lib.Seq.{sets};
 ghost use mathlib.Core.List.{[], _∷_};
 ghost use Rattle.records.specs.EnumerationWays.{AskedShort};
-ghost use Rattle.sizes.specs.LevelsWays.{knownWidth, lastLevel, settled, nextLevel, sizeLeft, PutKnown, Filled, FillAsked, TakenOver};
+ghost use Rattle.sizes.specs.LevelsWays.{knownWidth, deepest, lastLevel, settled, nextLevel, sizeLeft, PutKnown, Filled, FillAsked, TakenOver};
 ghost use Rattle.sizes.specs.declared.sized.Sized.the-variants.{Is, Refused};
 
 fn put_three(known: &mut [u64], at: usize, number: u64, size: u64, place: u64)
@@ -159,7 +159,7 @@ pub fn fill_known(
     next: &mut [u64],
 )
     requires { ⌜ FillAsked (now s) (now rows) n (now known) × FillAsked (now s) (now rows) n (now next) ⌝ }
-    ensures { λ _. ⌜ Filled (sizeLeft settings (now (sizes .entry)) (now (s .entry)) (now (rows .entry)) (now (attrs .entry)) n 31) n n (now (known .exit)) ⌝ }
+    ensures { λ _. ⌜ Filled (sizeLeft settings (now (sizes .entry)) (now (s .entry)) (now (rows .entry)) (now (attrs .entry)) n deepest) n n (now (known .exit)) ⌝ }
 {
     last_level(rows, n, known);
     let mut level: usize = 0;

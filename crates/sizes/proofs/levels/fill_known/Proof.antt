@@ -1,3 +1,4 @@
+use Rattle.sizes.specs.LevelsWays.{deepest}
 use Rattle.sizes.specs.LevelsLaws.{Levelling, levelling-begins, levelling-on, levelling-settled, levelling-ends}
 use borrow.Author.Needs.{needs}
 use Prim.Native.Nat.{_-_}
@@ -10,7 +11,7 @@ Inv-loop s settings sizes rows attrs n known₀ next₀ level₀ known next leve
     Levelling settings sizes s rows attrs n known₀ next₀ known next level
 
 abbrev μ-loop : tie.MeasureT-loop
-μ-loop s settings sizes rows attrs n known₀ next₀ level₀ known next level = 31 - level
+μ-loop s settings sizes rows attrs n known₀ next₀ level₀ known next level = deepest - level
 
 last-level-requires : tie.Need-last-level-requires Inv-loop μ-loop
 last-level-requires c κs = search needs
