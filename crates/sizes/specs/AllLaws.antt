@@ -45,6 +45,7 @@ use Rattle.sizes.specs.LevelsWays.{deepest, sizeLeft, Filled}
 use Rattle.sizes.specs.LevelsLaws.{known-types}
 use Rattle.sizes.specs.Layout.{Laid, Lay, laid, nowhere, laidMember, andLaid, layThen, endOr, laidFrom, isStructure, isBounded, ownSize, membersLaid, shapeLaid, rowLay, layoutBy, layoutAt, laidWords, laidWidth}
 use Rattle.sizes.specs.LayoutWays.{WholeLaid}
+use Rattle.sizes.specs.KeptLaws.{structure-test}
 use Rattle.sizes.specs.LayoutLaws.{words-long, AllLaid, answer-laid, isNone}
 use Rattle.sizes.specs.All.{Structure, laidOf, keptIf, structureAt, structuresFrom, answerWords, structureWidth, structureWords, memberWords, memberCount, countsOf, Outcome, outcome, intoRooms, allOf, AllGiven}
 use Rattle.sizes.specs.AllWays.{rowStructures, eightWords, countedOn, countedWith, OneMore, CountAsked, PutAsked, Puts, PutsAsked, PutAll}
@@ -240,16 +241,13 @@ module _ (settings : Settings) (s rows attrs : List ℕ) (n : ℕ) (sizeOf : «T
   refused-none (nowhere why) p = refl
 
   module _ {row : Row} {b : Bool} (at : row ≡ rowAt rows i) (is : b ≡ isStructure (shapeOf (row .kind))) where
-    row-test : {x : Bool} → b ≡ x → isStructure (shapeOf (rowAt rows i .kind)) ≡ x
-    row-test t = ap (λ (r : Row). isStructure (shapeOf (r .kind))) (sym at) ∙ sym is ∙ t
-
     row-other : b ≡ false → rowStructures settings s rows attrs n sizeOf i ≡ []
     unfolding rowStructures keptIf
-    row-other t = rw (row-test t)
+    row-other t = rw (structure-test rows i at is t)
 
     row-one : b ≡ true → rowStructures settings s rows attrs n sizeOf i ≡ structureAt settings s rows attrs n sizeOf i ∷ []
     unfolding rowStructures keptIf
-    row-one t = rw (row-test t)
+    row-one t = rw (structure-test rows i at is t)
 
     -- a row that is no structure adds nothing
     pub count-other : (counts : LayoutCounts) → b ≡ false → counts ≡ countedWith counts (rowStructures settings s rows attrs n sizeOf i)

@@ -12,14 +12,11 @@ use Rattle.tables.specs.Row.{rowAt}
 use Rattle.tables.specs.Check.{refusedAt}
 use Rattle.records.specs.Member.{memberAt}
 use Rattle.records.specs.Unions.{Placed, Members, members, refused, andMember, memberThen}
-use Rattle.records.specs.declared.fields.Word.{Word}
-use Rattle.records.specs.declared.fields.Word.the-variants as word
 use Rattle.records.specs.declared.member.Member.{Member}
 use Rattle.records.specs.declared.member.MemberRead.{MemberRead}
 use Rattle.records.specs.declared.member.MemberRead.the-variants as read
 use Rattle.sizes.specs.Size.{sizeLimit, sizeThen, childThen, membersFrom, sizeOr, memberSize, larger, endThen, endsFrom}
-use Rattle.sizes.specs.SizeWays.{sizedPart, partOf, readPart, childPart, grown, partEnd, childEnd, endsOver}
-use Rattle.sizes.specs.declared.size.ChildPart.the-variants as part
+use Rattle.sizes.specs.SizeWays.{withSize, readAdded, grown, addedEnd, memberAdded, childEnd, endsOver}
 use Rattle.sizes.specs.declared.sized.Sized.{Sized}
 use Rattle.sizes.specs.declared.sized.Sized.the-variants.{Is, Refused}
 
@@ -46,47 +43,41 @@ module _ (f g : ℕ → Sized) (same : (x : ℕ) → f x ≡ g x) where
 
   -- the same, after a size
   sized-then : (rows : List ℕ) (c largest offset : ℕ) (size : Sized)
-      → sizeThen f (sizeThen (grown rows c largest offset) size) ≡ sizeThen (λ x. endThen (rowAt rows c .key) g largest (offset + x)) size
-  unfolding sizeThen
+      → sizeThen f (addedEnd rows largest c (withSize offset size)) ≡ sizeThen (λ x. endThen (rowAt rows c .key) g largest (offset + x)) size
+  unfolding sizeThen addedEnd withSize
   sized-then rows c largest offset (Is x) = grown-then rows c largest offset x
   sized-then rows c largest offset (Refused why) = refl
-
-  module _ (rows : List ℕ) (typeSize : «Type» → Sized) (c largest : ℕ) where
-    part-then : (offset : ℕ) (t : «Type») (w : Word)
-        → sizeThen f (partEnd rows typeSize largest c (sizedPart offset t w)) ≡ sizeThen (λ x. endThen (rowAt rows c .key) g largest (offset + x)) (sizeOr typeSize t w)
-    unfolding partEnd sizedPart sizeOr sizeThen
-    part-then offset t (word.Is x) = grown-then rows c largest offset x
-    part-then offset t word.Nothing = sized-then rows c largest offset (typeSize t)
 
 module _ (rows : List ℕ) (typeSize : «Type» → Sized) where
   -- a member that was read, and those after it
   module _ (c largest : ℕ) (f : ℕ → Sized) (m : Member) where
     and-then : (all : Members) (ms : List Placed) → ((xs : List Placed) → all ≡ members xs → (x : ℕ) → f x ≡ endsFrom rows typeSize x xs)
-        → andMember c m all ≡ members ms → sizeThen f (partEnd rows typeSize largest c (partOf m)) ≡ endsFrom rows typeSize largest ms
-    unfolding andMember partOf endsFrom memberSize
+        → andMember c m all ≡ members ms
+        → sizeThen f (addedEnd rows largest c (withSize (m .offset) (sizeOr typeSize (m .of) (m .«byte_size»)))) ≡ endsFrom rows typeSize largest ms
+    unfolding andMember endsFrom memberSize
     and-then (members xs) ms same p =
-        part-then f (λ x. endsFrom rows typeSize x xs) (same xs refl) rows typeSize c largest (m .offset) (m .of) (m .«byte_size»)
+        sized-then f (λ x. endsFrom rows typeSize x xs) (same xs refl) rows c largest (m .offset) (sizeOr typeSize (m .of) (m .«byte_size»))
         ∙ ap (endsFrom rows typeSize largest) (subst (areThese (record { row = c; member = m } ∷ xs)) p refl)
     and-then (refused why) ms same p = absurd (subst areRefused p tt)
 
   module _ (c largest : ℕ) (f : ℕ → Sized) (all : Members) (ms : List Placed) (same : (xs : List Placed) → all ≡ members xs → (x : ℕ) → f x ≡ endsFrom rows typeSize x xs) where
     read-then : (m : MemberRead) → memberThen c m all ≡ members ms
-        → sizeThen f (partEnd rows typeSize largest c (readPart m)) ≡ endsFrom rows typeSize largest ms
-    unfolding memberThen readPart
+        → sizeThen f (addedEnd rows largest c (readAdded typeSize m)) ≡ endsFrom rows typeSize largest ms
+    unfolding memberThen readAdded
     read-then (read.Is m) p = and-then c largest f m all ms same p
     read-then (read.Refused why) p = absurd (subst areRefused p tt)
 
     -- a child of whatever kind
     child-then : (b : Bool) (m : MemberRead) → cond b (memberThen c m all) all ≡ members ms
-        → sizeThen f (partEnd rows typeSize largest c (cond b (readPart m) part.Other)) ≡ endsFrom rows typeSize largest ms
-    unfolding partEnd sizeThen
+        → sizeThen f (cond b (addedEnd rows largest c (readAdded typeSize m)) (Is largest)) ≡ endsFrom rows typeSize largest ms
+    unfolding sizeThen
     child-then true m p = read-then m p
     child-then false m p = same ms p largest
 
 module _ (settings : Settings) (s rows attrs : List ℕ) (n : ℕ) (typeSize : «Type» → Sized) where
   pub ends-members : (largest : ℕ) (cs : List ℕ) {ms : List Placed} → membersFrom settings s rows attrs n cs ≡ members ms
       → endsOver settings s rows attrs n typeSize largest cs ≡ endsFrom rows typeSize largest ms
-  unfolding membersFrom childThen endsOver childEnd childPart endsFrom
+  unfolding membersFrom childThen endsOver childEnd memberAdded endsFrom
   ends-members largest [] p = ap (endsFrom rows typeSize largest) (subst (areThese []) p refl)
   ends-members largest (c ∷ cs) {ms} p =
       child-then rows typeSize c largest (λ next. endsOver settings s rows attrs n typeSize next cs) (membersFrom settings s rows attrs n cs) ms

@@ -10,6 +10,7 @@ use lib.Seq.{sets, length-sets}
 use lib.Dec.{eqb, leb}
 use borrow.Author.Tests.{eq-eqb, ne-eqb, le-leb, lt-leb}
 use Rattle.numbers.specs.Tests.{cond-all}
+use Rattle.numbers.specs.declared.Endian.{Endian}
 use Rattle.format.specs.Limits.{entryLimit, sectionLimit, depthLimit}
 use Rattle.format.specs.AttributeKind as attribute
 use Rattle.format.specs.TagKind as tag
@@ -17,6 +18,8 @@ use Rattle.format.specs.declared.settings.Settings.{Settings}
 use Rattle.format.specs.declared.refusal.Refusal.{Refusal}
 use Rattle.format.specs.declared.refusal.Reason.the-variants as reason
 use Rattle.blocks.specs.declared.types.Type.{«Type»}
+use Rattle.blocks.specs.declared.types.Typed.{Typed}
+use Rattle.blocks.specs.declared.types.Typed.the-variants as typed
 use Rattle.tables.specs.Flat.{sets-append, sets-out}
 use Rattle.tables.specs.Row.{rowAt}
 use Rattle.tables.specs.Check.{refusedAt}
@@ -30,30 +33,39 @@ use Rattle.links.specs.TypedLaws.{in-row, no-row}
 use Rattle.links.specs.declared.typed.Keyed.{Keyed}
 use Rattle.links.specs.declared.typed.Keyed.the-variants as keyed
 use Rattle.records.specs.EnumerationWays.{AskedShort}
-use Rattle.records.specs.TakenLaws.{by-case, test-passed, test-failed}
+use Rattle.records.specs.TakenLaws.{test-passed, test-failed}
 use Rattle.records.specs.Scan.{runOf}
-use Rattle.records.specs.Fields.{wordOf}
-use Rattle.records.specs.Member.{memberAt}
+use Rattle.records.specs.Fields.{nameOf, typeOf, offsetField, wordOf}
+use Rattle.records.specs.Front.{frontOf, unless}
+use Rattle.records.specs.Member.{bitsBy, withBits, memberWith, placedBy, memberPlaced, typedBy, memberFields, memberAt}
 use Rattle.records.specs.MemberWords.{namePlace, nameLength}
 use Rattle.records.specs.Unions.{Placed, Members, members, refused, andMember, memberThen}
+use Rattle.records.specs.declared.taken.Record.the-variants as record′
 use Rattle.records.specs.declared.scan.Run.{Run}
 use Rattle.records.specs.declared.scan.Fault.{Fault}
 use Rattle.records.specs.declared.scan.Fault.the-variants as fault
 use Rattle.records.specs.declared.fields.Word.{Word}
-use Rattle.records.specs.declared.fields.Word.the-variants as word
+use Rattle.records.specs.declared.fields.Name.{Name}
+use Rattle.records.specs.declared.fields.Needed.{Needed}
+use Rattle.records.specs.declared.fields.Needed.the-variants as need
+use Rattle.records.specs.declared.member.BitsRead.{BitsRead}
+use Rattle.records.specs.declared.member.BitsRead.the-variants as bits
 use Rattle.records.specs.declared.member.Member.{Member}
 use Rattle.records.specs.declared.member.MemberRead.{MemberRead}
 use Rattle.records.specs.declared.member.MemberRead.the-variants as read
 use Rattle.sizes.specs.Size.{shapeOf, childThen, membersFrom, membersOf, sizeOr, memberSize, typeSize}
 use Rattle.sizes.specs.Ways.{structureFault}
-use Rattle.sizes.specs.SizeWays.{EndsShort, grown, entryFrom, typeFrom}
+use Rattle.sizes.specs.SizeWays.{EndsShort, withSize, readAdded, grown, memberAdded, entryFrom, typeFrom}
+use Rattle.sizes.specs.KeptWays.{AllKept, LayoutAsked}
 use Rattle.sizes.specs.Layout.{Laid, Lay, laid, nowhere, laidMember, andLaid, layThen, endOr, laidFrom, isStructure, isBounded, sizeOrLargest, ownSize, membersLaid, shapeLaid, rowLay, layoutBy, layoutAt, laidWords, laidWidth, Outcome, layInto, intoRoom, layoutOf, LayoutGiven}
-use Rattle.sizes.specs.LayoutWays.{laidWord, LayAsked, layBefore, layOn, readLaid, childLaid, childrenLaid, faultLaid, structureLaid, layingOf, Lays, WholeLaid}
+use Rattle.sizes.specs.LayoutWays.{laidAt, sizedLaid, addedLaid, LayAsked, layBefore, layOn, readLaid, childLaid, childrenLaid, faultLaid, structureLaid, layingOf, Lays, WholeLaid}
 use Rattle.sizes.specs.WalkingLaws.{Walking, walking-begins, walking-ends, walking-stops, walking-asked, walking-less, walking-on}
 use Rattle.sizes.specs.PrepareLaws.{AllRead, fault-members, refused-members}
 use Rattle.sizes.specs.SizeLaws.{walk-ending, walk-members}
 use Rattle.sizes.specs.declared.prepare.Shape.{Shape}
 use Rattle.sizes.specs.declared.prepare.Shape.the-variants as shape
+use Rattle.sizes.specs.declared.kept.Added.{Added}
+use Rattle.sizes.specs.declared.kept.Added.the-variants as added
 use Rattle.sizes.specs.declared.sized.Sized.{Sized}
 use Rattle.sizes.specs.declared.sized.Sized.the-variants.{Is, Refused}
 use Rattle.sizes.specs.declared.layout.Layout.{Layout}
@@ -81,16 +93,7 @@ abbrev isRefusal : Refusal → Laying → Type 0
 isRefusal why (laying.Is m l) = ⊥
 isRefusal why (laying.Refused w) = why ≡ w
 
--- ---- a member's size and its end
-
-module _ (sizeOf : «Type» → Sized) (t : «Type») {w : Word} where
-  pub size-own : {size : ℕ} → w ≡ word.Is size → Is size ≡ sizeOr sizeOf t w
-  unfolding sizeOr
-  size-own p = by-case (sizeOr sizeOf t) p refl
-
-  pub size-typed : {r : Sized} → w ≡ word.Nothing → r ≡ sizeOf t → r ≡ sizeOr sizeOf t w
-  unfolding sizeOr
-  size-typed p h = by-case (sizeOr sizeOf t) p h
+-- ---- a member's end
 
 pub end-bounded : {bounded : Bool} (key largest end : ℕ) → bounded ≡ true → Is largest ≡ endOr bounded key largest end
 unfolding endOr
@@ -103,18 +106,23 @@ end-grown rows c largest offset size t h = test-failed refl _ t h
 
 -- ---- a member's words
 
-pub laid-put : (t : List ℕ) (at offset size : ℕ) {place place′ long long′ : ℕ} {t₁ t₂ t₃ t₄ : List ℕ} → t₁ ≡ set t at offset → t₂ ≡ set t₁ (at + 1) size
-    → place′ ≡ place → t₃ ≡ set t₂ (at + 2) place′ → long′ ≡ long → t₄ ≡ set t₃ (at + 3) long′ → t₄ ≡ sets t at (laidWord offset size place long)
-unfolding laidWord
-laid-put t at offset size a b p c q d =
+pub laid-put : (e : Endian) (s rows attrs : List ℕ) (c offset size : ℕ) (t : List ℕ) (at : ℕ) {run : Run} {name : Name} {place long : ℕ} {t₁ t₂ t₃ t₄ : List ℕ}
+    → run ≡ runOf e rows c → name ≡ nameOf s attrs run attribute.Name → t₁ ≡ set t at offset → t₂ ≡ set t₁ (at + 1) size
+    → place ≡ namePlace name → t₃ ≡ set t₂ (at + 2) place → long ≡ nameLength name → t₄ ≡ set t₃ (at + 3) long
+    → t₄ ≡ sets t at (laidWords (laidAt e s rows attrs c offset size ∷ []))
+unfolding laidWords laidAt
+laid-put e s rows attrs c offset size t at {name = name} {place = place} {long = long} run-is name-is a b p x q y =
+    let here : name ≡ nameOf s attrs (runOf e rows c) attribute.Name = name-is ∙ ap (λ (r : Run). nameOf s attrs r attribute.Name) run-is in
+    let begins : place ≡ namePlace (nameOf s attrs (runOf e rows c) attribute.Name) = p ∙ ap namePlace here in
+    let lasts : long ≡ nameLength (nameOf s attrs (runOf e rows c) attribute.Name) = q ∙ ap nameLength here in
     let one : at + 1 ≡ suc at = omega arith in
     let two : at + 2 ≡ suc (suc at) = omega arith in
     let three : at + 3 ≡ suc (suc (suc at)) = omega arith in
-    d ∙ rw (c, b, a, p, q, one, two, three)
+    y ∙ rw (x, b, a, begins, lasts, one, two, three)
 
 -- record k of room that has not k words is nowhere in it
-pub laid-out : (t : List ℕ) (k offset size place long : ℕ) → length t ≤ k → t ≡ sets t (k * laidWidth) (laidWord offset size place long)
-laid-out t k offset size place long h = sym (sets-out t (k * laidWidth) (laidWord offset size place long) (omega arith))
+pub laid-out : (t : List ℕ) (k : ℕ) (x : Laid) → length t ≤ k → t ≡ sets t (k * laidWidth) (laidWords (x ∷ []))
+laid-out t k x h = sym (sets-out t (k * laidWidth) (laidWords (x ∷ [])) (omega arith))
 
 words-append : (xs ys : List Laid) → laidWords (xs ++ ys) ≡ laidWords xs ++ laidWords ys
 unfolding laidWords
@@ -145,71 +153,111 @@ module _ {lay : Lay} {k : ℕ} {room room′ : List ℕ} where
   unfolding layingOf
   lays-nowhere p q = record { answer-is = ap (layingOf k) p; room-is = λ ys l e. absurd (subst isNowhere (p ∙ e) tt); same-room = q }
 
--- ---- one member
+-- ---- a member whose size is known
 
-module _ (rows : List ℕ) (sizeOf : «Type» → Sized) (bounded : Bool) (largest c : ℕ) (m : Member) {sized : Sized} (is : sized ≡ sizeOr sizeOf (m .of) (m .«byte_size»)) where
-  abbrev placed : Placed
-  placed = record { row = c; member = m }
-
-  abbrev ended : ℕ → Sized
-  ended size = endOr bounded (rowAt rows c .key) largest (m .offset + size)
-
+module _ (e : Endian) (s rows attrs : List ℕ) (bounded : Bool) (largest c offset size : ℕ) {end : Sized}
+    (is : end ≡ endOr bounded (rowAt rows c .key) largest (offset + size)) where
   abbrev after : Sized → Lay
-  after x = layThen (λ size. layThen (λ next. laid (laidMember placed size ∷ []) next) (ended size)) x
+  after x = layThen (λ next. laid (laidAt e s rows attrs c offset size ∷ []) next) x
 
-  one-is : {x : Sized} → sized ≡ x → after x ≡ laidFrom rows sizeOf bounded largest (placed ∷ [])
-  unfolding laidFrom andLaid memberSize
-  one-is p = ap after (sym p ∙ is)
+  end-is : {x : Sized} → end ≡ x → after x ≡ sizedLaid e s rows attrs bounded largest c offset size
+  unfolding sizedLaid
+  end-is p = ap after (sym p ∙ is)
 
-  module _ {size : ℕ} (p : sized ≡ Is size) {end : Sized} (e : end ≡ ended size) where
-    end-is : {x : Sized} → end ≡ x → layThen (λ next. laid (laidMember placed size ∷ []) next) x ≡ laidFrom rows sizeOf bounded largest (placed ∷ [])
-    unfolding layThen
-    end-is q = ap (layThen (λ next. laid (laidMember placed size ∷ []) next)) (sym q ∙ e) ∙ one-is p
-
-    pub member-laid : {next k : ℕ} {room room′ : List ℕ} → end ≡ Is next
-        → room′ ≡ sets room (k * laidWidth) (laidWord (m .offset) size (namePlace (m .name)) (nameLength (m .name)))
-        → Lays (laidFrom rows sizeOf bounded largest (placed ∷ [])) k (laying.Is (k + 1) next) room room′
-    unfolding layThen laidWord laidWords laidMember
-    member-laid q h = lays-laid (end-is q) refl h
-
-    pub member-endless : {why : Refusal} {k : ℕ} {room : List ℕ} → end ≡ Refused why
-        → Lays (laidFrom rows sizeOf bounded largest (placed ∷ [])) k (laying.Refused why) room room
-    unfolding layThen
-    member-endless q = lays-nowhere (end-is q) refl
-
-  pub member-sizeless : {why : Refusal} {k : ℕ} {room : List ℕ} → sized ≡ Refused why
-      → Lays (laidFrom rows sizeOf bounded largest (placed ∷ [])) k (laying.Refused why) room room
+  pub sized-laid : {next k : ℕ} {room room′ : List ℕ} → end ≡ Is next → room′ ≡ sets room (k * laidWidth) (laidWords (laidAt e s rows attrs c offset size ∷ []))
+      → Lays (sizedLaid e s rows attrs bounded largest c offset size) k (laying.Is (k + 1) next) room room′
   unfolding layThen
-  member-sizeless p = lays-nowhere (one-is p) refl
+  sized-laid p h = lays-laid (end-is p) refl h
+
+  pub sized-endless : {why : Refusal} {k : ℕ} {room : List ℕ} → end ≡ Refused why
+      → Lays (sizedLaid e s rows attrs bounded largest c offset size) k (laying.Refused why) room room
+  unfolding layThen
+  sized-endless p = lays-nowhere (end-is p) refl
+
+-- ---- a member's name is what its row says
+
+abbrev isNamed : Name → MemberRead → Type 0
+isNamed name (read.Is m) = m .name ≡ name
+isNamed name (read.Refused why) = Unit
+
+module _ (s attrs : List ℕ) (run : Run) where
+  bits-named : (of : «Type») (offset : ℕ) (b : BitsRead) → isNamed (nameOf s attrs run attribute.Name) (withBits s attrs run of offset b)
+  unfolding withBits
+  bits-named of offset (bits.Are b) = refl
+  bits-named of offset (bits.Refused why) = tt
+
+  placed-named : (of : «Type») (offset : Needed) → isNamed (nameOf s attrs run attribute.Name) (placedBy s attrs run of offset)
+  unfolding placedBy memberWith
+  placed-named of (need.Is offset) =
+      bits-named of offset (bitsBy (run .key) (wordOf s attrs run attribute.BitSize) (wordOf s attrs run attribute.BitOffset))
+  placed-named of (need.Refused why) = tt
+
+  typed-named : (t : Typed) → isNamed (nameOf s attrs run attribute.Name) (typedBy s attrs run t)
+  unfolding typedBy memberPlaced
+  typed-named (typed.Is of) = placed-named of (offsetField s attrs run)
+  typed-named (typed.Refused why) = tt
+
+front-named : (name : Name) (f : Fault) (m : MemberRead) → isNamed name m → isNamed name (unless f read.Refused m)
+unfolding unless
+front-named name fault.Clear m h = h
+front-named name (fault.Refused why) m h = tt
+
+pub member-name : (settings : Settings) (s rows attrs : List ℕ) (n c : ℕ) {m : Member} → memberAt settings s rows attrs n c ≡ read.Is m
+    → m .name ≡ nameOf s attrs (runOf (settings .endian) rows c) attribute.Name
+unfolding memberAt memberFields
+member-name settings s rows attrs n c p =
+    let run : Run = runOf (settings .endian) rows c in
+    subst (isNamed (nameOf s attrs run attribute.Name)) p
+    (front-named (nameOf s attrs run attribute.Name) (frontOf settings s rows attrs n record′.Member c) (memberFields s attrs run)
+    (typed-named s attrs run (typeOf s attrs run)))
 
 -- ---- one child
 
-module _ (settings : Settings) (s rows attrs : List ℕ) (n : ℕ) (sizeOf : «Type» → Sized) (bounded : Bool) (largest c : ℕ) {row : Row} (at : row ≡ rowAt rows c) where
-  module _ (h : row .kind ≡ tag.Member) {told : MemberRead} (is : told ≡ memberAt settings s rows attrs n c) where
-    child-read : {x : MemberRead} → told ≡ x → readLaid rows sizeOf bounded largest c x ≡ childLaid settings s rows attrs n sizeOf bounded largest c
-    unfolding childLaid
-    child-read p =
-        let test : eqb (rowAt rows c .kind) tag.Member ≡ true = eq-eqb (rowAt rows c .kind) tag.Member (ap (λ (r : Row). r .kind) (sym at) ∙ h) in
-        sym (rw test (ap (readLaid rows sizeOf bounded largest c) (sym is ∙ p)))
+-- what a member adds, laid, is the member laid
+module _ (settings : Settings) (s rows attrs : List ℕ) (n : ℕ) (sizeOf : «Type» → Sized) (bounded : Bool) (largest c : ℕ) where
+  abbrev adds : Added → Lay
+  adds x = addedLaid (settings .endian) s rows attrs bounded largest c x
 
-    pub child-member : {m : Member} {k : ℕ} {r : Laying} {room room′ : List ℕ} → told ≡ read.Is m
-        → Lays (laidFrom rows sizeOf bounded largest (record { row = c; member = m } ∷ [])) k r room room′
-        → Lays (childLaid settings s rows attrs n sizeOf bounded largest c) k r room room′
-    unfolding readLaid
-    child-member {k = k} {r = r} {room = room} {room′ = room′} p g = subst (λ (lay : Lay). Lays lay k r room room′) (child-read p) g
+  sized-adds : (m : Member) → m .name ≡ nameOf s attrs (runOf (settings .endian) rows c) attribute.Name → (x : Sized)
+      → adds (withSize (m .offset) x)
+      ≡ layThen (λ size. layThen (λ next. laid (laidMember (record { row = c; member = m }) size ∷ []) next) (endOr bounded (rowAt rows c .key) largest (m .offset + size))) x
+  unfolding withSize addedLaid sizedLaid layThen laidAt laidMember
+  sized-adds m p (Is size) =
+      ap (λ (name : Name). layThen (λ next. laid (record { offset = m .offset; size = size; place = namePlace name; length = nameLength name } ∷ []) next)
+      (endOr bounded (rowAt rows c .key) largest (m .offset + size))) (sym p)
+  sized-adds m p (Refused why) = refl
 
-    pub child-unread : {why : Refusal} {k : ℕ} {room : List ℕ} → told ≡ read.Refused why
-        → Lays (childLaid settings s rows attrs n sizeOf bounded largest c) k (laying.Refused why) room room
-    unfolding readLaid
-    child-unread p = lays-nowhere (child-read p) refl
+  read-adds : (m : MemberRead) → memberAt settings s rows attrs n c ≡ m → adds (readAdded sizeOf m) ≡ readLaid rows sizeOf bounded largest c m
+  unfolding readAdded readLaid addedLaid laidFrom andLaid memberSize
+  read-adds (read.Is m) p = sized-adds m (member-name settings s rows attrs n c p) (sizeOr sizeOf (m .of) (m .«byte_size»))
+  read-adds (read.Refused why) p = refl
 
-  pub child-other : {k : ℕ} {room : List ℕ} → (row .kind ≡ tag.Member → ⊥)
-      → Lays (childLaid settings s rows attrs n sizeOf bounded largest c) k (laying.Is k largest) room room
-  unfolding childLaid laidWords
-  child-other {k} h =
-      let test : eqb (rowAt rows c .kind) tag.Member ≡ false = ne-eqb (rowAt rows c .kind) tag.Member (λ z. h (ap (λ (r : Row). r .kind) at ∙ z)) in
-      let other : laid [] largest ≡ childLaid settings s rows attrs n sizeOf bounded largest c = sym (rw test) in
-      lays-laid other (sym (add-zero k)) refl
+  module _ {row : Row} (at : row ≡ rowAt rows c) where
+    module _ (h : row .kind ≡ tag.Member) {told : Added} (is : told ≡ memberAdded settings s rows attrs n sizeOf c) where
+      child-adds : {x : Added} → told ≡ x → adds x ≡ childLaid settings s rows attrs n sizeOf bounded largest c
+      unfolding childLaid memberAdded
+      child-adds p =
+          let test : eqb (rowAt rows c .kind) tag.Member ≡ true = eq-eqb (rowAt rows c .kind) tag.Member (ap (λ (r : Row). r .kind) (sym at) ∙ h) in
+          ap adds (sym p ∙ is) ∙ read-adds (memberAt settings s rows attrs n c) refl ∙ sym (rw test)
+
+      pub child-sized : {offset size k : ℕ} {r : Laying} {room room′ : List ℕ} → told ≡ added.Is offset size
+          → Lays (sizedLaid (settings .endian) s rows attrs bounded largest c offset size) k r room room′
+          → Lays (childLaid settings s rows attrs n sizeOf bounded largest c) k r room room′
+      unfolding addedLaid
+      child-sized {k = k} {r = r} {room = room} {room′ = room′} p g = subst (λ (lay : Lay). Lays lay k r room room′) (child-adds p) g
+
+      pub child-refused : {why : Refusal} {k : ℕ} {room : List ℕ} → told ≡ added.Refused why
+          → Lays (childLaid settings s rows attrs n sizeOf bounded largest c) k (laying.Refused why) room room
+      unfolding addedLaid
+      child-refused p = lays-nowhere (child-adds p) refl
+
+    pub child-other : {k : ℕ} {room : List ℕ} → (row .kind ≡ tag.Member → ⊥)
+        → Lays (childLaid settings s rows attrs n sizeOf bounded largest c) k (laying.Is k largest) room room
+    unfolding childLaid laidWords
+    child-other {k} h =
+        let test : eqb (rowAt rows c .kind) tag.Member ≡ false = ne-eqb (rowAt rows c .kind) tag.Member (λ z. h (ap (λ (r : Row). r .kind) at ∙ z)) in
+        let other : laid [] largest ≡ childLaid settings s rows attrs n sizeOf bounded largest c = sym (rw test) in
+        lays-laid other (sym (add-zero k)) refl
 
 -- ---- a child is one member at most
 
@@ -474,6 +522,12 @@ module _ (settings : Settings) (s rows attrs : List ℕ) (n i : ℕ) where
       pub structure-faulty : {why : Refusal} → told ≡ fault.Refused why → Lays (structureLaid settings s rows attrs n sizeOf bounded i) 0 (laying.Refused why) room room
       unfolding structureLaid faultLaid
       structure-faulty p = lays-nowhere (ap (faultLaid settings s rows attrs n sizeOf bounded i) (sym p ∙ is)) refl
+
+  -- a structure or class of a table that was tested
+  pub layout-asked : {sizes known kept : List ℕ} {row : Row} {b : Bool} → AskedShort s rows n i → AllKept settings sizes s rows attrs n known kept → row ≡ rowAt rows i
+      → b ≡ isStructure (shapeOf (row .kind)) → b ≡ true → LayoutAsked settings sizes s rows attrs n known kept i
+  layout-asked w k at is t =
+      record { asked = w; is-structure = ap (λ (r : Row). isStructure (shapeOf (r .kind))) (sym at) ∙ sym is ∙ t; all-kept = k }
 
   -- the members of a row, however they came
   module _ (sizeOf : «Type» → Sized) where

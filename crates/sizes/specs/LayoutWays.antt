@@ -6,6 +6,8 @@ use mathlib.Core.List.{List, [], _∷_, _++_}
 use lib.ListN.{length}
 use lib.Seq.{sets}
 use lib.Dec.{eqb}
+use Rattle.numbers.specs.declared.Endian.{Endian}
+use Rattle.format.specs.AttributeKind as attribute
 use Rattle.format.specs.TagKind as tag
 use Rattle.format.specs.declared.settings.Settings.{Settings}
 use Rattle.blocks.specs.declared.types.Type.{«Type»}
@@ -13,21 +15,41 @@ use Rattle.tables.specs.Row.{rowAt}
 use Rattle.links.specs.Kids.{kidsOf}
 use Rattle.records.specs.EnumerationWays.{AskedShort}
 use Rattle.records.specs.Member.{memberAt}
+use Rattle.records.specs.Scan.{runOf}
+use Rattle.records.specs.Fields.{nameOf}
+use Rattle.records.specs.MemberWords.{namePlace, nameLength}
 use Rattle.records.specs.declared.scan.Fault.{Fault}
 use Rattle.records.specs.declared.scan.Fault.the-variants as fault
 use Rattle.records.specs.declared.member.MemberRead.{MemberRead}
 use Rattle.records.specs.declared.member.MemberRead.the-variants as read
 use Rattle.sizes.specs.Ways.{structureFault}
-use Rattle.sizes.specs.Layout.{Laid, Lay, laid, nowhere, laidFrom, laidWords, laidWidth}
+use Rattle.sizes.specs.Layout.{Laid, Lay, laid, nowhere, layThen, endOr, laidFrom, laidWords, laidWidth}
+use Rattle.sizes.specs.declared.kept.Added.{Added}
+use Rattle.sizes.specs.declared.kept.Added.the-variants as added
 use Rattle.sizes.specs.declared.sized.Sized.{Sized}
 use Rattle.sizes.specs.declared.layout.LayoutWhole.{LayoutWhole}
-use Rattle.sizes.specs.declared.layout.LayoutWhole.the-variants as whole
 use Rattle.sizes.specs.declared.layout.Laying.{Laying}
 use Rattle.sizes.specs.declared.layout.Laying.the-variants as laying
 
--- the words of one member
-unfoldable pub laidWord : ℕ → ℕ → ℕ → ℕ → List ℕ
-laidWord offset size place len = offset ∷ size ∷ place ∷ len ∷ []
+-- the member at row c, its name being what its row says
+unfoldable pub laidAt : Endian → List ℕ → List ℕ → List ℕ → ℕ → ℕ → ℕ → Laid
+laidAt e s rows attrs c offset size =
+    record {
+      offset = offset;
+      size = size;
+      place = namePlace (nameOf s attrs (runOf e rows c) attribute.Name);
+      length = nameLength (nameOf s attrs (runOf e rows c) attribute.Name);
+    }
+
+module _ (e : Endian) (s rows attrs : List ℕ) (bounded : Bool) (largest c : ℕ) where
+  -- a member whose size is known
+  unfoldable pub sizedLaid : ℕ → ℕ → Lay
+  sizedLaid offset size =
+      layThen (λ next. laid (laidAt e s rows attrs c offset size ∷ []) next) (endOr bounded (rowAt rows c .key) largest (offset + size))
+
+  unfoldable pub addedLaid : Added → Lay
+  addedLaid (added.Is offset size) = sizedLaid offset size
+  addedLaid (added.Refused why) = nowhere why
 
 -- a child, and a count that can grow
 pub record LayAsked (s rows : List ℕ) (n c count : ℕ) : Type 0 where

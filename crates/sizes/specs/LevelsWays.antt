@@ -12,12 +12,9 @@ use Rattle.tables.specs.Row.{rowAt}
 use Rattle.tables.specs.Check.{refusedAt}
 use Rattle.sizes.specs.Size.{entryAt, entrySize}
 use Rattle.sizes.specs.SizeWays.{Ready, typeFrom}
-use Rattle.sizes.specs.Known.{knownAt}
+use Rattle.sizes.specs.Known.{knownWidth, knownAt}
 use Rattle.sizes.specs.declared.sized.Sized.{Sized}
 use Rattle.sizes.specs.declared.sized.Sized.the-variants.{Is, Refused}
-
-abbrev pub knownWidth : ℕ
-knownWidth = 3
 
 -- the levels that a structure's members have left: one less than the limit
 abbrev pub deepest : ℕ
@@ -40,12 +37,6 @@ module _ (settings : Settings) (sizes s rows attrs : List ℕ) (n : ℕ) where
   -- row i with so many levels left
   unfoldable pub sizeLeft : ℕ → ℕ → Sized
   sizeLeft levels i = entrySize settings sizes s rows attrs n levels (rowAt rows i .key)
-
--- row i's size is known now, the others as before
-pub record PutKnown (i : ℕ) (size : Sized) (known known′ : List ℕ) : Type 0 where
-  pub here : knownAt known′ i ≡ size
-  pub others : (j : ℕ) → (j ≡ i → ⊥) → knownAt known′ j ≡ knownAt known j
-  pub same-long : length known′ ≡ length known
 
 -- the first k of n rows are known
 pub record Filled (sizeAt : ℕ → Sized) (n k : ℕ) (known : List ℕ) : Type 0 where

@@ -2,10 +2,11 @@
 pub mod Size
 pub mod Layout
 pub mod All
--- How the code goes about it: `Known` are sizes that are known already.
+-- How the code goes about it: `Known` are sizes that are known already, `KeptWays` what is kept of each row so that it is read once.
 pub mod Known
 pub mod Ways
 pub mod SizeWays
+pub mod KeptWays
 pub mod LevelsWays
 pub mod LayoutWays
 pub mod AllWays
@@ -15,6 +16,8 @@ pub mod WalkingLaws
 pub mod PrepareLaws
 pub mod EndsLaws
 pub mod KnownLaws
+pub mod KeptLaws
+pub mod KeepLaws
 pub mod SizeLaws
 pub mod StayLaws
 pub mod LevelsLaws

@@ -64,50 +64,39 @@ use Rattle.records.specs.declared.ptr_to_member.PtrToMemberRead.the-variants as
 use Rattle.sizes.specs.Ways.{countedPrepared, preparedLast, lastPrepared, preparedArray, walkFault, structureFault, sizePrepared, preparedStructure, preparedEnumeration, preparedUnion, preparedPointer, preparedShape, preparedRow, finished}
 use Rattle.sizes.specs.PrepareLaws.{AllRead, fault-members, prepared-size}
 use Rattle.sizes.specs.EndsLaws.{ends-members}
-use Rattle.sizes.specs.Size.{sizeLimit, shapeOf, subscriptFault, membersFrom, membersBy, membersOf, sizeOrEnds, membersSize, typeSizeBy, kindSize, sizeThen, productOf, subscriptBlock, larger, endThen, entryAt, foundSize, entrySize, typeSize, sizeOfKey, sizeOfType}
+use Rattle.sizes.specs.Size.{sizeLimit, shapeOf, subscriptFault, membersFrom, membersBy, membersOf, sizeOrEnds, membersSize, sizeOr, typeSizeBy, kindSize, sizeThen, productOf, subscriptBlock, larger, endThen, entryAt, foundSize, entrySize, typeSize, sizeOfKey, sizeOfType}
 use Rattle.sizes.specs.Known.{knownAt}
-use Rattle.sizes.specs.SizeWays.{Ready, EndsShort, sizedPart, partOf, readPart, childPart, grown, partEnd, childEnd, endsOver, arrayProduct, knownFound, entryFrom, typeFrom}
+use Rattle.sizes.specs.SizeWays.{Ready, EndsShort, withSize, readAdded, grown, addedEnd, memberAdded, childEnd, endsOver, arrayProduct, knownFound, entryFrom, typeFrom}
 use Rattle.sizes.specs.declared.prepare.Shape.{Shape}
 use Rattle.sizes.specs.declared.prepare.Shape.the-variants as shape
 use Rattle.sizes.specs.declared.prepare.Prepared.{Prepared}
 use Rattle.sizes.specs.declared.prepare.Prepared.the-variants as prepared
-use Rattle.sizes.specs.declared.size.ChildPart.{ChildPart}
-use Rattle.sizes.specs.declared.size.ChildPart.the-variants as part
+use Rattle.sizes.specs.declared.kept.Added.{Added}
+use Rattle.sizes.specs.declared.kept.Added.the-variants as added
 use Rattle.sizes.specs.declared.sized.Sized.{Sized}
 use Rattle.sizes.specs.declared.sized.Sized.the-variants.{Is, Refused}
 
--- ---- a child of a structure
+-- ---- what a member adds
 
-module _ (m : Member) where
-  pub part-whole : {size : ℕ} → m .«byte_size» ≡ word.Is size → part.Whole (m .offset) size ≡ partOf m
-  unfolding partOf sizedPart
-  part-whole p = ap (sizedPart (m .offset) (m .of)) (sym p)
+module _ (settings : Settings) (s rows attrs : List ℕ) (n : ℕ) (sizeOf : «Type» → Sized) (c : ℕ) {told : MemberRead}
+    (is : told ≡ memberAt settings s rows attrs n c) where
+  added-read : {m : MemberRead} → told ≡ m → readAdded sizeOf m ≡ memberAdded settings s rows attrs n sizeOf c
+  unfolding memberAdded
+  added-read p = ap (readAdded sizeOf) (sym p ∙ is)
 
-  pub part-typed : m .«byte_size» ≡ word.Nothing → part.Typed (m .offset) (m .of) ≡ partOf m
-  unfolding partOf sizedPart
-  part-typed p = ap (sizedPart (m .offset) (m .of)) (sym p)
+  module _ {m : Member} (p : told ≡ read.Is m) where
+    pub added-own : {size : ℕ} → m .«byte_size» ≡ word.Is size → added.Is (m .offset) size ≡ memberAdded settings s rows attrs n sizeOf c
+    unfolding readAdded withSize sizeOr
+    added-own q = ap (λ (w : Word). withSize (m .offset) (sizeOr sizeOf (m .of) w)) (sym q) ∙ added-read p
 
-module _ (settings : Settings) (s rows attrs : List ℕ) (n c : ℕ) {row : Row} (at : row ≡ rowAt rows c) where
-  module _ (h : row .kind ≡ tag.Member) {told : MemberRead} (is : told ≡ memberAt settings s rows attrs n c) where
-    part-read : readPart told ≡ childPart settings s rows attrs n c
-    unfolding childPart
-    part-read =
-        let test : eqb (rowAt rows c .kind) tag.Member ≡ true = eq-eqb (rowAt rows c .kind) tag.Member (ap (λ (r : Row). r .kind) (sym at) ∙ h) in
-        rw test (ap readPart is)
+    pub added-typed : m .«byte_size» ≡ word.Nothing → {size : Sized} {r : Added} → size ≡ sizeOf (m .of) → r ≡ withSize (m .offset) size
+        → r ≡ memberAdded settings s rows attrs n sizeOf c
+    unfolding readAdded sizeOr
+    added-typed q h k = k ∙ ap (withSize (m .offset)) h ∙ ap (λ (w : Word). withSize (m .offset) (sizeOr sizeOf (m .of) w)) (sym q) ∙ added-read p
 
-    pub part-member : {m : Member} → told ≡ read.Is m → {r : ChildPart} → r ≡ partOf m → r ≡ childPart settings s rows attrs n c
-    unfolding readPart
-    part-member p q = q ∙ ap readPart (sym p) ∙ part-read
-
-    pub part-refused : {why : Refusal} → told ≡ read.Refused why → part.Refused why ≡ childPart settings s rows attrs n c
-    unfolding readPart
-    part-refused p = ap readPart (sym p) ∙ part-read
-
-  pub part-other : (row .kind ≡ tag.Member → ⊥) → part.Other ≡ childPart settings s rows attrs n c
-  unfolding childPart
-  part-other h =
-      let test : eqb (rowAt rows c .kind) tag.Member ≡ false = ne-eqb (rowAt rows c .kind) tag.Member (λ z. h (ap (λ (r : Row). r .kind) at ∙ z)) in
-      rw test
+  pub added-refused : {why : Refusal} → told ≡ read.Refused why → added.Refused why ≡ memberAdded settings s rows attrs n sizeOf c
+  unfolding readAdded
+  added-refused p = added-read p
 
 -- ---- an end
 
@@ -149,33 +138,28 @@ product-here settings s rows attrs i k size {run} {block} p q t =
 
 -- ---- the largest end with that of a child
 
-module _ (settings : Settings) (s rows attrs : List ℕ) (n : ℕ) (sizeOf : «Type» → Sized) (largest c : ℕ) {told : ChildPart}
-    (is : told ≡ childPart settings s rows attrs n c) where
-  child-is : {p : ChildPart} → told ≡ p → partEnd rows sizeOf largest c p ≡ childEnd settings s rows attrs n sizeOf largest c
+module _ (settings : Settings) (s rows attrs : List ℕ) (n : ℕ) (sizeOf : «Type» → Sized) (largest c : ℕ) {row : Row} (at : row ≡ rowAt rows c) where
+  pub child-other : (row .kind ≡ tag.Member → ⊥) → Is largest ≡ childEnd settings s rows attrs n sizeOf largest c
   unfolding childEnd
-  child-is q = ap (partEnd rows sizeOf largest c) (sym q ∙ is)
+  child-other h =
+      let test : eqb (rowAt rows c .kind) tag.Member ≡ false = ne-eqb (rowAt rows c .kind) tag.Member (λ z. h (ap (λ (r : Row). r .kind) at ∙ z)) in
+      sym (rw test)
 
-  pub child-whole : {offset size : ℕ} {r : Sized} → told ≡ part.Whole offset size → r ≡ grown rows c largest offset size
-      → r ≡ childEnd settings s rows attrs n sizeOf largest c
-  unfolding partEnd
-  child-whole q p = p ∙ child-is q
+  module _ (h : row .kind ≡ tag.Member) {told : Added} (is : told ≡ memberAdded settings s rows attrs n sizeOf c) where
+    child-adds : {x : Added} → told ≡ x → addedEnd rows largest c x ≡ childEnd settings s rows attrs n sizeOf largest c
+    unfolding childEnd
+    child-adds p =
+        let test : eqb (rowAt rows c .kind) tag.Member ≡ true = eq-eqb (rowAt rows c .kind) tag.Member (ap (λ (r : Row). r .kind) (sym at) ∙ h) in
+        sym (rw test (ap (addedEnd rows largest c) (sym is ∙ p)))
 
-  module _ {offset : ℕ} {t : «Type»} (q : told ≡ part.Typed offset t) {size? : Sized} (p : size? ≡ sizeOf t) where
-    pub child-typed : {size : ℕ} {r : Sized} → size? ≡ Is size → r ≡ grown rows c largest offset size → r ≡ childEnd settings s rows attrs n sizeOf largest c
-    unfolding partEnd sizeThen
-    child-typed u v = v ∙ ap (sizeThen (grown rows c largest offset)) (sym u ∙ p) ∙ child-is q
+    pub child-added : {offset size : ℕ} {r : Sized} → told ≡ added.Is offset size → r ≡ grown rows c largest offset size
+        → r ≡ childEnd settings s rows attrs n sizeOf largest c
+    unfolding addedEnd
+    child-added p q = q ∙ child-adds p
 
-    pub child-sizeless : {why : Refusal} → size? ≡ Refused why → Refused why ≡ childEnd settings s rows attrs n sizeOf largest c
-    unfolding partEnd sizeThen
-    child-sizeless u = ap (sizeThen (grown rows c largest offset)) (sym u ∙ p) ∙ child-is q
-
-  pub child-other : told ≡ part.Other → Is largest ≡ childEnd settings s rows attrs n sizeOf largest c
-  unfolding partEnd
-  child-other q = child-is q
-
-  pub child-refused : {why : Refusal} → told ≡ part.Refused why → Refused why ≡ childEnd settings s rows attrs n sizeOf largest c
-  unfolding partEnd
-  child-refused q = child-is q
+    pub child-refused : {why : Refusal} → told ≡ added.Refused why → Refused why ≡ childEnd settings s rows attrs n sizeOf largest c
+    unfolding addedEnd
+    child-refused p = child-adds p
 
 -- ---- the loop over children
 
@@ -393,25 +377,24 @@ module _ (settings : Settings) (sizes s rows attrs : List ℕ) (n : ℕ) where
 
 -- ---- a type
 
-module _ (settings : Settings) (sizes s rows attrs : List ℕ) (n : ℕ) (known : List ℕ) (levels : ℕ) (t : «Type») where
-  pub type-pointer : t .pointer ≡ true → Is 4 ≡ typeFrom settings sizes s rows attrs n known levels t
-  unfolding typeFrom typeSizeBy
+-- `entry` gives an entry's size
+module _ (sizes : List ℕ) (entry : ℕ → Sized) (t : «Type») where
+  pub type-pointer : t .pointer ≡ true → Is 4 ≡ typeSizeBy sizes entry t
+  unfolding typeSizeBy
   type-pointer h = rw h
 
   module _ (h : t .pointer ≡ false) where
-    type-kind : kindSize sizes (entryFrom settings sizes s rows attrs n known levels) (t .kind) ≡ typeFrom settings sizes s rows attrs n known levels t
-    unfolding typeFrom typeSizeBy
+    type-kind : kindSize sizes entry (t .kind) ≡ typeSizeBy sizes entry t
+    unfolding typeSizeBy
     type-kind = sym (rw h)
 
-    pub type-fundamental : {number size : ℕ} → t .kind ≡ kind.Fundamental number → size ≡ getD sizes (indexOf number fundTypes) 0
-        → Is size ≡ typeFrom settings sizes s rows attrs n known levels t
+    pub type-fundamental : {number size : ℕ} → t .kind ≡ kind.Fundamental number → size ≡ getD sizes (indexOf number fundTypes) 0 → Is size ≡ typeSizeBy sizes entry t
     unfolding kindSize
-    type-fundamental p q = ap Is q ∙ ap (kindSize sizes (entryFrom settings sizes s rows attrs n known levels)) (sym p) ∙ type-kind
+    type-fundamental p q = ap Is q ∙ ap (kindSize sizes entry) (sym p) ∙ type-kind
 
-    pub type-user : {key : ℕ} {r : Sized} → t .kind ≡ kind.UserDefined key → r ≡ entryFrom settings sizes s rows attrs n known levels key
-        → r ≡ typeFrom settings sizes s rows attrs n known levels t
+    pub type-user : {key : ℕ} {r : Sized} → t .kind ≡ kind.UserDefined key → r ≡ entry key → r ≡ typeSizeBy sizes entry t
     unfolding kindSize
-    type-user p q = q ∙ ap (kindSize sizes (entryFrom settings sizes s rows attrs n known levels)) (sym p) ∙ type-kind
+    type-user p q = q ∙ ap (kindSize sizes entry) (sym p) ∙ type-kind
 
 -- a row that was found, of a table that was tested
 pub found-asked : {s rows : List ℕ} {n : ℕ} → Ready s rows n → (key : ℕ) {f : Found} → f ≡ rowOfKey rows n key → {i : ℕ} → f ≡ found.At i → AskedShort s rows n i

@@ -18,15 +18,12 @@ use Rattle.links.specs.Links.{Rows}
 use Rattle.records.specs.Scan.{runOf}
 use Rattle.records.specs.Member.{memberAt}
 use Rattle.records.specs.UnionsWays.{EndsAt}
-use Rattle.records.specs.declared.fields.Word.{Word}
-use Rattle.records.specs.declared.fields.Word.the-variants as word
-use Rattle.records.specs.declared.member.Member.{Member}
 use Rattle.records.specs.declared.member.MemberRead.{MemberRead}
 use Rattle.records.specs.declared.member.MemberRead.the-variants as read
-use Rattle.sizes.specs.Size.{subscriptBlock, productOf, sizeThen, endThen, entrySize, typeSizeBy}
+use Rattle.sizes.specs.Size.{subscriptBlock, productOf, sizeThen, sizeOr, endThen, entrySize, typeSizeBy}
 use Rattle.sizes.specs.Known.{knownAt}
-use Rattle.sizes.specs.declared.size.ChildPart.{ChildPart}
-use Rattle.sizes.specs.declared.size.ChildPart.the-variants as part
+use Rattle.sizes.specs.declared.kept.Added.{Added}
+use Rattle.sizes.specs.declared.kept.Added.the-variants as added
 use Rattle.sizes.specs.declared.sized.Sized.{Sized}
 use Rattle.sizes.specs.declared.sized.Sized.the-variants.{Is, Refused}
 
@@ -42,35 +39,30 @@ pub record EndsShort (settings : Settings) (s rows attrs : List ℕ) (n i : ℕ)
 
 -- ---- a structure's children one at a time
 
-unfoldable pub sizedPart : ℕ → «Type» → Word → ChildPart
-sizedPart offset t (word.Is size) = part.Whole offset size
-sizedPart offset t word.Nothing = part.Typed offset t
+unfoldable pub withSize : ℕ → Sized → Added
+withSize offset (Is size) = added.Is offset size
+withSize offset (Refused why) = added.Refused why
 
-unfoldable pub partOf : Member → ChildPart
-partOf m = sizedPart (m .offset) (m .of) (m .«byte_size»)
-
-unfoldable pub readPart : MemberRead → ChildPart
-readPart (read.Is m) = partOf m
-readPart (read.Refused why) = part.Refused why
-
-module _ (settings : Settings) (s rows attrs : List ℕ) (n : ℕ) where
-  unfoldable pub childPart : ℕ → ChildPart
-  childPart c = cond (eqb (rowAt rows c .kind) tag.Member) (readPart (memberAt settings s rows attrs n c)) part.Other
+module _ (typeSize : «Type» → Sized) where
+  unfoldable pub readAdded : MemberRead → Added
+  readAdded (read.Is m) = withSize (m .offset) (sizeOr typeSize (m .of) (m .«byte_size»))
+  readAdded (read.Refused why) = added.Refused why
 
 -- the largest end with that of a member at row c
 unfoldable pub grown : List ℕ → ℕ → ℕ → ℕ → ℕ → Sized
 grown rows c largest offset size = endThen (rowAt rows c .key) Is largest (offset + size)
 
-module _ (rows : List ℕ) (typeSize : «Type» → Sized) (largest c : ℕ) where
-  unfoldable pub partEnd : ChildPart → Sized
-  partEnd (part.Whole offset size) = grown rows c largest offset size
-  partEnd (part.Typed offset t) = sizeThen (grown rows c largest offset) (typeSize t)
-  partEnd part.Other = Is largest
-  partEnd (part.Refused why) = Refused why
+unfoldable pub addedEnd : List ℕ → ℕ → ℕ → Added → Sized
+addedEnd rows largest c (added.Is offset size) = grown rows c largest offset size
+addedEnd rows largest c (added.Refused why) = Refused why
 
 module _ (settings : Settings) (s rows attrs : List ℕ) (n : ℕ) (typeSize : «Type» → Sized) where
+  -- what the member at row c adds to its structure
+  unfoldable pub memberAdded : ℕ → Added
+  memberAdded c = readAdded typeSize (memberAt settings s rows attrs n c)
+
   unfoldable pub childEnd : ℕ → ℕ → Sized
-  childEnd largest c = partEnd rows typeSize largest c (childPart settings s rows attrs n c)
+  childEnd largest c = cond (eqb (rowAt rows c .kind) tag.Member) (addedEnd rows largest c (memberAdded c)) (Is largest)
 
   -- the largest end of children, one after the other
   unfoldable pub endsOver : ℕ → List ℕ → Sized

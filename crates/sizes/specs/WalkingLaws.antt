@@ -5,7 +5,7 @@ use mathlib.Core.Path.{_≡_, sym, ap, _∙_, subst}
 use mathlib.Core.List.{List, [], _∷_}
 use lib.ListN.{length}
 use Rattle.numbers.specs.declared.Endian.{Endian}
-use Rattle.links.specs.Links.{siblingRow, nextRow, AtRow}
+use Rattle.links.specs.Links.{siblingRow, nextRow}
 use Rattle.links.specs.Kids.{kidsFrom, kidsOf, Ends, firstOr}
 use Rattle.links.specs.KidsLaws.{kids-more, ends-more, kids-none, kids-same, ends-same, first-same, kids-at, ends-at}
 use Rattle.links.specs.ChildrenWays.{Asked}
@@ -42,9 +42,6 @@ module _ {e : Endian} {s rows attrs : List ℕ} {n end : ℕ} {A : Type 0} {f : 
   module _ (l : c < n) where
     pub walking-asked : Asked rows n c
     walking-asked = record { table = w .on .table; there = l }
-
-    pub walking-at : AtRow rows n c
-    walking-at = record { rising = w .on .table .rising; there = l }
 
     -- child c, and those after it
     here : f (c ∷ kidsAt (after c)) ≡ all

@@ -1,5 +1,6 @@
 // Every structure's and class's layout of a table, in file order, in one call that tests the table once. The sizes of all rows are taken first, so that the
 // row sizes taken are at most rows times depth.
+use crate::keep::keep_rows;
 use crate::layout::LAID_WIDTH;
 use crate::layout::LayoutWhole;
 use crate::layout::is_structure;
@@ -25,6 +26,7 @@ ghost use lib.Seq.{sets};
 ghost use Rattle.sizes.specs.Size.{typeSize};
 ghost use Rattle.sizes.specs.SizeWays.{Ready, typeFrom};
 ghost use Rattle.sizes.specs.LevelsWays.{deepest};
+ghost use Rattle.sizes.specs.KeptWays.{AllKept};
 ghost use Rattle.sizes.specs.All.{structureWidth, structuresFrom, countsOf, allOf, intoRooms, AllGiven};
 ghost use Rattle.sizes.specs.AllWays.{OneMore, CountAsked, PutAsked, PutsAsked, eightWords, rowStructures, countedOn, countedWith, Puts, PutAll};
 
@@ -47,6 +49,9 @@ pub const STRUCTURE_WIDTH: usize = 8;
 // Three words for each of 4,096 rows.
 const KNOWN_WORDS: usize = 12288;
 
+// Three answers for each.
+const KEPT_WORDS: usize = 36864;
+
 fn one_more(counts: LayoutCounts, members: usize) -> LayoutCounts
     requires { ⌜ OneMore counts members ⌝ }
     ensures { λ r. ⌜ r ≡ countedOn counts members ⌝ }
@@ -66,10 +71,11 @@ fn count_row(
     attrs: &[u32],
     n: usize,
     known: &[u64],
+    kept: &[u64],
     i: usize,
     counts: LayoutCounts,
 ) -> LayoutCounts
-    requires { ⌜ CountAsked (now s) (now rows) n i counts ⌝ }
+    requires { ⌜ CountAsked (now s) (now rows) n i counts × AllKept settings (now sizes) (now s) (now rows) (now attrs) n (now known) (now kept) ⌝ }
     ensures { λ r. ⌜ r ≡ countedWith counts (rowStructures settings (now (s .entry)) (now (rows .entry)) (now (attrs .entry)) n (typeFrom settings (now (sizes .entry)) (now (s .entry)) (now (rows .entry)) (now (attrs .entry)) n (now (known .entry)) 0) i) ⌝ }
 {
     let row = row_at(rows, i);
@@ -77,7 +83,19 @@ fn count_row(
         return counts;
     }
     let mut none = [0u64; 0];
-    match read_layout(s, settings, sizes, rows, attrs, n, known, 0, i, &mut none) {
+    match read_layout(
+        s,
+        settings,
+        sizes,
+        rows,
+        attrs,
+        n,
+        known,
+        kept,
+        0,
+        i,
+        &mut none,
+    ) {
         LayoutWhole::Is(found) => one_more(counts, found.members),
         LayoutWhole::Refused(_) => one_more(counts, 0),
     }
@@ -91,8 +109,9 @@ fn count_layouts(
     attrs: &[u32],
     n: usize,
     known: &[u64],
+    kept: &[u64],
 ) -> LayoutCounts
-    requires { ⌜ Ready (now s) (now rows) n ⌝ }
+    requires { ⌜ Ready (now s) (now rows) n × AllKept settings (now sizes) (now s) (now rows) (now attrs) n (now known) (now kept) ⌝ }
     ensures { λ r. ⌜ r ≡ countsOf (structuresFrom settings (now (s .entry)) (now (rows .entry)) (now (attrs .entry)) n (typeFrom settings (now (sizes .entry)) (now (s .entry)) (now (rows .entry)) (now (attrs .entry)) n (now (known .entry)) 0) 0 n) ⌝ }
 {
     let mut counts = LayoutCounts {
@@ -101,7 +120,7 @@ fn count_layouts(
     };
     let mut i: usize = 0;
     while i < n {
-        counts = count_row(s, settings, sizes, rows, attrs, n, known, i, counts);
+        counts = count_row(s, settings, sizes, rows, attrs, n, known, kept, i, counts);
         i += 1;
     }
     counts
@@ -143,12 +162,13 @@ fn put_row(
     attrs: &[u32],
     n: usize,
     known: &[u64],
+    kept: &[u64],
     i: usize,
     counts: LayoutCounts,
     structures: &mut [u64],
     members: &mut [u64],
 ) -> LayoutCounts
-    requires { ⌜ PutAsked (now s) (now rows) n i counts (now members) ⌝ }
+    requires { ⌜ PutAsked (now s) (now rows) n i counts (now members) × AllKept settings (now sizes) (now s) (now rows) (now attrs) n (now known) (now kept) ⌝ }
     ensures { λ r. ⌜ Puts (rowStructures settings (now (s .entry)) (now (rows .entry)) (now (attrs .entry)) n (typeFrom settings (now (sizes .entry)) (now (s .entry)) (now (rows .entry)) (now (attrs .entry)) n (now (known .entry)) 0) i) counts r (now (structures .entry)) (now (structures .exit)) (now (members .entry)) (now (members .exit)) ⌝ }
 {
     let row = row_at(rows, i);
@@ -160,7 +180,19 @@ fn put_row(
     let k = counts.structures;
     let first = counts.members;
     let mut none = [0u64; 0];
-    match read_layout(s, settings, sizes, rows, attrs, n, known, 0, i, &mut none) {
+    match read_layout(
+        s,
+        settings,
+        sizes,
+        rows,
+        attrs,
+        n,
+        known,
+        kept,
+        0,
+        i,
+        &mut none,
+    ) {
         LayoutWhole::Is(found) => {
             let from = first * LAID_WIDTH;
             read_layout(
@@ -171,6 +203,7 @@ fn put_row(
                 attrs,
                 n,
                 known,
+                kept,
                 0,
                 i,
                 &mut members[from..],
@@ -214,10 +247,11 @@ fn put_layouts(
     attrs: &[u32],
     n: usize,
     known: &[u64],
+    kept: &[u64],
     structures: &mut [u64],
     members: &mut [u64],
 )
-    requires { ⌜ PutsAsked (now s) (now rows) n (structuresFrom settings (now s) (now rows) (now attrs) n (typeFrom settings (now sizes) (now s) (now rows) (now attrs) n (now known) 0) 0 n) (now members) ⌝ }
+    requires { ⌜ PutsAsked (now s) (now rows) n (structuresFrom settings (now s) (now rows) (now attrs) n (typeFrom settings (now sizes) (now s) (now rows) (now attrs) n (now known) 0) 0 n) (now members) × AllKept settings (now sizes) (now s) (now rows) (now attrs) n (now known) (now kept) ⌝ }
     ensures { λ _. ⌜ PutAll (structuresFrom settings (now (s .entry)) (now (rows .entry)) (now (attrs .entry)) n (typeFrom settings (now (sizes .entry)) (now (s .entry)) (now (rows .entry)) (now (attrs .entry)) n (now (known .entry)) 0) 0 n) (now (structures .entry)) (now (structures .exit)) (now (members .entry)) (now (members .exit)) ⌝ }
 {
     let mut counts = LayoutCounts {
@@ -234,6 +268,7 @@ fn put_layouts(
             attrs,
             n,
             known,
+            kept,
             i,
             counts,
             structures,
@@ -252,13 +287,14 @@ fn give_layouts(
     attrs: &[u32],
     n: usize,
     known: &[u64],
+    kept: &[u64],
     structures: &mut [u64],
     members: &mut [u64],
 ) -> AllLayouts
-    requires { ⌜ Ready (now s) (now rows) n ⌝ }
+    requires { ⌜ Ready (now s) (now rows) n × AllKept settings (now sizes) (now s) (now rows) (now attrs) n (now known) (now kept) ⌝ }
     ensures { λ r. ⌜ AllGiven (intoRooms (now (structures .entry)) (now (members .entry)) (structuresFrom settings (now (s .entry)) (now (rows .entry)) (now (attrs .entry)) n (typeFrom settings (now (sizes .entry)) (now (s .entry)) (now (rows .entry)) (now (attrs .entry)) n (now (known .entry)) 0) 0 n)) r (now (structures .exit)) (now (members .exit)) ⌝ }
 {
-    let needed = count_layouts(s, settings, sizes, rows, attrs, n, known);
+    let needed = count_layouts(s, settings, sizes, rows, attrs, n, known, kept);
     if needed.structures > structures.len() / STRUCTURE_WIDTH {
         return AllLayouts::Room(needed);
     }
@@ -273,13 +309,14 @@ fn give_layouts(
         attrs,
         n,
         known,
+        kept,
         structures,
         members,
     );
     AllLayouts::Are(needed)
 }
 
-// The sizes of all rows first, once.
+// Each row is read once, then the sizes of all rows are taken.
 fn lay_all(
     s: &[u8],
     settings: Settings,
@@ -293,9 +330,21 @@ fn lay_all(
     requires { ⌜ Ready (now s) (now rows) n ⌝ }
     ensures { λ r. ⌜ AllGiven (intoRooms (now (structures .entry)) (now (members .entry)) (structuresFrom settings (now (s .entry)) (now (rows .entry)) (now (attrs .entry)) n (typeSize settings (now (sizes .entry)) (now (s .entry)) (now (rows .entry)) (now (attrs .entry)) n deepest) 0 n)) r (now (structures .exit)) (now (members .exit)) ⌝ }
 {
+    let mut kept = [0u64; KEPT_WORDS];
+    keep_rows(s, settings, sizes, rows, attrs, n, &mut kept);
     let mut known = [0u64; KNOWN_WORDS];
     let mut next = [0u64; KNOWN_WORDS];
-    fill_known(s, settings, sizes, rows, attrs, n, &mut known, &mut next);
+    fill_known(
+        s,
+        settings,
+        sizes,
+        rows,
+        attrs,
+        n,
+        &kept,
+        &mut known,
+        &mut next,
+    );
     give_layouts(
         s,
         settings,
@@ -304,6 +353,7 @@ fn lay_all(
         attrs,
         n,
         &known,
+        &kept,
         structures,
         members,
     )

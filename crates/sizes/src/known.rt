@@ -1,10 +1,16 @@
 // Sizes that are known already: three words for each row. The first is 0 and the second the size; or the first is a refusal's number and the third its place.
 use crate::sized::Sized;
 use format::refusal::Refusal;
+use format::refusal::number_of;
 use format::refusal::reason_of;
+use records::words::put_word;
 ghost use mathlib.Core.Path.{_≡_};
-ghost use lib.ListN.{getD};
-ghost use Rattle.sizes.specs.Known.{knownAt};
+ghost use Prim.Native.Nat.{_+_, _*_, _≤_};
+ghost use mathlib.Core.List.{[], _∷_};
+ghost use lib.ListN.{length, getD};
+ghost use lib.Seq.{sets};
+ghost use Rattle.sizes.specs.Known.{knownAt, knownWidth, PutKnown};
+ghost use Rattle.sizes.specs.declared.sized.Sized.the-variants.{Is, Refused};
 
 // The words of a size.
 pub const KNOWN_WIDTH: usize = 3;
@@ -31,5 +37,48 @@ pub fn known_at(known: &[u64], i: usize) -> Sized
             reason: reason_of((number % 4294967296) as u32),
             place: word_at(known, at + 2),
         })
+    }
+}
+
+// ---- writing them
+
+fn put_three(known: &mut [u64], at: usize, number: u64, size: u64, place: u64)
+    requires { ⌜ at + 3 ≤ length (now known) ⌝ }
+    ensures { λ _. ⌜ now (known .exit) ≡ sets (now (known .entry)) at (number ∷ size ∷ place ∷ []) ⌝ }
+{
+    put_word(known, at, number);
+    put_word(known, at + 1, size);
+    put_word(known, at + 2, place);
+}
+
+fn put_size(known: &mut [u64], i: usize, size: u32)
+    requires { ⌜ i * knownWidth + knownWidth ≤ length (now known) ⌝ }
+    ensures { λ _. ⌜ PutKnown i (Is size) (now (known .entry)) (now (known .exit)) ⌝ }
+{
+    put_three(known, i * KNOWN_WIDTH, 0, size as u64, 0);
+}
+
+pub fn put_refusal(known: &mut [u64], i: usize, why: Refusal)
+    requires { ⌜ i * knownWidth + knownWidth ≤ length (now known) ⌝ }
+    ensures { λ _. ⌜ PutKnown i (Refused why) (now (known .entry)) (now (known .exit)) ⌝ }
+{
+    let reason = why.reason;
+    put_three(
+        known,
+        i * KNOWN_WIDTH,
+        number_of(reason) as u64,
+        0,
+        why.place,
+    );
+}
+
+// Row i's size among the known ones.
+pub fn put_known(known: &mut [u64], i: usize, size: Sized)
+    requires { ⌜ i * knownWidth + knownWidth ≤ length (now known) ⌝ }
+    ensures { λ _. ⌜ PutKnown i size (now (known .entry)) (now (known .exit)) ⌝ }
+{
+    match size {
+        Sized::Is(size) => put_size(known, i, size),
+        Sized::Refused(why) => put_refusal(known, i, why),
     }
 }

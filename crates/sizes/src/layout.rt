@@ -1,25 +1,26 @@
 // The layout of a structure or class: its size, and for each member in walk order its offset, size and name, into lent room.
+use crate::kept::Added;
+use crate::kept::kept_sibling;
 use crate::prepare::Shape;
+use crate::prepare::kept_fault;
 use crate::prepare::shape_of;
-use crate::prepare::structure_fault;
 use crate::size::grown;
-use crate::size::type_size;
+use crate::size::member_added;
 use crate::sized::Sized;
 use format::attribute_kind::BYTE_SIZE;
+use format::attribute_kind::NAME;
 use format::limits::DEPTH_LIMIT;
 use format::refusal::Reason;
 use format::refusal::Refusal;
 use format::settings::Settings;
 use links::kids::child_from;
 use links::link::next_row;
-use links::link::sibling_row;
 use links::typed::Keyed;
 use links::typed::row_of;
+use numbers::Endian;
 use records::fields::Word;
+use records::fields::last_name;
 use records::fields::last_word;
-use records::member::Member;
-use records::member::MemberRead;
-use records::member::member_at;
 use records::member_words::name_length;
 use records::member_words::name_place;
 use records::scan::Fault;
@@ -29,17 +30,17 @@ use records::words::put_word;
 use tables::row::Counts;
 use tables::row::row_at;
 ghost use mathlib.Core.Path.{_≡_};
-ghost use Prim.Native.Nat.{_+_, _*_};
+ghost use Prim.Native.Nat.{_+_, _*_, _^_, _<_};
 ghost use lib.Seq.{sets};
 ghost use mathlib.Core.List.{[], _∷_};
 ghost use Rattle.records.specs.EnumerationWays.{AskedShort};
-ghost use Rattle.records.specs.MemberWords.{namePlace, nameLength};
 ghost use Rattle.tables.specs.Row.{rowAt};
 ghost use Rattle.links.specs.Kids.{kidsOf};
-ghost use Rattle.sizes.specs.Size.{shapeOf, sizeOr};
-ghost use Rattle.sizes.specs.SizeWays.{Ready, EndsShort, typeFrom};
-ghost use Rattle.sizes.specs.Layout.{laidWidth, isStructure, isBounded, sizeOrLargest, endOr, laidFrom, rowLay, layoutAt, intoRoom, layoutOf, LayoutGiven};
-ghost use Rattle.sizes.specs.LayoutWays.{laidWord, childLaid, childrenLaid, structureLaid, LayAsked, Lays, WholeLaid};
+ghost use Rattle.sizes.specs.Size.{shapeOf};
+ghost use Rattle.sizes.specs.KeptWays.{AllKept, LayoutAsked};
+ghost use Rattle.sizes.specs.SizeWays.{EndsShort, typeFrom};
+ghost use Rattle.sizes.specs.Layout.{laidWidth, laidWords, isStructure, isBounded, sizeOrLargest, endOr, rowLay, layoutAt, intoRoom, layoutOf, LayoutGiven};
+ghost use Rattle.sizes.specs.LayoutWays.{laidAt, sizedLaid, childLaid, childrenLaid, structureLaid, LayAsked, Lays, WholeLaid};
 
 pub struct Layout {
     pub row: usize,
@@ -102,29 +103,6 @@ fn size_or_largest(size: Word, largest: u32) -> u32
     }
 }
 
-// A member's own size, else its type's.
-fn member_size(
-    s: &[u8],
-    settings: Settings,
-    sizes: &[u32],
-    rows: &[u32],
-    attrs: &[u32],
-    n: usize,
-    known: &[u64],
-    levels: usize,
-    member: Member,
-) -> Sized
-    requires { ⌜ Ready (now s) (now rows) n ⌝ }
-    ensures { λ r. ⌜ r ≡ sizeOr (typeFrom settings (now (sizes .entry)) (now (s .entry)) (now (rows .entry)) (now (attrs .entry)) n (now (known .entry)) levels) (member .of) (member .«byte_size») ⌝ }
-{
-    let own = member.byte_size;
-    let of = member.of;
-    match own {
-        Word::Is(size) => Sized::Is(size),
-        Word::Nothing => type_size(s, settings, sizes, rows, attrs, n, known, levels, of),
-    }
-}
-
 // The largest end; with a ByteSize no end is taken for a size.
 fn end_or(rows: &[u32], bounded: bool, c: usize, largest: u32, offset: u32, size: u32) -> Sized
     ensures { λ r. ⌜ r ≡ endOr bounded (rowAt (now (rows .entry)) c .key) largest (offset + size) ⌝ }
@@ -136,51 +114,55 @@ fn end_or(rows: &[u32], bounded: bool, c: usize, largest: u32, offset: u32, size
     }
 }
 
-// Member number k into the room, if it fits.
-fn put_laid(room: &mut [u64], k: usize, member: Member, size: u32)
-    ensures { λ _. ⌜ now (room .exit) ≡ sets (now (room .entry)) (k * laidWidth) (laidWord (member .offset) size (namePlace (member .name)) (nameLength (member .name))) ⌝ }
+// The member at row c into the room as number k, if it fits.
+fn put_laid(
+    s: &[u8],
+    e: Endian,
+    rows: &[u32],
+    attrs: &[u32],
+    room: &mut [u64],
+    k: usize,
+    c: usize,
+    offset: u32,
+    size: u32,
+)
+    ensures { λ _. ⌜ now (room .exit) ≡ sets (now (room .entry)) (k * laidWidth) (laidWords (laidAt e (now (s .entry)) (now (rows .entry)) (now (attrs .entry)) c offset size ∷ [])) ⌝ }
 {
-    let name = member.name;
     if k < room.len() {
+        let name = last_name(s, attrs, run_of(e, rows, c), NAME);
         let at = k * LAID_WIDTH;
-        put_word(room, at, member.offset as u64);
+        put_word(room, at, offset as u64);
         put_word(room, at + 1, size as u64);
         put_word(room, at + 2, name_place(name));
         put_word(room, at + 3, name_length(name));
     }
 }
 
-// A member at row c, laid as number `count`.
-fn lay_member(
+// The member at row c, whose size is known, laid as number `count`.
+fn lay_sized(
     s: &[u8],
-    settings: Settings,
-    sizes: &[u32],
+    e: Endian,
     rows: &[u32],
     attrs: &[u32],
-    n: usize,
-    known: &[u64],
-    levels: usize,
     bounded: bool,
     c: usize,
-    member: Member,
+    offset: u32,
+    size: u32,
     count: usize,
     largest: u32,
     room: &mut [u64],
 ) -> Laying
-    requires { ⌜ LayAsked (now s) (now rows) n c count ⌝ }
-    ensures { λ r. ⌜ Lays (laidFrom (now (rows .entry)) (typeFrom settings (now (sizes .entry)) (now (s .entry)) (now (rows .entry)) (now (attrs .entry)) n (now (known .entry)) levels) bounded largest (record { row = c; member = member } ∷ [])) count r (now (room .entry)) (now (room .exit)) ⌝ }
+    requires { ⌜ count + 1 < 2 ^ 64 ⌝ }
+    ensures { λ r. ⌜ Lays (sizedLaid e (now (s .entry)) (now (rows .entry)) (now (attrs .entry)) bounded largest c offset size) count r (now (room .entry)) (now (room .exit)) ⌝ }
 {
-    match member_size(s, settings, sizes, rows, attrs, n, known, levels, member) {
-        Sized::Is(size) => match end_or(rows, bounded, c, largest, member.offset, size) {
-            Sized::Is(next) => {
-                put_laid(room, count, member, size);
-                Laying::Is {
-                    count: count + 1,
-                    largest: next,
-                }
+    match end_or(rows, bounded, c, largest, offset, size) {
+        Sized::Is(next) => {
+            put_laid(s, e, rows, attrs, room, count, c, offset, size);
+            Laying::Is {
+                count: count + 1,
+                largest: next,
             }
-            Sized::Refused(why) => Laying::Refused(why),
-        },
+        }
         Sized::Refused(why) => Laying::Refused(why),
     }
 }
@@ -194,6 +176,7 @@ fn lay_child(
     attrs: &[u32],
     n: usize,
     known: &[u64],
+    kept: &[u64],
     levels: usize,
     bounded: bool,
     c: usize,
@@ -201,31 +184,29 @@ fn lay_child(
     largest: u32,
     room: &mut [u64],
 ) -> Laying
-    requires { ⌜ LayAsked (now s) (now rows) n c count ⌝ }
+    requires { ⌜ LayAsked (now s) (now rows) n c count × AllKept settings (now sizes) (now s) (now rows) (now attrs) n (now known) (now kept) ⌝ }
     ensures { λ r. ⌜ Lays (childLaid settings (now (s .entry)) (now (rows .entry)) (now (attrs .entry)) n (typeFrom settings (now (sizes .entry)) (now (s .entry)) (now (rows .entry)) (now (attrs .entry)) n (now (known .entry)) levels) bounded largest c) count r (now (room .entry)) (now (room .exit)) ⌝ }
 {
     let row = row_at(rows, c);
     if row.kind != 0x0d {
         return Laying::Is { count, largest };
     }
-    match member_at(s, settings, rows, attrs, n, c) {
-        MemberRead::Is(member) => lay_member(
+    let e = settings.endian;
+    match member_added(s, settings, sizes, rows, attrs, n, known, kept, levels, c) {
+        Added::Is { offset, size } => lay_sized(
             s,
-            settings,
-            sizes,
+            e,
             rows,
             attrs,
-            n,
-            known,
-            levels,
             bounded,
             c,
-            member,
+            offset,
+            size,
             count,
             largest,
             room,
         ),
-        MemberRead::Refused(why) => Laying::Refused(why),
+        Added::Refused(why) => Laying::Refused(why),
     }
 }
 
@@ -238,16 +219,17 @@ fn lay_children(
     attrs: &[u32],
     n: usize,
     known: &[u64],
+    kept: &[u64],
     levels: usize,
     bounded: bool,
     i: usize,
     room: &mut [u64],
 ) -> Laying
-    requires { ⌜ EndsShort settings (now s) (now rows) (now attrs) n i ⌝ }
+    requires { ⌜ EndsShort settings (now s) (now rows) (now attrs) n i × AllKept settings (now sizes) (now s) (now rows) (now attrs) n (now known) (now kept) ⌝ }
     ensures { λ r. ⌜ Lays (childrenLaid settings (now (s .entry)) (now (rows .entry)) (now (attrs .entry)) n (typeFrom settings (now (sizes .entry)) (now (s .entry)) (now (rows .entry)) (now (attrs .entry)) n (now (known .entry)) levels) bounded 0 (kidsOf (settings .endian) (now (s .entry)) (now (rows .entry)) (now (attrs .entry)) n i)) 0 r (now (room .entry)) (now (room .exit)) ⌝ }
 {
     let e = settings.endian;
-    let end = sibling_row(s, e, rows, attrs, n, i);
+    let end = kept_sibling(s, e, rows, attrs, n, kept, i);
     let mut c = child_from(s, e, rows, attrs, n, end, next_row(rows, n, i));
     let mut k: usize = 0;
     let mut most: u32 = 0;
@@ -260,6 +242,7 @@ fn lay_children(
             attrs,
             n,
             known,
+            kept,
             levels,
             bounded,
             c,
@@ -277,7 +260,7 @@ fn lay_children(
                     attrs,
                     n,
                     end,
-                    sibling_row(s, e, rows, attrs, n, c),
+                    kept_sibling(s, e, rows, attrs, n, kept, c),
                 );
             }
             Laying::Refused(why) => return Laying::Refused(why),
@@ -298,15 +281,16 @@ fn lay_structure(
     attrs: &[u32],
     n: usize,
     known: &[u64],
+    kept: &[u64],
     levels: usize,
     bounded: bool,
     i: usize,
     room: &mut [u64],
 ) -> Laying
-    requires { ⌜ AskedShort (now s) (now rows) n i ⌝ }
+    requires { ⌜ LayoutAsked settings (now sizes) (now s) (now rows) (now attrs) n (now known) (now kept) i ⌝ }
     ensures { λ r. ⌜ Lays (structureLaid settings (now (s .entry)) (now (rows .entry)) (now (attrs .entry)) n (typeFrom settings (now (sizes .entry)) (now (s .entry)) (now (rows .entry)) (now (attrs .entry)) n (now (known .entry)) levels) bounded i) 0 r (now (room .entry)) (now (room .exit)) ⌝ }
 {
-    match structure_fault(s, settings, rows, attrs, n, i) {
+    match kept_fault(s, settings, rows, attrs, n, kept, i) {
         Fault::Clear => lay_children(
             s,
             settings,
@@ -315,6 +299,7 @@ fn lay_structure(
             attrs,
             n,
             known,
+            kept,
             levels,
             bounded,
             i,
@@ -333,11 +318,12 @@ pub fn read_layout(
     attrs: &[u32],
     n: usize,
     known: &[u64],
+    kept: &[u64],
     levels: usize,
     i: usize,
     room: &mut [u64],
 ) -> LayoutWhole
-    requires { ⌜ AskedShort (now s) (now rows) n i ⌝ }
+    requires { ⌜ AskedShort (now s) (now rows) n i × AllKept settings (now sizes) (now s) (now rows) (now attrs) n (now known) (now kept) ⌝ }
     ensures { λ r. ⌜ WholeLaid (layoutAt settings (now (s .entry)) (now (rows .entry)) (now (attrs .entry)) n (typeFrom settings (now (sizes .entry)) (now (s .entry)) (now (rows .entry)) (now (attrs .entry)) n (now (known .entry)) levels) i) (rowLay settings (now (s .entry)) (now (rows .entry)) (now (attrs .entry)) n (typeFrom settings (now (sizes .entry)) (now (s .entry)) (now (rows .entry)) (now (attrs .entry)) n (now (known .entry)) levels) i) r (now (room .entry)) (now (room .exit)) ⌝ }
 {
     let row = row_at(rows, i);
@@ -354,6 +340,7 @@ pub fn read_layout(
         attrs,
         n,
         known,
+        kept,
         levels,
         is_bounded(own),
         i,
@@ -377,11 +364,12 @@ fn give_layout(
     attrs: &[u32],
     n: usize,
     known: &[u64],
+    kept: &[u64],
     levels: usize,
     i: usize,
     room: &mut [u64],
 ) -> LayoutRead
-    requires { ⌜ AskedShort (now s) (now rows) n i ⌝ }
+    requires { ⌜ AskedShort (now s) (now rows) n i × AllKept settings (now sizes) (now s) (now rows) (now attrs) n (now known) (now kept) ⌝ }
     ensures { λ r. ⌜ LayoutGiven (intoRoom (now (room .entry)) (rowLay settings (now (s .entry)) (now (rows .entry)) (now (attrs .entry)) n (typeFrom settings (now (sizes .entry)) (now (s .entry)) (now (rows .entry)) (now (attrs .entry)) n (now (known .entry)) levels) i) (layoutAt settings (now (s .entry)) (now (rows .entry)) (now (attrs .entry)) n (typeFrom settings (now (sizes .entry)) (now (s .entry)) (now (rows .entry)) (now (attrs .entry)) n (now (known .entry)) levels) i)) r (now (room .exit)) ⌝ }
 {
     let mut none = [0u64; 0];
@@ -393,13 +381,26 @@ fn give_layout(
         attrs,
         n,
         known,
+        kept,
         levels,
         i,
         &mut none,
     ) {
         LayoutWhole::Is(found) => {
             if found.members <= room.len() / LAID_WIDTH {
-                read_layout(s, settings, sizes, rows, attrs, n, known, levels, i, room);
+                read_layout(
+                    s,
+                    settings,
+                    sizes,
+                    rows,
+                    attrs,
+                    n,
+                    known,
+                    kept,
+                    levels,
+                    i,
+                    room,
+                );
                 LayoutRead::Is(found)
             } else {
                 LayoutRead::Room(found.members)
@@ -433,6 +434,7 @@ pub fn layout_of_key(
                 rows,
                 attrs,
                 counts.rows,
+                &known,
                 &known,
                 DEPTH_LIMIT - 1,
                 i,

@@ -1,65 +1,23 @@
 // The sizes of all rows of a table, level by level: the sizes of one level give those of the next, each row's once, so that the cost is bounded by rows times depth.
 use crate::known::KNOWN_WIDTH;
 use crate::known::known_at;
+use crate::known::put_known;
+use crate::known::put_refusal;
 use crate::size::row_size;
 use crate::sized::Sized;
 use format::limits::DEPTH_LIMIT;
 use format::refusal::Reason;
-use format::refusal::Refusal;
 use format::refusal::number_of;
 use format::settings::Settings;
 use records::scan::refused;
-use records::words::put_word;
 use tables::row::row_at;
 ghost use mathlib.Core.Path.{_≡_};
-ghost use Prim.Native.Nat.{_+_, _*_, _≤_};
+ghost use Prim.Native.Nat.{_*_, _≤_};
 ghost use lib.ListN.{length};
-ghost use lib.Seq.{sets};
-ghost use mathlib.Core.List.{[], _∷_};
 ghost use Rattle.records.specs.EnumerationWays.{AskedShort};
-ghost use Rattle.sizes.specs.LevelsWays.{knownWidth, deepest, lastLevel, settled, nextLevel, sizeLeft, PutKnown, Filled, FillAsked, TakenOver};
-ghost use Rattle.sizes.specs.declared.sized.Sized.the-variants.{Is, Refused};
-
-fn put_three(known: &mut [u64], at: usize, number: u64, size: u64, place: u64)
-    requires { ⌜ at + 3 ≤ length (now known) ⌝ }
-    ensures { λ _. ⌜ now (known .exit) ≡ sets (now (known .entry)) at (number ∷ size ∷ place ∷ []) ⌝ }
-{
-    put_word(known, at, number);
-    put_word(known, at + 1, size);
-    put_word(known, at + 2, place);
-}
-
-fn put_size(known: &mut [u64], i: usize, size: u32)
-    requires { ⌜ i * knownWidth + knownWidth ≤ length (now known) ⌝ }
-    ensures { λ _. ⌜ PutKnown i (Is size) (now (known .entry)) (now (known .exit)) ⌝ }
-{
-    put_three(known, i * KNOWN_WIDTH, 0, size as u64, 0);
-}
-
-fn put_refusal(known: &mut [u64], i: usize, why: Refusal)
-    requires { ⌜ i * knownWidth + knownWidth ≤ length (now known) ⌝ }
-    ensures { λ _. ⌜ PutKnown i (Refused why) (now (known .entry)) (now (known .exit)) ⌝ }
-{
-    let reason = why.reason;
-    put_three(
-        known,
-        i * KNOWN_WIDTH,
-        number_of(reason) as u64,
-        0,
-        why.place,
-    );
-}
-
-// Row i's size among the known ones.
-fn put_known(known: &mut [u64], i: usize, size: Sized)
-    requires { ⌜ i * knownWidth + knownWidth ≤ length (now known) ⌝ }
-    ensures { λ _. ⌜ PutKnown i size (now (known .entry)) (now (known .exit)) ⌝ }
-{
-    match size {
-        Sized::Is(size) => put_size(known, i, size),
-        Sized::Refused(why) => put_refusal(known, i, why),
-    }
-}
+ghost use Rattle.sizes.specs.Known.{knownWidth};
+ghost use Rattle.sizes.specs.KeptWays.{PartsKept, AllKept};
+ghost use Rattle.sizes.specs.LevelsWays.{deepest, lastLevel, settled, nextLevel, sizeLeft, Filled, FillAsked, TakenOver};
 
 // Where no level is left every row is past the limit.
 fn last_level(rows: &[u32], n: usize, known: &mut [u64])
@@ -96,16 +54,17 @@ fn next_size(
     attrs: &[u32],
     n: usize,
     known: &[u64],
+    kept: &[u64],
     i: usize,
 ) -> Sized
-    requires { ⌜ AskedShort (now s) (now rows) n i ⌝ }
+    requires { ⌜ AskedShort (now s) (now rows) n i × AllKept settings (now sizes) (now s) (now rows) (now attrs) n (now known) (now kept) ⌝ }
     ensures { λ r. ⌜ r ≡ nextLevel settings (now (sizes .entry)) (now (s .entry)) (now (rows .entry)) (now (attrs .entry)) n (now (known .entry)) i ⌝ }
 {
     let size = known_at(known, i);
     if is_settled(size) {
         return size;
     }
-    row_size(s, settings, sizes, rows, attrs, n, known, 0, i)
+    row_size(s, settings, sizes, rows, attrs, n, known, kept, 0, i)
 }
 
 // One level more.
@@ -117,14 +76,15 @@ fn next_level(
     attrs: &[u32],
     n: usize,
     known: &[u64],
+    kept: &[u64],
     next: &mut [u64],
 )
-    requires { ⌜ FillAsked (now s) (now rows) n (now next) ⌝ }
+    requires { ⌜ FillAsked (now s) (now rows) n (now next) × AllKept settings (now sizes) (now s) (now rows) (now attrs) n (now known) (now kept) ⌝ }
     ensures { λ _. ⌜ Filled (nextLevel settings (now (sizes .entry)) (now (s .entry)) (now (rows .entry)) (now (attrs .entry)) n (now (known .entry))) n n (now (next .exit)) ⌝ }
 {
     let mut i: usize = 0;
     while i < n {
-        let size = next_size(s, settings, sizes, rows, attrs, n, known, i);
+        let size = next_size(s, settings, sizes, rows, attrs, n, known, kept, i);
         put_known(next, i, size);
         i += 1;
     }
@@ -155,16 +115,17 @@ pub fn fill_known(
     rows: &[u32],
     attrs: &[u32],
     n: usize,
+    kept: &[u64],
     known: &mut [u64],
     next: &mut [u64],
 )
-    requires { ⌜ FillAsked (now s) (now rows) n (now known) × FillAsked (now s) (now rows) n (now next) ⌝ }
+    requires { ⌜ FillAsked (now s) (now rows) n (now known) × (FillAsked (now s) (now rows) n (now next) × PartsKept settings (now sizes) (now s) (now rows) (now attrs) n (now kept)) ⌝ }
     ensures { λ _. ⌜ Filled (sizeLeft settings (now (sizes .entry)) (now (s .entry)) (now (rows .entry)) (now (attrs .entry)) n deepest) n n (now (known .exit)) ⌝ }
 {
     last_level(rows, n, known);
     let mut level: usize = 0;
     while level < DEPTH_LIMIT - 1 {
-        next_level(s, settings, sizes, rows, attrs, n, known, next);
+        next_level(s, settings, sizes, rows, attrs, n, known, kept, next);
         if take_over(known, next, n * KNOWN_WIDTH) {
             return;
         }

@@ -2,6 +2,8 @@
 // addition. `sized` is the answer, `product` an array's, `prepare` what an entry's size takes before any other size is asked for, `known` sizes that are
 // known already, `size` the pair that call each other and the public calls, `layout` one layout, `levels` the sizes of all rows at a bounded cost, `all` every layout.
 pub mod all;
+pub mod keep;
+pub mod kept;
 pub mod known;
 pub mod layout;
 pub mod levels;

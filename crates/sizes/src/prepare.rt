@@ -1,4 +1,8 @@
 // What an entry's size takes before any other size is asked for: the row's kind, an array's subscripts, a structure's members and every record are read whole.
+use crate::kept::KEPT;
+use crate::kept::kept_sibling;
+use crate::known::known_at;
+use crate::sized::Sized;
 use attributes::decode::block2;
 use blocks::subscripts::Counted;
 use blocks::subscripts::count_subscripts;
@@ -12,7 +16,6 @@ use links::children::Kids;
 use links::children::count_children;
 use links::kids::child_from;
 use links::link::next_row;
-use links::link::sibling_row;
 use records::enumeration::EnumerationWhole;
 use records::enumeration::enumeration_at;
 use records::fields::Sought;
@@ -43,6 +46,7 @@ ghost use Rattle.records.specs.Enumeration.{enumerationAt};
 ghost use Rattle.records.specs.PtrToMember.{ptrAt};
 ghost use Rattle.records.specs.Unions.{unionAt};
 ghost use Rattle.records.specs.UnionsWays.{EndsAt};
+ghost use Rattle.sizes.specs.KeptWays.{faultKept, FaultsKept, RowsKept, StructureAsked};
 ghost use Rattle.sizes.specs.Ways.{SmallPlace, memberFault, membersFault, structureFault, preparedLast, preparedArray, preparedStructure, preparedEnumeration, preparedUnion, preparedPointer, preparedRow};
 
 // How a row comes to its size.
@@ -172,6 +176,17 @@ fn prepare_array(s: &[u8], attrs: &[u32], run: Run) -> Prepared
 
 // ---- structures and classes
 
+// The fault of a row as it is kept.
+fn fault_kept(kept: &[u64], c: usize) -> Fault
+    requires { ⌜ SmallPlace c ⌝ }
+    ensures { λ r. ⌜ r ≡ faultKept (now (kept .entry)) c ⌝ }
+{
+    match known_at(kept, c * KEPT) {
+        Sized::Is(_) => Fault::Clear,
+        Sized::Refused(why) => Fault::Refused(why),
+    }
+}
+
 // A child: a member must be read whole, any other is passed over.
 fn member_fault(
     s: &[u8],
@@ -179,19 +194,22 @@ fn member_fault(
     rows: &[u32],
     attrs: &[u32],
     n: usize,
+    kept: &[u64],
     c: usize,
 ) -> Fault
-    requires { ⌜ Asked (now rows) n c ⌝ }
+    requires { ⌜ Asked (now rows) n c × FaultsKept settings (now s) (now rows) (now attrs) n (now kept) ⌝ }
     ensures { λ r. ⌜ r ≡ memberFault settings (now (s .entry)) (now (rows .entry)) (now (attrs .entry)) n c ⌝ }
 {
     let row = row_at(rows, c);
-    if row.kind == 0x0d {
-        match member_at(s, settings, rows, attrs, n, c) {
-            MemberRead::Is(_) => Fault::Clear,
-            MemberRead::Refused(why) => Fault::Refused(why),
-        }
-    } else {
-        Fault::Clear
+    if row.kind != 0x0d {
+        return Fault::Clear;
+    }
+    if kept.len() > 0 {
+        return fault_kept(kept, c);
+    }
+    match member_at(s, settings, rows, attrs, n, c) {
+        MemberRead::Is(_) => Fault::Clear,
+        MemberRead::Refused(why) => Fault::Refused(why),
     }
 }
 
@@ -202,16 +220,17 @@ fn members_fault(
     rows: &[u32],
     attrs: &[u32],
     n: usize,
+    kept: &[u64],
     i: usize,
 ) -> Fault
-    requires { ⌜ EndsAt (settings .endian) (now s) (now rows) (now attrs) n i ⌝ }
+    requires { ⌜ EndsAt (settings .endian) (now s) (now rows) (now attrs) n i × FaultsKept settings (now s) (now rows) (now attrs) n (now kept) ⌝ }
     ensures { λ r. ⌜ r ≡ membersFault settings (now (s .entry)) (now (rows .entry)) (now (attrs .entry)) n (kidsOf (settings .endian) (now (s .entry)) (now (rows .entry)) (now (attrs .entry)) n i) ⌝ }
 {
     let e = settings.endian;
-    let end = sibling_row(s, e, rows, attrs, n, i);
+    let end = kept_sibling(s, e, rows, attrs, n, kept, i);
     let mut c = child_from(s, e, rows, attrs, n, end, next_row(rows, n, i));
     while c < n {
-        match member_fault(s, settings, rows, attrs, n, c) {
+        match member_fault(s, settings, rows, attrs, n, kept, c) {
             Fault::Clear => {
                 c = child_from(
                     s,
@@ -220,7 +239,7 @@ fn members_fault(
                     attrs,
                     n,
                     end,
-                    sibling_row(s, e, rows, attrs, n, c),
+                    kept_sibling(s, e, rows, attrs, n, kept, c),
                 );
             }
             Fault::Refused(why) => return Fault::Refused(why),
@@ -236,16 +255,37 @@ pub fn structure_fault(
     rows: &[u32],
     attrs: &[u32],
     n: usize,
+    kept: &[u64],
     i: usize,
 ) -> Fault
-    requires { ⌜ Asked (now rows) n i ⌝ }
+    requires { ⌜ Asked (now rows) n i × FaultsKept settings (now s) (now rows) (now attrs) n (now kept) ⌝ }
     ensures { λ r. ⌜ r ≡ structureFault settings (now (s .entry)) (now (rows .entry)) (now (attrs .entry)) n i ⌝ }
 {
     let e = settings.endian;
     let row = row_at(rows, i);
     match count_children(s, e, rows, attrs, n, i) {
-        Kids::Count(_) => members_fault(s, settings, rows, attrs, n, i),
+        Kids::Count(_) => members_fault(s, settings, rows, attrs, n, kept, i),
         Kids::Endless => Fault::Refused(refused(Reason::Link, row.key)),
+    }
+}
+
+// The same of a structure, if it is kept.
+pub fn kept_fault(
+    s: &[u8],
+    settings: Settings,
+    rows: &[u32],
+    attrs: &[u32],
+    n: usize,
+    kept: &[u64],
+    i: usize,
+) -> Fault
+    requires { ⌜ StructureAsked settings (now s) (now rows) (now attrs) n (now kept) i ⌝ }
+    ensures { λ r. ⌜ r ≡ structureFault settings (now (s .entry)) (now (rows .entry)) (now (attrs .entry)) n i ⌝ }
+{
+    if kept.len() > 0 {
+        fault_kept(kept, i)
+    } else {
+        structure_fault(s, settings, rows, attrs, n, kept, i)
     }
 }
 
@@ -256,12 +296,13 @@ fn prepare_structure(
     rows: &[u32],
     attrs: &[u32],
     n: usize,
+    kept: &[u64],
     i: usize,
 ) -> Prepared
-    requires { ⌜ Asked (now rows) n i ⌝ }
+    requires { ⌜ StructureAsked settings (now s) (now rows) (now attrs) n (now kept) i ⌝ }
     ensures { λ r. ⌜ r ≡ preparedStructure settings (now (s .entry)) (now (rows .entry)) (now (attrs .entry)) n i ⌝ }
 {
-    match structure_fault(s, settings, rows, attrs, n, i) {
+    match kept_fault(s, settings, rows, attrs, n, kept, i) {
         Fault::Clear => {
             let e = settings.endian;
             let run = run_of(e, rows, i);
@@ -334,9 +375,10 @@ pub fn prepare_row(
     rows: &[u32],
     attrs: &[u32],
     n: usize,
+    kept: &[u64],
     i: usize,
 ) -> Prepared
-    requires { ⌜ AskedShort (now s) (now rows) n i ⌝ }
+    requires { ⌜ AskedShort (now s) (now rows) n i × RowsKept settings (now s) (now rows) (now attrs) n (now kept) ⌝ }
     ensures { λ r. ⌜ r ≡ preparedRow settings (now (s .entry)) (now (rows .entry)) (now (attrs .entry)) n i ⌝ }
 {
     let row = row_at(rows, i);
@@ -345,7 +387,7 @@ pub fn prepare_row(
             let e = settings.endian;
             prepare_array(s, attrs, run_of(e, rows, i))
         }
-        Shape::Structure => prepare_structure(s, settings, rows, attrs, n, i),
+        Shape::Structure => prepare_structure(s, settings, rows, attrs, n, kept, i),
         Shape::Enumeration => prepare_enumeration(s, settings, rows, attrs, n, i),
         Shape::Union => prepare_union(s, settings, rows, attrs, n, i),
         Shape::PtrToMember => prepare_pointer(s, settings, rows, attrs, n, i),

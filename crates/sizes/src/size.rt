@@ -1,5 +1,9 @@
 // The size of a type and of the entry it names: they call each other, and the levels that are left fall from an entry to those it names. `known` are sizes that are
 // known already, for calls that take many; it is empty for none, and then nothing but the levels bounds the calls.
+use crate::kept::Added;
+use crate::kept::added_kept;
+use crate::kept::kept_sibling;
+use crate::kept::with_size;
 use crate::known::known_at;
 use crate::prepare::Prepared;
 use crate::prepare::prepare_row;
@@ -11,13 +15,10 @@ use blocks::types::TypeKind;
 use format::fund_type::order_of;
 use format::limits::DEPTH_LIMIT;
 use format::refusal::Reason;
-use format::refusal::Refusal;
 use format::settings::Settings;
 use links::kids::child_from;
 use links::link::next_row;
-use links::link::sibling_row;
 use records::fields::Word;
-use records::member::Member;
 use records::member::MemberRead;
 use records::member::member_at;
 use records::scan::refused;
@@ -32,64 +33,17 @@ ghost use mathlib.Core.Path.{_≡_};
 ghost use lib.ListN.{getD};
 ghost use Rattle.format.specs.Lookup.{indexOf};
 ghost use Rattle.format.specs.FundType.{fundTypes};
-ghost use Rattle.links.specs.ChildrenWays.{Asked};
 ghost use Rattle.links.specs.Kids.{kidsOf};
 ghost use Rattle.records.specs.EnumerationWays.{AskedShort};
 ghost use Rattle.sizes.specs.Size.{entryAt, sizeOfKey, sizeOfType};
-ghost use Rattle.sizes.specs.SizeWays.{Ready, EndsShort, partOf, childPart, grown, arrayProduct, childEnd, endsOver, entryFrom, typeFrom};
+ghost use Rattle.sizes.specs.KeptWays.{AllKept, MemberAsked};
+ghost use Rattle.sizes.specs.SizeWays.{Ready, EndsShort, memberAdded, grown, arrayProduct, childEnd, endsOver, entryFrom, typeFrom};
 
-// How a child adds to a structure: with its own size or its type's; a child that is no member adds nothing.
-pub enum ChildPart {
-    Whole { offset: u32, size: u32 },
-    Typed { offset: u32, of: Type },
-    Other,
-    Refused(Refusal),
-}
-
-fn fundamental_size(sizes: &[u32], number: u16) -> u32
+pub fn fundamental_size(sizes: &[u32], number: u16) -> u32
     ensures { λ r. ⌜ r ≡ getD (now (sizes .entry)) (indexOf number fundTypes) 0 ⌝ }
 {
     let k = order_of(number);
     if k < sizes.len() { sizes[k] } else { 0 }
-}
-
-fn part_of(member: Member) -> ChildPart
-    ensures { λ r. ⌜ r ≡ partOf member ⌝ }
-{
-    let size = member.byte_size;
-    let of = member.of;
-    match size {
-        Word::Is(size) => ChildPart::Whole {
-            offset: member.offset,
-            size,
-        },
-        Word::Nothing => ChildPart::Typed {
-            offset: member.offset,
-            of,
-        },
-    }
-}
-
-pub fn child_part(
-    s: &[u8],
-    settings: Settings,
-    rows: &[u32],
-    attrs: &[u32],
-    n: usize,
-    c: usize,
-) -> ChildPart
-    requires { ⌜ Asked (now rows) n c ⌝ }
-    ensures { λ r. ⌜ r ≡ childPart settings (now (s .entry)) (now (rows .entry)) (now (attrs .entry)) n c ⌝ }
-{
-    let row = row_at(rows, c);
-    if row.kind == 0x0d {
-        match member_at(s, settings, rows, attrs, n, c) {
-            MemberRead::Is(member) => part_of(member),
-            MemberRead::Refused(why) => ChildPart::Refused(why),
-        }
-    } else {
-        ChildPart::Other
-    }
 }
 
 // The largest end so far and that of a member at row c: 20 past 32 bits, at the member.
@@ -135,10 +89,11 @@ pub fn type_size(
     attrs: &[u32],
     n: usize,
     known: &[u64],
+    kept: &[u64],
     levels: usize,
     of: Type,
 ) -> Sized
-    requires { ⌜ Ready (now s) (now rows) n ⌝ }
+    requires { ⌜ Ready (now s) (now rows) n × AllKept settings (now sizes) (now s) (now rows) (now attrs) n (now known) (now kept) ⌝ }
     ensures { λ r. ⌜ r ≡ typeFrom settings (now (sizes .entry)) (now (s .entry)) (now (rows .entry)) (now (attrs .entry)) n (now (known .entry)) levels of ⌝ }
 {
     if of.pointer {
@@ -148,7 +103,7 @@ pub fn type_size(
     match kind {
         TypeKind::Fundamental(number) => Sized::Is(fundamental_size(sizes, number)),
         TypeKind::UserDefined(key) => {
-            entry_size(s, settings, sizes, rows, attrs, n, known, levels, key)
+            entry_size(s, settings, sizes, rows, attrs, n, known, kept, levels, key)
         }
     }
 }
@@ -162,10 +117,11 @@ pub fn entry_size(
     attrs: &[u32],
     n: usize,
     known: &[u64],
+    kept: &[u64],
     levels: usize,
     key: u32,
 ) -> Sized
-    requires { ⌜ Ready (now s) (now rows) n ⌝ }
+    requires { ⌜ Ready (now s) (now rows) n × AllKept settings (now sizes) (now s) (now rows) (now attrs) n (now known) (now kept) ⌝ }
     ensures { λ r. ⌜ r ≡ entryFrom settings (now (sizes .entry)) (now (s .entry)) (now (rows .entry)) (now (attrs .entry)) n (now (known .entry)) levels key ⌝ }
 {
     match find_row(rows, n, key) {
@@ -176,7 +132,18 @@ pub fn entry_size(
             if levels == 0 {
                 return Sized::Refused(refused(Reason::Depth, key));
             }
-            row_size(s, settings, sizes, rows, attrs, n, known, levels - 1, i)
+            row_size(
+                s,
+                settings,
+                sizes,
+                rows,
+                attrs,
+                n,
+                known,
+                kept,
+                levels - 1,
+                i,
+            )
         }
         Found::Nothing => Sized::Refused(refused(Reason::Entry, key)),
     }
@@ -191,22 +158,61 @@ pub fn row_size(
     attrs: &[u32],
     n: usize,
     known: &[u64],
+    kept: &[u64],
     levels: usize,
     i: usize,
 ) -> Sized
-    requires { ⌜ AskedShort (now s) (now rows) n i ⌝ }
+    requires { ⌜ AskedShort (now s) (now rows) n i × AllKept settings (now sizes) (now s) (now rows) (now attrs) n (now known) (now kept) ⌝ }
     ensures { λ r. ⌜ r ≡ entryAt settings (now (s .entry)) (now (rows .entry)) (now (attrs .entry)) n (typeFrom settings (now (sizes .entry)) (now (s .entry)) (now (rows .entry)) (now (attrs .entry)) n (now (known .entry)) levels) i ⌝ }
 {
-    match prepare_row(s, settings, rows, attrs, n, i) {
+    match prepare_row(s, settings, rows, attrs, n, kept, i) {
         Prepared::Size(size) => Sized::Is(size),
         Prepared::Element { of, at } => {
-            match type_size(s, settings, sizes, rows, attrs, n, known, levels, of) {
+            match type_size(s, settings, sizes, rows, attrs, n, known, kept, levels, of) {
                 Sized::Is(size) => array_product(s, settings, rows, attrs, i, at, size),
                 Sized::Refused(why) => Sized::Refused(why),
             }
         }
-        Prepared::Ends => ends_size(s, settings, sizes, rows, attrs, n, known, levels, i),
+        Prepared::Ends => ends_size(s, settings, sizes, rows, attrs, n, known, kept, levels, i),
         Prepared::Refused(why) => Sized::Refused(why),
+    }
+}
+
+// What the member at row c adds to its structure: its offset and its own size, else its type's.
+pub fn member_added(
+    s: &[u8],
+    settings: Settings,
+    sizes: &[u32],
+    rows: &[u32],
+    attrs: &[u32],
+    n: usize,
+    known: &[u64],
+    kept: &[u64],
+    levels: usize,
+    c: usize,
+) -> Added
+    requires { ⌜ MemberAsked settings (now sizes) (now s) (now rows) (now attrs) n (now known) (now kept) c ⌝ }
+    ensures { λ r. ⌜ r ≡ memberAdded settings (now (s .entry)) (now (rows .entry)) (now (attrs .entry)) n (typeFrom settings (now (sizes .entry)) (now (s .entry)) (now (rows .entry)) (now (attrs .entry)) n (now (known .entry)) levels) c ⌝ }
+{
+    if kept.len() > 0 {
+        return added_kept(known, kept, c);
+    }
+    match member_at(s, settings, rows, attrs, n, c) {
+        MemberRead::Is(member) => {
+            let own = member.byte_size;
+            let of = member.of;
+            match own {
+                Word::Is(size) => Added::Is {
+                    offset: member.offset,
+                    size,
+                },
+                Word::Nothing => with_size(
+                    member.offset,
+                    type_size(s, settings, sizes, rows, attrs, n, known, kept, levels, of),
+                ),
+            }
+        }
+        MemberRead::Refused(why) => Added::Refused(why),
     }
 }
 
@@ -219,23 +225,21 @@ fn child_end(
     attrs: &[u32],
     n: usize,
     known: &[u64],
+    kept: &[u64],
     levels: usize,
     c: usize,
     largest: u32,
 ) -> Sized
-    requires { ⌜ AskedShort (now s) (now rows) n c ⌝ }
+    requires { ⌜ AskedShort (now s) (now rows) n c × AllKept settings (now sizes) (now s) (now rows) (now attrs) n (now known) (now kept) ⌝ }
     ensures { λ r. ⌜ r ≡ childEnd settings (now (s .entry)) (now (rows .entry)) (now (attrs .entry)) n (typeFrom settings (now (sizes .entry)) (now (s .entry)) (now (rows .entry)) (now (attrs .entry)) n (now (known .entry)) levels) largest c ⌝ }
 {
-    match child_part(s, settings, rows, attrs, n, c) {
-        ChildPart::Whole { offset, size } => grown(rows, c, largest, offset, size),
-        ChildPart::Typed { offset, of } => {
-            match type_size(s, settings, sizes, rows, attrs, n, known, levels, of) {
-                Sized::Is(size) => grown(rows, c, largest, offset, size),
-                Sized::Refused(why) => Sized::Refused(why),
-            }
-        }
-        ChildPart::Other => Sized::Is(largest),
-        ChildPart::Refused(why) => Sized::Refused(why),
+    let row = row_at(rows, c);
+    if row.kind != 0x0d {
+        return Sized::Is(largest);
+    }
+    match member_added(s, settings, sizes, rows, attrs, n, known, kept, levels, c) {
+        Added::Is { offset, size } => grown(rows, c, largest, offset, size),
+        Added::Refused(why) => Sized::Refused(why),
     }
 }
 
@@ -248,14 +252,15 @@ fn ends_size(
     attrs: &[u32],
     n: usize,
     known: &[u64],
+    kept: &[u64],
     levels: usize,
     i: usize,
 ) -> Sized
-    requires { ⌜ EndsShort settings (now s) (now rows) (now attrs) n i ⌝ }
+    requires { ⌜ EndsShort settings (now s) (now rows) (now attrs) n i × AllKept settings (now sizes) (now s) (now rows) (now attrs) n (now known) (now kept) ⌝ }
     ensures { λ r. ⌜ r ≡ endsOver settings (now (s .entry)) (now (rows .entry)) (now (attrs .entry)) n (typeFrom settings (now (sizes .entry)) (now (s .entry)) (now (rows .entry)) (now (attrs .entry)) n (now (known .entry)) levels) 0 (kidsOf (settings .endian) (now (s .entry)) (now (rows .entry)) (now (attrs .entry)) n i) ⌝ }
 {
     let e = settings.endian;
-    let end = sibling_row(s, e, rows, attrs, n, i);
+    let end = kept_sibling(s, e, rows, attrs, n, kept, i);
     let mut c = child_from(s, e, rows, attrs, n, end, next_row(rows, n, i));
     let mut largest: u32 = 0;
     while c < n {
@@ -267,6 +272,7 @@ fn ends_size(
             attrs,
             n,
             known,
+            kept,
             levels,
             c,
             largest,
@@ -280,7 +286,7 @@ fn ends_size(
                     attrs,
                     n,
                     end,
-                    sibling_row(s, e, rows, attrs, n, c),
+                    kept_sibling(s, e, rows, attrs, n, kept, c),
                 );
             }
             Sized::Refused(why) => return Sized::Refused(why),
@@ -313,6 +319,7 @@ pub fn size_of_key(
                 attrs,
                 counts.rows,
                 &known,
+                &known,
                 DEPTH_LIMIT,
                 key,
             )
@@ -344,6 +351,7 @@ pub fn size_of_type(
                 rows,
                 attrs,
                 counts.rows,
+                &known,
                 &known,
                 DEPTH_LIMIT,
                 of,

@@ -6,17 +6,17 @@ use Rattle.sizes.proofs.all.count_layouts.Statement.{statement}
 use Rattle.sizes.proofs.all.count_layouts.Tie as tie
 
 abbrev Inv-loop : tie.InvT-loop
-Inv-loop s settings sizes rows attrs n known counts₀ i₀ counts i =
+Inv-loop s settings sizes rows attrs n known kept counts₀ i₀ counts i =
     Counting settings s rows attrs n (typeFrom settings sizes s rows attrs n known 0) counts i
 
 abbrev μ-loop : tie.MeasureT-loop
-μ-loop s settings sizes rows attrs n known counts₀ i₀ counts i = n - i
+μ-loop s settings sizes rows attrs n known kept counts₀ i₀ counts i = n - i
 
 loop-holds : tie.Need-loop-holds Inv-loop μ-loop
-loop-holds c = counting-begins (c .before .before .before .before .before .pre) _
+loop-holds c = counting-begins (c .before .before .before .before .before .before .pre .0) _
 
 count-row-requires : tie.Need-count-row-requires Inv-loop μ-loop
-count-row-requires c κs = counting-asked (c .before .loop .inv) (c .loop-test .taken)
+count-row-requires c κs = (counting-asked (c .before .loop .inv) (c .loop-test .taken), c .before .before .before .before .before .before .before .before .pre .1)
 
 add-i : tie.Need-add-i Inv-loop μ-loop
 add-i c = search needs

@@ -11,31 +11,31 @@ is-structure-requires : tie.Need-is-structure-requires
 is-structure-requires c κs = search needs
 
 returns : tie.Need-returns
-returns c = count-other _ _ _ _ _ _ _ (c .before .before .row-at .ensures) (c .before .is-structure .ensures) (c .before .before .before .before .before .before .before .before .args .counts) (not-true _ (c .if1 .taken))
+returns c = count-other _ _ _ _ _ _ _ (c .before .before .row-at .ensures) (c .before .is-structure .ensures) (c .before .before .before .before .before .before .before .before .before .args .counts) (not-true _ (c .if1 .taken))
 
 slice-aggregate-read-layout : tie.Need-slice-aggregate-read-layout
 slice-aggregate-read-layout c = search needs
 
 read-layout-requires : tie.Need-read-layout-requires
-read-layout-requires c κs = search needs
+read-layout-requires c κs = (c .before .before .before .before .before .before .before .before .before .before .pre .0 .asked, c .before .before .before .before .before .before .before .before .before .before .pre .1)
 
 enum-known-found : tie.Need-enum-known-found
 enum-known-found c = search needs
 
 one-more-requires : tie.Need-one-more-requires
-one-more-requires c κs = given-asked _ _ _ _ _ _ _ (c .before .before .before .before .before .before .before .before .row-at .ensures) (c .before .before .before .before .before .before .before .is-structure .ensures) (not-false _ (c .before .before .before .before .before .before .if1 .left)) (c .before .before .before .before .read-layout .ensures .answer-is) (c .before .before .before .before .before .before .before .before .before .before .before .before .before .before .args .counts) (c .before .found .given .1) (c .before .before .before .before .before .before .before .before .before .before .before .before .before .before .pre)
+one-more-requires c κs = given-asked _ _ _ _ _ _ _ (c .before .before .before .before .before .before .before .before .row-at .ensures) (c .before .before .before .before .before .before .before .is-structure .ensures) (not-false _ (c .before .before .before .before .before .before .if1 .left)) (c .before .before .before .before .read-layout .ensures .answer-is) (c .before .before .before .before .before .before .before .before .before .before .before .before .before .before .before .args .counts) (c .before .found .given .1) (c .before .before .before .before .before .before .before .before .before .before .before .before .before .before .before .pre .0)
 
 enum-told : tie.Need-enum-told
 enum-told c = search needs
 
 one-more-requires-2 : tie.Need-one-more-requires-2
-one-more-requires-2 c κs = refused-asked (c .before .before .before .before .before .before .before .before .before .before .before .before .before .pre)
+one-more-requires-2 c κs = refused-asked (c .before .before .before .before .before .before .before .before .before .before .before .before .before .before .pre .0)
 
 returns-2 : tie.Need-returns-2
-returns-2 c = count-given _ _ _ _ _ _ _ (c .before .before .before .before .before .before .before .before .before .row-at .ensures) (c .before .before .before .before .before .before .before .before .is-structure .ensures) (not-false _ (c .before .before .before .before .before .before .before .if1 .left)) (c .before .before .before .before .before .read-layout .ensures .answer-is) (c .before .before .before .before .before .before .before .before .before .before .before .before .before .before .before .args .counts) (c .before .before .found .given .1) (c .one-more .ensures)
+returns-2 c = count-given _ _ _ _ _ _ _ (c .before .before .before .before .before .before .before .before .before .row-at .ensures) (c .before .before .before .before .before .before .before .before .is-structure .ensures) (not-false _ (c .before .before .before .before .before .before .before .if1 .left)) (c .before .before .before .before .before .read-layout .ensures .answer-is) (c .before .before .before .before .before .before .before .before .before .before .before .before .before .before .before .before .args .counts) (c .before .before .found .given .1) (c .one-more .ensures)
 
 returns-3 : tie.Need-returns-3
-returns-3 c = count-refused _ _ _ _ _ _ _ (c .before .before .before .before .before .before .before .before .row-at .ensures) (c .before .before .before .before .before .before .before .is-structure .ensures) (not-false _ (c .before .before .before .before .before .before .if1 .left)) (c .before .before .before .before .read-layout .ensures .answer-is) (c .before .before .before .before .before .before .before .before .before .before .before .before .before .before .args .counts) (c .before .enum-told .given .1) (c .one-more2 .ensures)
+returns-3 c = count-refused _ _ _ _ _ _ _ (c .before .before .before .before .before .before .before .before .row-at .ensures) (c .before .before .before .before .before .before .before .is-structure .ensures) (not-false _ (c .before .before .before .before .before .before .if1 .left)) (c .before .before .before .before .read-layout .ensures .answer-is) (c .before .before .before .before .before .before .before .before .before .before .before .before .before .before .before .args .counts) (c .before .enum-told .given .1) (c .one-more2 .ensures)
 
 pub count-row-spec : {M : Type 1} → statement M
 count-row-spec =

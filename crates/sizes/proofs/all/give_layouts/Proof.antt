@@ -13,7 +13,7 @@ returns-2 : tie.Need-returns-2
 returns-2 c = rooms-unfit _ (c .before .before .before .before .count-layouts .ensures) _ _ (c .before .before .if1 .left) (c .if2 .taken)
 
 put-layouts-requires : tie.Need-put-layouts-requires
-put-layouts-requires c κs = rooms-asked _ (c .before .before .before .before .before .before .count-layouts .ensures) _ (c .before .before .before .before .before .before .before .before .before .before .before .before .before .before .pre) (c .before .before .if2 .left)
+put-layouts-requires c κs = (rooms-asked _ (c .before .before .before .before .before .before .count-layouts .ensures) _ (c .before .before .before .before .before .before .before .before .before .before .before .before .before .before .before .pre .0) (c .before .before .if2 .left), c .before .before .before .before .before .before .before .before .before .before .before .before .before .before .before .pre .1)
 
 same-length : tie.Need-same-length
 same-length c = search needs

@@ -1,5 +1,7 @@
-use Rattle.sizes.specs.LayoutLaws.{child-other, child-member, child-unread}
+use Rattle.sizes.specs.LayoutLaws.{child-other, child-sized, child-refused}
+use Rattle.tables.specs.declared.row.Row.{Row}
 use borrow.Author.Needs.{needs}
+use mathlib.Core.Path.{sym, ap, _∙_}
 use Rattle.sizes.proofs.layout.lay_child.Statement.{statement}
 use Rattle.sizes.proofs.layout.lay_child.Tie as tie
 
@@ -9,14 +11,14 @@ row-at-requires c κs = search needs
 returns : tie.Need-returns
 returns c = child-other _ _ _ _ _ _ _ _ _ (c .before .before .row-at .ensures) (c .if1 .taken)
 
-member-at-requires : tie.Need-member-at-requires
-member-at-requires c κs = search needs
+member-added-requires : tie.Need-member-added-requires
+member-added-requires c κs = record { asked = c .before .before .before .before .before .before .before .before .before .before .pre .0 .asked; is-member = ap (λ (r : Row). r .kind) (sym (c .before .before .row-at .ensures)) ∙ c .if1 .left; all-kept = c .before .before .before .before .before .before .before .before .before .before .pre .1 }
 
-enum-known-member : tie.Need-enum-known-member
-enum-known-member c = search needs
+enum-known-offset : tie.Need-enum-known-offset
+enum-known-offset c = search needs
 
-lay-member-requires : tie.Need-lay-member-requires
-lay-member-requires c κs = search needs
+lay-sized-requires : tie.Need-lay-sized-requires
+lay-sized-requires c κs = c .before .before .before .before .before .before .before .before .before .before .before .before .before .before .before .pre .0 .count-small
 
 enum-known-why : tie.Need-enum-known-why
 enum-known-why c = search needs
@@ -25,10 +27,10 @@ same-length : tie.Need-same-length
 same-length c = search needs
 
 returns-2 : tie.Need-returns-2
-returns-2 c = child-member _ _ _ _ _ _ _ _ _ (c .before .before .before .before .before .before .before .before .before .before .row-at .ensures) (c .before .before .before .before .before .before .before .before .if1 .left) (c .before .before .before .before .before .before .before .member-at .ensures) (c .before .before .before .before .before .member .given .1) (c .before .before .lay-member .ensures)
+returns-2 c = child-sized _ _ _ _ _ _ _ _ _ (c .before .before .before .before .before .before .before .before .before .before .row-at .ensures) (c .before .before .before .before .before .before .before .before .if1 .left) (c .before .before .before .before .before .before .before .member-added .ensures) (c .before .before .before .before .before .offset .given .1) (c .before .before .lay-sized .ensures)
 
 returns-3 : tie.Need-returns-3
-returns-3 c = child-unread _ _ _ _ _ _ _ _ _ (c .before .before .before .before .before .before .row-at .ensures) (c .before .before .before .before .if1 .left) (c .before .before .before .member-at .ensures) (c .before .why .given .1)
+returns-3 c = child-refused _ _ _ _ _ _ _ _ _ (c .before .before .before .before .before .before .row-at .ensures) (c .before .before .before .before .if1 .left) (c .before .before .before .member-added .ensures) (c .before .why .given .1)
 
 pub lay-child-spec : {M : Type 1} → statement M
 lay-child-spec =
@@ -36,9 +38,9 @@ lay-child-spec =
     (tie.spec
     row-at-requires
     returns
-    member-at-requires
-    enum-known-member
-    lay-member-requires
+    member-added-requires
+    enum-known-offset
+    lay-sized-requires
     enum-known-why
     same-length
     returns-2

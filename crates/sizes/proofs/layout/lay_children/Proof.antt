@@ -1,6 +1,6 @@
 use Rattle.links.specs.KidsLaws.{ends-at}
 use Rattle.links.specs.Kids.{kidsFrom, kidsOf}
-use Rattle.sizes.specs.WalkingLaws.{walking-at, walking-ending, walking-less}
+use Rattle.sizes.specs.WalkingLaws.{walking-asked, walking-ending, walking-less}
 use Rattle.sizes.specs.LayoutLaws.{Laying′, laying-begins, laying-asked, laying-on, laying-refused, laying-ends}
 use Rattle.sizes.specs.LayoutWays.{childrenLaid}
 use Rattle.sizes.specs.SizeWays.{typeFrom}
@@ -11,42 +11,42 @@ use Rattle.sizes.proofs.layout.lay_children.Statement.{statement}
 use Rattle.sizes.proofs.layout.lay_children.Tie as tie
 
 abbrev Inv-loop : tie.InvT-loop
-Inv-loop s settings sizes rows attrs n known levels bounded i room₀ e end c₀ k₀ most₀ room c k most =
+Inv-loop s settings sizes rows attrs n known kept levels bounded i room₀ e end c₀ k₀ most₀ room c k most =
     Laying′ settings s rows attrs n end (typeFrom settings sizes s rows attrs n known levels) bounded
     (childrenLaid settings s rows attrs n (typeFrom settings sizes s rows attrs n known levels) bounded 0 (kidsOf (settings .endian) s rows attrs n i)) room₀ room c k most
 
 abbrev μ-loop : tie.MeasureT-loop
-μ-loop s settings sizes rows attrs n known levels bounded i room₀ e end c₀ k₀ most₀ room c k most = length (kidsFrom (settings .endian) s rows attrs n end c)
+μ-loop s settings sizes rows attrs n known kept levels bounded i room₀ e end c₀ k₀ most₀ room c k most = length (kidsFrom (settings .endian) s rows attrs n end c)
 
-sibling-row-requires : tie.Need-sibling-row-requires Inv-loop μ-loop
-sibling-row-requires c κs = search needs
+kept-sibling-requires : tie.Need-kept-sibling-requires Inv-loop μ-loop
+kept-sibling-requires c κs = (c .before .before .before .before .before .before .before .pre .0 .ends-at .asked, c .before .before .before .before .before .before .before .pre .1 .parts .rows-kept .faults .siblings)
 
 next-row-requires : tie.Need-next-row-requires Inv-loop μ-loop
 next-row-requires c κs = search needs
 
 child-from-requires : tie.Need-child-from-requires Inv-loop μ-loop
-child-from-requires c κs = ends-at _ _ _ _ _ _ (c .before .sibling-row .ensures) (c .next-row .ensures) (c .before .before .before .before .before .before .before .before .pre .ends-at .ending)
+child-from-requires c κs = ends-at _ _ _ _ _ _ (c .before .kept-sibling .ensures) (c .next-row .ensures) (c .before .before .before .before .before .before .before .before .before .pre .0 .ends-at .ending)
 
 loop-holds : tie.Need-loop-holds Inv-loop μ-loop
-loop-holds c = laying-begins _ _ _ _ _ _ _ _ _ (c .before .before .sibling-row .ensures) (c .before .next-row .ensures) (c .before .before .before .before .before .before .before .before .before .pre) (c .child-from .ensures)
+loop-holds c = laying-begins _ _ _ _ _ _ _ _ _ (c .before .before .kept-sibling .ensures) (c .before .next-row .ensures) (c .before .before .before .before .before .before .before .before .before .before .pre .0) (c .child-from .ensures)
 
 lay-child-requires : tie.Need-lay-child-requires Inv-loop μ-loop
-lay-child-requires c κs = laying-asked (c .before .before .loop .inv) (c .before .loop-test .taken)
+lay-child-requires c κs = (laying-asked (c .before .before .loop .inv) (c .before .loop-test .taken), c .before .before .before .before .before .before .before .before .before .before .before .before .before .pre .1)
 
 enum-known-count : tie.Need-enum-known-count Inv-loop μ-loop
 enum-known-count c = search needs
 
-sibling-row-requires-2 : tie.Need-sibling-row-requires-2 Inv-loop μ-loop
-sibling-row-requires-2 c κs = walking-at (c .before .before .before .before .before .before .before .before .loop .inv .walking) (c .before .before .before .before .before .before .before .loop-test .taken)
+kept-sibling-requires-2 : tie.Need-kept-sibling-requires-2 Inv-loop μ-loop
+kept-sibling-requires-2 c κs = (walking-asked (c .before .before .before .before .before .before .before .before .loop .inv .walking) (c .before .before .before .before .before .before .before .loop-test .taken), c .before .before .before .before .before .before .before .before .before .before .before .before .before .before .before .before .before .before .before .pre .1 .parts .rows-kept .faults .siblings)
 
 child-from-requires-2 : tie.Need-child-from-requires-2 Inv-loop μ-loop
-child-from-requires-2 c κs = walking-ending (c .before .before .before .before .before .before .before .before .before .loop .inv .walking) (c .before .before .before .before .before .before .before .before .loop-test .taken) (c .sibling-row2 .ensures)
+child-from-requires-2 c κs = walking-ending (c .before .before .before .before .before .before .before .before .before .loop .inv .walking) (c .before .before .before .before .before .before .before .before .loop-test .taken) (c .kept-sibling2 .ensures)
 
 loop-less : tie.Need-loop-less Inv-loop μ-loop
-loop-less c = walking-less (c .before .before .before .before .before .before .before .before .before .before .loop .inv .walking) (c .before .before .before .before .before .before .before .before .before .loop-test .taken) (c .before .sibling-row2 .ensures) (c .child-from2 .ensures)
+loop-less c = walking-less (c .before .before .before .before .before .before .before .before .before .before .loop .inv .walking) (c .before .before .before .before .before .before .before .before .before .loop-test .taken) (c .before .kept-sibling2 .ensures) (c .child-from2 .ensures)
 
 loop-again : tie.Need-loop-again Inv-loop μ-loop
-loop-again c = laying-on (c .before .before .before .before .before .before .before .before .before .before .loop .inv) (c .before .before .before .before .before .before .before .before .before .loop-test .taken) (c .before .before .before .before .before .before .before .lay-child .ensures) (c .before .before .before .count .given .1) (c .before .sibling-row2 .ensures) (c .child-from2 .ensures)
+loop-again c = laying-on (c .before .before .before .before .before .before .before .before .before .before .loop .inv) (c .before .before .before .before .before .before .before .before .before .loop-test .taken) (c .before .before .before .before .before .before .before .lay-child .ensures) (c .before .before .before .count .given .1) (c .before .kept-sibling2 .ensures) (c .child-from2 .ensures)
 
 enum-known-why : tie.Need-enum-known-why Inv-loop μ-loop
 enum-known-why c = search needs
@@ -69,13 +69,13 @@ lay-children-spec =
     (tie.spec
     Inv-loop
     μ-loop
-    sibling-row-requires
+    kept-sibling-requires
     next-row-requires
     child-from-requires
     loop-holds
     lay-child-requires
     enum-known-count
-    sibling-row-requires-2
+    kept-sibling-requires-2
     child-from-requires-2
     loop-less
     loop-again

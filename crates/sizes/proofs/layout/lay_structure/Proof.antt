@@ -3,14 +3,14 @@ use borrow.Author.Needs.{needs}
 use Rattle.sizes.proofs.layout.lay_structure.Statement.{statement}
 use Rattle.sizes.proofs.layout.lay_structure.Tie as tie
 
-structure-fault-requires : tie.Need-structure-fault-requires
-structure-fault-requires c κs = search needs
+kept-fault-requires : tie.Need-kept-fault-requires
+kept-fault-requires c κs = record { asked = c .before .before .before .before .before .before .before .pre .asked .asked; is-structure = c .before .before .before .before .before .before .before .pre .is-structure; kept-rows = c .before .before .before .before .before .before .before .pre .all-kept .parts .rows-kept }
 
 enum-told : tie.Need-enum-told
 enum-told c = search needs
 
 lay-children-requires : tie.Need-lay-children-requires
-lay-children-requires c κs = clear-asked _ _ _ _ _ _ (c .before .before .before .structure-fault .ensures) (c .before .enum-told .given .1) (c .before .before .before .before .before .before .before .before .before .before .pre)
+lay-children-requires c κs = (clear-asked _ _ _ _ _ _ (c .before .before .before .kept-fault .ensures) (c .before .enum-told .given .1) (c .before .before .before .before .before .before .before .before .before .before .before .pre .asked), c .before .before .before .before .before .before .before .before .before .before .before .pre .all-kept)
 
 enum-known-why : tie.Need-enum-known-why
 enum-known-why c = search needs
@@ -19,16 +19,16 @@ same-length : tie.Need-same-length
 same-length c = search needs
 
 returns : tie.Need-returns
-returns c = structure-laid _ _ _ _ _ _ (c .before .before .before .before .before .before .structure-fault .ensures) _ _ (c .before .before .before .before .enum-told .given .1) (c .before .before .lay-children .ensures)
+returns c = structure-laid _ _ _ _ _ _ (c .before .before .before .before .before .before .kept-fault .ensures) _ _ (c .before .before .before .before .enum-told .given .1) (c .before .before .lay-children .ensures)
 
 returns-2 : tie.Need-returns-2
-returns-2 c = structure-faulty _ _ _ _ _ _ (c .before .before .before .structure-fault .ensures) _ _ (c .before .why .given .1)
+returns-2 c = structure-faulty _ _ _ _ _ _ (c .before .before .before .kept-fault .ensures) _ _ (c .before .why .given .1)
 
 pub lay-structure-spec : {M : Type 1} → statement M
 lay-structure-spec =
     tie.close
     (tie.spec
-    structure-fault-requires
+    kept-fault-requires
     enum-told
     lay-children-requires
     enum-known-why

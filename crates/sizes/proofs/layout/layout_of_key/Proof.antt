@@ -1,4 +1,5 @@
 use Rattle.sizes.specs.LayoutLaws.{layout-there, layout-nowhere}
+use Rattle.sizes.specs.KeptLaws.{none-kept}
 use Rattle.links.specs.TypedLaws.{keyed-asked, keyed-short}
 use borrow.Author.Needs.{needs}
 use Rattle.sizes.proofs.layout.layout_of_key.Statement.{statement}
@@ -13,15 +14,20 @@ enum-known-i c = search needs
 slice-aggregate-give-layout : tie.Need-slice-aggregate-give-layout
 slice-aggregate-give-layout c = search needs
 
+slice-aggregate-give-layout-2 : tie.Need-slice-aggregate-give-layout-2
+slice-aggregate-give-layout-2 c = search needs
+
 sub-give-layout : tie.Need-sub-give-layout
 sub-give-layout c = search needs
 
 give-layout-requires : tie.Need-give-layout-requires
-give-layout-requires c κs =
-    record {
-      asked = keyed-asked _ _ _ _ _ _ _ _ (c .before .before .before .before .before .row-of .ensures) (c .before .before .before .i .given .1);
-      short = keyed-short _ _ _ _ _ _ _ _ (c .before .before .before .before .before .row-of .ensures) (c .before .before .before .i .given .1);
-    }
+give-layout-requires c κs = (
+  record {
+    asked = keyed-asked _ _ _ _ _ _ _ _ (c .before .before .before .before .before .before .row-of .ensures) (c .before .before .before .before .i .given .1);
+    short = keyed-short _ _ _ _ _ _ _ _ (c .before .before .before .before .before .before .row-of .ensures) (c .before .before .before .before .i .given .1);
+  },
+  none-kept _ _ _ _ _ _ _,
+)
 
 enum-known-why : tie.Need-enum-known-why
 enum-known-why c = search needs
@@ -30,7 +36,7 @@ same-length : tie.Need-same-length
 same-length c = search needs
 
 returns : tie.Need-returns
-returns c = layout-there _ _ _ _ _ _ _ _ _ (c .before .before .before .before .before .before .before .before .row-of .ensures) (c .before .before .before .before .before .before .i .given .1) (c .before .before .give-layout .ensures)
+returns c = layout-there _ _ _ _ _ _ _ _ _ (c .before .before .before .before .before .before .before .before .before .row-of .ensures) (c .before .before .before .before .before .before .before .i .given .1) (c .before .before .give-layout .ensures)
 
 returns-2 : tie.Need-returns-2
 returns-2 c = layout-nowhere _ _ _ _ _ _ _ _ _ (c .before .before .before .row-of .ensures) (c .before .why .given .1)
@@ -42,6 +48,7 @@ layout-of-key-spec =
     row-of-requires
     enum-known-i
     slice-aggregate-give-layout
+    slice-aggregate-give-layout-2
     sub-give-layout
     give-layout-requires
     enum-known-why

@@ -1,4 +1,4 @@
-use Rattle.sizes.specs.LayoutLaws.{whole-other, whole-laid, whole-refused}
+use Rattle.sizes.specs.LayoutLaws.{layout-asked, whole-other, whole-laid, whole-refused}
 use borrow.Author.Tests.{not-true, not-false}
 use borrow.Author.Needs.{needs}
 use Rattle.sizes.proofs.layout.read_layout.Statement.{statement}
@@ -26,7 +26,7 @@ is-bounded-requires : tie.Need-is-bounded-requires
 is-bounded-requires c κs = search needs
 
 lay-structure-requires : tie.Need-lay-structure-requires
-lay-structure-requires c κs = search needs
+lay-structure-requires c κs = layout-asked _ _ _ _ _ _ (c .before .before .before .before .before .before .before .before .before .before .before .before .before .before .pre .0) (c .before .before .before .before .before .before .before .before .before .before .before .before .before .before .pre .1) (c .before .before .before .before .before .before .row-at .ensures) (c .before .before .before .before .before .is-structure .ensures) (not-false _ (c .before .before .before .before .if1 .left))
 
 enum-known-count : tie.Need-enum-known-count
 enum-known-count c = search needs

@@ -1,5 +1,5 @@
 use Rattle.sizes.specs.LevelsWays.{deepest}
-use Rattle.sizes.specs.LevelsLaws.{Levelling, levelling-begins, levelling-on, levelling-settled, levelling-ends}
+use Rattle.sizes.specs.LevelsLaws.{known-kept, Levelling, levelling-begins, levelling-on, levelling-settled, levelling-ends}
 use borrow.Author.Needs.{needs}
 use Prim.Native.Nat.{_-_}
 use mathlib.Core.Path.{refl}
@@ -7,23 +7,23 @@ use Rattle.sizes.proofs.levels.fill_known.Statement.{statement}
 use Rattle.sizes.proofs.levels.fill_known.Tie as tie
 
 abbrev Inv-loop : tie.InvT-loop
-Inv-loop s settings sizes rows attrs n known₀ next₀ level₀ known next level =
+Inv-loop s settings sizes rows attrs n kept known₀ next₀ level₀ known next level =
     Levelling settings sizes s rows attrs n known₀ next₀ known next level
 
 abbrev μ-loop : tie.MeasureT-loop
-μ-loop s settings sizes rows attrs n known₀ next₀ level₀ known next level = deepest - level
+μ-loop s settings sizes rows attrs n kept known₀ next₀ level₀ known next level = deepest - level
 
 last-level-requires : tie.Need-last-level-requires Inv-loop μ-loop
 last-level-requires c κs = search needs
 
 loop-holds : tie.Need-loop-holds Inv-loop μ-loop
-loop-holds c = levelling-begins _ _ _ _ _ _ (c .before .before .before .before .before .before .before .before .before .before .pre .0 .ready) (c .before .before .before .before .before .before .before .before .before .before .pre .1 .fits) (c .before .before .last-level .ensures) refl
+loop-holds c = levelling-begins _ _ _ _ _ _ (c .before .before .before .before .before .before .before .before .before .before .before .pre .0 .ready) (c .before .before .before .before .before .before .before .before .before .before .before .pre .1 .0 .fits) (c .before .before .last-level .ensures) refl
 
 sub-loop : tie.Need-sub-loop Inv-loop μ-loop
 sub-loop c = search needs
 
 next-level-requires : tie.Need-next-level-requires Inv-loop μ-loop
-next-level-requires c κs = search needs
+next-level-requires c κs = (record { ready = c .before .before .before .loop .inv .ready; fits = c .before .before .before .loop .inv .next-fits }, known-kept (c .before .before .before .before .before .before .before .before .before .before .before .before .before .before .before .pre .1 .1) (c .before .before .before .loop .inv .filled .fits))
 
 mul-take-over : tie.Need-mul-take-over Inv-loop μ-loop
 mul-take-over c = search needs

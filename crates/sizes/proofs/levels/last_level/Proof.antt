@@ -3,7 +3,7 @@ use Rattle.tables.specs.Check.{refusedAt}
 use Rattle.tables.specs.declared.row.Row.{Row}
 use Rattle.sizes.specs.declared.sized.Sized.the-variants.{Refused}
 use Rattle.sizes.specs.LevelsWays.{lastLevel, Filled}
-use Rattle.sizes.specs.LevelsLaws.{put-refusal, filled-none, filled-more, filled-all}
+use Rattle.sizes.specs.LevelsLaws.{filled-none, filled-more, filled-all}
 use borrow.Author.Needs.{needs}
 use Prim.Native.Nat.{_-_}
 use mathlib.Core.Path.{_≡_, refl, ap, _∙_}

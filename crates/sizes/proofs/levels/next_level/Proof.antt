@@ -8,17 +8,17 @@ use Rattle.sizes.proofs.levels.next_level.Statement.{statement}
 use Rattle.sizes.proofs.levels.next_level.Tie as tie
 
 abbrev Inv-loop : tie.InvT-loop
-Inv-loop s settings sizes rows attrs n known next₀ i₀ next i =
+Inv-loop s settings sizes rows attrs n known kept next₀ i₀ next i =
     Filled (nextLevel settings sizes s rows attrs n known) n i next × (length next ≡ length next₀)
 
 abbrev μ-loop : tie.MeasureT-loop
-μ-loop s settings sizes rows attrs n known next₀ i₀ next i = n - i
+μ-loop s settings sizes rows attrs n known kept next₀ i₀ next i = n - i
 
 loop-holds : tie.Need-loop-holds Inv-loop μ-loop
-loop-holds c = (filled-none _ _ (c .before .before .before .before .before .before .pre .fits), refl)
+loop-holds c = (filled-none _ _ (c .before .before .before .before .before .before .before .pre .0 .fits), refl)
 
 next-size-requires : tie.Need-next-size-requires Inv-loop μ-loop
-next-size-requires c κs = search needs
+next-size-requires c κs = (record { asked = record { table = c .before .before .before .before .before .before .before .before .before .pre .0 .ready .table; there = c .loop-test .taken }; short = c .before .before .before .before .before .before .before .before .before .pre .0 .ready .short }, c .before .before .before .before .before .before .before .before .before .pre .1)
 
 put-known-requires : tie.Need-put-known-requires Inv-loop μ-loop
 put-known-requires c κs = search needs

@@ -1,5 +1,5 @@
 use Rattle.sizes.specs.PrepareLaws.{members-on, members-refused, members-none}
-use Rattle.sizes.specs.WalkingLaws.{Walking, walking-begins, walking-ends, walking-asked, walking-at, walking-stops, walking-ending, walking-less, walking-on}
+use Rattle.sizes.specs.WalkingLaws.{Walking, walking-begins, walking-ends, walking-asked, walking-stops, walking-ending, walking-less, walking-on}
 use Rattle.sizes.specs.Ways.{membersFault}
 use Rattle.links.specs.Kids.{kidsFrom, kidsOf}
 use Rattle.links.specs.KidsLaws.{ends-at}
@@ -11,40 +11,40 @@ use Rattle.sizes.proofs.prepare.members_fault.Statement.{statement}
 use Rattle.sizes.proofs.prepare.members_fault.Tie as tie
 
 abbrev Inv-loop : tie.InvT-loop
-Inv-loop s settings rows attrs n i e end c₀ c = Walking (settings .endian) s rows attrs n end (membersFault settings s rows attrs n) (membersFault settings s rows attrs n (kidsOf (settings .endian) s rows attrs n i)) c
+Inv-loop s settings rows attrs n kept i e end c₀ c = Walking (settings .endian) s rows attrs n end (membersFault settings s rows attrs n) (membersFault settings s rows attrs n (kidsOf (settings .endian) s rows attrs n i)) c
 
 abbrev μ-loop : tie.MeasureT-loop
-μ-loop s settings rows attrs n i e end c₀ c = length (kidsFrom (settings .endian) s rows attrs n end c)
+μ-loop s settings rows attrs n kept i e end c₀ c = length (kidsFrom (settings .endian) s rows attrs n end c)
 
-sibling-row-requires : tie.Need-sibling-row-requires Inv-loop μ-loop
-sibling-row-requires c κs = record { rising = c .before .before .before .pre .asked .table .rising; there = c .before .before .before .pre .asked .there }
+kept-sibling-requires : tie.Need-kept-sibling-requires Inv-loop μ-loop
+kept-sibling-requires c κs = (c .before .before .before .before .pre .0 .asked, c .before .before .before .before .pre .1 .siblings)
 
 next-row-requires : tie.Need-next-row-requires Inv-loop μ-loop
-next-row-requires c κs = record { rising = c .before .before .before .before .pre .asked .table .rising; there = c .before .before .before .before .pre .asked .there }
+next-row-requires c κs = record { rising = c .before .before .before .before .before .pre .0 .asked .table .rising; there = c .before .before .before .before .before .pre .0 .asked .there }
 
 child-from-requires : tie.Need-child-from-requires Inv-loop μ-loop
-child-from-requires c κs = ends-at _ _ _ _ _ _ (c .before .sibling-row .ensures) (c .next-row .ensures) (c .before .before .before .before .before .pre .ending)
+child-from-requires c κs = ends-at _ _ _ _ _ _ (c .before .kept-sibling .ensures) (c .next-row .ensures) (c .before .before .before .before .before .before .pre .0 .ending)
 
 loop-holds : tie.Need-loop-holds Inv-loop μ-loop
-loop-holds c = walking-begins _ _ _ _ _ _ _ (c .before .before .sibling-row .ensures) (c .before .next-row .ensures) (c .before .before .before .before .before .before .pre) (c .child-from .ensures)
+loop-holds c = walking-begins _ _ _ _ _ _ _ (c .before .before .kept-sibling .ensures) (c .before .next-row .ensures) (c .before .before .before .before .before .before .before .pre .0) (c .child-from .ensures)
 
 member-fault-requires : tie.Need-member-fault-requires Inv-loop μ-loop
-member-fault-requires c κs = walking-asked (c .before .loop .inv) (c .loop-test .taken)
+member-fault-requires c κs = (walking-asked (c .before .loop .inv) (c .loop-test .taken), c .before .before .before .before .before .before .before .before .before .pre .1)
 
 enum-told : tie.Need-enum-told Inv-loop μ-loop
 enum-told c = search needs
 
-sibling-row-requires-2 : tie.Need-sibling-row-requires-2 Inv-loop μ-loop
-sibling-row-requires-2 c κs = walking-at (c .before .before .before .before .loop .inv) (c .before .before .before .loop-test .taken)
+kept-sibling-requires-2 : tie.Need-kept-sibling-requires-2 Inv-loop μ-loop
+kept-sibling-requires-2 c κs = (walking-asked (c .before .before .before .before .loop .inv) (c .before .before .before .loop-test .taken), c .before .before .before .before .before .before .before .before .before .before .before .before .pre .1 .siblings)
 
 child-from-requires-2 : tie.Need-child-from-requires-2 Inv-loop μ-loop
-child-from-requires-2 c κs = walking-ending (c .before .before .before .before .before .loop .inv) (c .before .before .before .before .loop-test .taken) (c .sibling-row2 .ensures)
+child-from-requires-2 c κs = walking-ending (c .before .before .before .before .before .loop .inv) (c .before .before .before .before .loop-test .taken) (c .kept-sibling2 .ensures)
 
 loop-less : tie.Need-loop-less Inv-loop μ-loop
-loop-less c = walking-less (c .before .before .before .before .before .before .loop .inv) (c .before .before .before .before .before .loop-test .taken) (c .before .sibling-row2 .ensures) (c .child-from2 .ensures)
+loop-less c = walking-less (c .before .before .before .before .before .before .loop .inv) (c .before .before .before .before .before .loop-test .taken) (c .before .kept-sibling2 .ensures) (c .child-from2 .ensures)
 
 loop-again : tie.Need-loop-again Inv-loop μ-loop
-loop-again c = walking-on (c .before .before .before .before .before .before .loop .inv) (c .before .before .before .before .before .loop-test .taken) (c .before .sibling-row2 .ensures) (c .child-from2 .ensures) (members-on _ _ _ _ _ _ (c .before .before .before .before .member-fault .ensures) (c .before .before .enum-told .given .1))
+loop-again c = walking-on (c .before .before .before .before .before .before .loop .inv) (c .before .before .before .before .before .loop-test .taken) (c .before .kept-sibling2 .ensures) (c .child-from2 .ensures) (members-on _ _ _ _ _ _ (c .before .before .before .before .member-fault .ensures) (c .before .before .enum-told .given .1))
 
 enum-known-why : tie.Need-enum-known-why Inv-loop μ-loop
 enum-known-why c = search needs
@@ -61,13 +61,13 @@ members-fault-spec =
     (tie.spec
     Inv-loop
     μ-loop
-    sibling-row-requires
+    kept-sibling-requires
     next-row-requires
     child-from-requires
     loop-holds
     member-fault-requires
     enum-told
-    sibling-row-requires-2
+    kept-sibling-requires-2
     child-from-requires-2
     loop-less
     loop-again

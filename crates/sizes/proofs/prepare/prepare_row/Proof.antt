@@ -1,3 +1,4 @@
+use Rattle.sizes.specs.KeptLaws.{shape-structure}
 use Rattle.sizes.specs.PrepareLaws.{row-shape, row-array, row-other}
 use Rattle.sizes.specs.Ways.{preparedShape}
 use borrow.Author.Needs.{needs}
@@ -25,7 +26,7 @@ enum-told-2 : tie.Need-enum-told-2
 enum-told-2 c = search needs
 
 prepare-structure-requires : tie.Need-prepare-structure-requires
-prepare-structure-requires c κs = search needs
+prepare-structure-requires c κs = record { asked = c .before .before .before .before .before .before .before .before .pre .0 .asked; is-structure = shape-structure _ _ (c .before .before .before .row-at .ensures) (c .before .before .shape-of .ensures) (c .enum-told2 .given .1); kept-rows = c .before .before .before .before .before .before .before .before .pre .1 }
 
 enum-told-3 : tie.Need-enum-told-3
 enum-told-3 c = search needs

@@ -4,8 +4,8 @@ use Prim.Native.Nat.{_-_}
 use Rattle.sizes.proofs.prepare.prepare_structure.Statement.{statement}
 use Rattle.sizes.proofs.prepare.prepare_structure.Tie as tie
 
-structure-fault-requires : tie.Need-structure-fault-requires
-structure-fault-requires c κs = search needs
+kept-fault-requires : tie.Need-kept-fault-requires
+kept-fault-requires c κs = search needs
 
 enum-told : tie.Need-enum-told
 enum-told c = search needs
@@ -26,19 +26,19 @@ enum-known-why : tie.Need-enum-known-why
 enum-known-why c = search needs
 
 returns : tie.Need-returns
-returns c = structure-size _ _ _ _ _ _ (c .before .before .before .before .before .before .before .structure-fault .ensures) (c .before .before .before .before .before .enum-told .given .1) (c .before .before .before .before .run-of .ensures) (c .before .before .before .last-word .ensures) (c .before .size .given .1)
+returns c = structure-size _ _ _ _ _ _ (c .before .before .before .before .before .before .before .kept-fault .ensures) (c .before .before .before .before .before .enum-told .given .1) (c .before .before .before .before .run-of .ensures) (c .before .before .before .last-word .ensures) (c .before .size .given .1)
 
 returns-2 : tie.Need-returns-2
-returns-2 c = structure-ends _ _ _ _ _ _ (c .before .before .before .before .before .before .structure-fault .ensures) (c .before .before .before .before .enum-told .given .1) (c .before .before .before .run-of .ensures) (c .before .before .last-word .ensures) (c .enum-told2 .given .1)
+returns-2 c = structure-ends _ _ _ _ _ _ (c .before .before .before .before .before .before .kept-fault .ensures) (c .before .before .before .before .enum-told .given .1) (c .before .before .before .run-of .ensures) (c .before .before .last-word .ensures) (c .enum-told2 .given .1)
 
 returns-3 : tie.Need-returns-3
-returns-3 c = structure-refused _ _ _ _ _ _ (c .before .before .before .structure-fault .ensures) (c .before .why .given .1)
+returns-3 c = structure-refused _ _ _ _ _ _ (c .before .before .before .kept-fault .ensures) (c .before .why .given .1)
 
 pub prepare-structure-spec : {M : Type 1} → statement M
 prepare-structure-spec =
     tie.close
     (tie.spec
-    structure-fault-requires
+    kept-fault-requires
     enum-told
     run-of-requires
     last-word-requires

@@ -15,7 +15,7 @@ enum-told : tie.Need-enum-told
 enum-told c = search needs
 
 members-fault-requires : tie.Need-members-fault-requires
-members-fault-requires c κs = members-ending _ _ _ _ _ _ (c .before .before .count-children .ensures) (c .before .before .before .before .before .before .before .pre) (c .enum-told .given .1)
+members-fault-requires c κs = (members-ending _ _ _ _ _ _ (c .before .before .count-children .ensures) (c .before .before .before .before .before .before .before .before .pre .0) (c .enum-told .given .1), c .before .before .before .before .before .before .before .before .pre .1)
 
 enum-told-2 : tie.Need-enum-told-2
 enum-told-2 c = search needs

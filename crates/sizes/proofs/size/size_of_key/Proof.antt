@@ -1,3 +1,4 @@
+use Rattle.sizes.specs.KeptLaws.{none-kept}
 use Rattle.sizes.specs.declared.sized.Sized.the-variants.{Refused}
 use Rattle.sizes.specs.Size.{sizeOfKey}
 use Rattle.sizes.specs.SizeLaws.{ready, key-sized}
@@ -15,14 +16,17 @@ enum-told c = search needs
 slice-aggregate-entry-size : tie.Need-slice-aggregate-entry-size
 slice-aggregate-entry-size c = search needs
 
+slice-aggregate-entry-size-2 : tie.Need-slice-aggregate-entry-size-2
+slice-aggregate-entry-size-2 c = search needs
+
 entry-size-requires : tie.Need-entry-size-requires
-entry-size-requires c κs = ready (c .before .before .before .check-table .ensures) (c .before .enum-told .given .1)
+entry-size-requires c κs = (ready (c .before .before .before .before .check-table .ensures) (c .before .before .enum-told .given .1), none-kept _ _ _ _ _ _ _)
 
 enum-known-why : tie.Need-enum-known-why
 enum-known-why c = search needs
 
 returns : tie.Need-returns
-returns c = key-sized (c .before .before .before .before .check-table .ensures) (c .before .before .enum-told .given .1) _ (c .entry-size .ensures)
+returns c = key-sized (c .before .before .before .before .before .check-table .ensures) (c .before .before .before .enum-told .given .1) _ (c .entry-size .ensures)
 
 returns-2 : tie.Need-returns-2
 unfolding sizeOfKey
@@ -35,6 +39,7 @@ size-of-key-spec =
     check-table-requires
     enum-told
     slice-aggregate-entry-size
+    slice-aggregate-entry-size-2
     entry-size-requires
     enum-known-why
     returns

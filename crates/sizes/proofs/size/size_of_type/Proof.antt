@@ -1,3 +1,4 @@
+use Rattle.sizes.specs.KeptLaws.{none-kept}
 use Rattle.sizes.specs.declared.sized.Sized.the-variants.{Refused}
 use Rattle.sizes.specs.Size.{sizeOfType}
 use Rattle.sizes.specs.SizeLaws.{ready, type-sized}
@@ -15,14 +16,17 @@ enum-told c = search needs
 slice-aggregate-type-size : tie.Need-slice-aggregate-type-size
 slice-aggregate-type-size c = search needs
 
+slice-aggregate-type-size-2 : tie.Need-slice-aggregate-type-size-2
+slice-aggregate-type-size-2 c = search needs
+
 type-size-requires : tie.Need-type-size-requires
-type-size-requires c κs = ready (c .before .before .before .check-table .ensures) (c .before .enum-told .given .1)
+type-size-requires c κs = (ready (c .before .before .before .before .check-table .ensures) (c .before .before .enum-told .given .1), none-kept _ _ _ _ _ _ _)
 
 enum-known-why : tie.Need-enum-known-why
 enum-known-why c = search needs
 
 returns : tie.Need-returns
-returns c = type-sized (c .before .before .before .before .check-table .ensures) (c .before .before .enum-told .given .1) _ (c .type-size .ensures)
+returns c = type-sized (c .before .before .before .before .before .check-table .ensures) (c .before .before .before .enum-told .given .1) _ (c .type-size .ensures)
 
 returns-2 : tie.Need-returns-2
 unfolding sizeOfType
@@ -35,6 +39,7 @@ size-of-type-spec =
     check-table-requires
     enum-told
     slice-aggregate-type-size
+    slice-aggregate-type-size-2
     type-size-requires
     enum-known-why
     returns

@@ -1,7 +1,7 @@
-use Rattle.sizes.specs.LevelsLaws.{put-same}
+use Rattle.sizes.specs.KnownLaws.{put-same}
 use borrow.Author.Needs.{needs}
-use Rattle.sizes.proofs.levels.put_known.Statement.{statement}
-use Rattle.sizes.proofs.levels.put_known.Tie as tie
+use Rattle.sizes.proofs.known.put_known.Statement.{statement}
+use Rattle.sizes.proofs.known.put_known.Tie as tie
 
 enum-known-size : tie.Need-enum-known-size
 enum-known-size c = search needs

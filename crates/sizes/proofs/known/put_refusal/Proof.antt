@@ -1,8 +1,8 @@
-use Rattle.sizes.specs.LevelsLaws.{put-refusal}
+use Rattle.sizes.specs.KnownLaws.{put-refusal}
 use borrow.Author.Needs.{needs}
 use denote.Ref.{now}
-use Rattle.sizes.proofs.levels.put_refusal.Statement.{statement}
-use Rattle.sizes.proofs.levels.put_refusal.Tie as tie
+use Rattle.sizes.proofs.known.put_refusal.Statement.{statement}
+use Rattle.sizes.proofs.known.put_refusal.Tie as tie
 
 mul-put-three : tie.Need-mul-put-three
 mul-put-three c = search needs

@@ -1,8 +1,8 @@
-use Rattle.sizes.specs.LevelsLaws.{three-put}
+use Rattle.sizes.specs.KnownLaws.{three-put}
 use borrow.Author.Needs.{needs}
 use denote.Ref.{now}
-use Rattle.sizes.proofs.levels.put_three.Statement.{statement}
-use Rattle.sizes.proofs.levels.put_three.Tie as tie
+use Rattle.sizes.proofs.known.put_three.Statement.{statement}
+use Rattle.sizes.proofs.known.put_three.Tie as tie
 
 put-word-requires : tie.Need-put-word-requires
 put-word-requires c κs = search needs

@@ -1,8 +1,8 @@
-use Rattle.sizes.specs.LevelsLaws.{put-size}
+use Rattle.sizes.specs.KnownLaws.{put-size}
 use borrow.Author.Needs.{needs}
 use denote.Ref.{now}
-use Rattle.sizes.proofs.levels.put_size.Statement.{statement}
-use Rattle.sizes.proofs.levels.put_size.Tie as tie
+use Rattle.sizes.proofs.known.put_size.Statement.{statement}
+use Rattle.sizes.proofs.known.put_size.Tie as tie
 
 mul-put-three : tie.Need-mul-put-three
 mul-put-three c = search needs

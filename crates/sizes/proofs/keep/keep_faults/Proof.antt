@@ -1,0 +1,48 @@
+use Rattle.sizes.specs.KeepLaws.{Faulting, faulting-begins, faulting-on, faulting-ends}
+use borrow.Author.Needs.{needs}
+use Prim.Native.Nat.{_-_}
+use mathlib.Core.Path.{_≡_, refl, _∙_}
+use lib.ListN.{length}
+use Rattle.sizes.proofs.keep.keep_faults.Statement.{statement}
+use Rattle.sizes.proofs.keep.keep_faults.Tie as tie
+
+abbrev Inv-loop : tie.InvT-loop
+Inv-loop s settings sizes rows attrs n kept₀ i₀ kept i = Faulting settings sizes s rows attrs n kept i × (length kept ≡ length kept₀)
+
+abbrev μ-loop : tie.MeasureT-loop
+μ-loop s settings sizes rows attrs n kept₀ i₀ kept i = n - i
+
+loop-holds : tie.Need-loop-holds Inv-loop μ-loop
+loop-holds c = (faulting-begins _ _ _ _ _ _ (c .before .before .before .before .before .pre .0) (c .before .before .before .before .before .pre .1), refl)
+
+keep-fault-requires : tie.Need-keep-fault-requires Inv-loop μ-loop
+keep-fault-requires c κs = search needs
+
+add-i : tie.Need-add-i Inv-loop μ-loop
+add-i c = search needs
+
+loop-less : tie.Need-loop-less Inv-loop μ-loop
+loop-less c = search needs
+
+loop-again : tie.Need-loop-again Inv-loop μ-loop
+loop-again c = (faulting-on _ _ _ _ _ _ (c .before .before .before .before .before .loop .inv .0) (c .before .before .keep-fault .ensures), (c .before .before .keep-fault .ensures .same-long ∙ c .before .before .before .before .before .loop .inv .1))
+
+same-length : tie.Need-same-length Inv-loop μ-loop
+same-length c = search needs
+
+returns : tie.Need-returns Inv-loop μ-loop
+returns c = faulting-ends _ _ _ _ _ _ (c .before .loop .inv .0) (c .loop-test .left)
+
+pub keep-faults-spec : {M : Type 1} → statement M
+keep-faults-spec =
+    tie.close
+    (tie.spec
+    Inv-loop
+    μ-loop
+    loop-holds
+    keep-fault-requires
+    add-i
+    loop-less
+    loop-again
+    same-length
+    returns)

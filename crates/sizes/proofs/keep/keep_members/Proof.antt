@@ -1,0 +1,48 @@
+use Rattle.sizes.specs.KeepLaws.{Keeping, keeping-begins, keeping-on, keeping-ends}
+use borrow.Author.Needs.{needs}
+use Prim.Native.Nat.{_-_}
+use mathlib.Core.Path.{_≡_, refl, _∙_}
+use lib.ListN.{length}
+use Rattle.sizes.proofs.keep.keep_members.Statement.{statement}
+use Rattle.sizes.proofs.keep.keep_members.Tie as tie
+
+abbrev Inv-loop : tie.InvT-loop
+Inv-loop s settings sizes rows attrs n kept₀ c₀ kept c = Keeping settings sizes s rows attrs n kept c × (length kept ≡ length kept₀)
+
+abbrev μ-loop : tie.MeasureT-loop
+μ-loop s settings sizes rows attrs n kept₀ c₀ kept c = n - c
+
+loop-holds : tie.Need-loop-holds Inv-loop μ-loop
+loop-holds c = (keeping-begins _ _ _ _ _ _ (c .before .before .before .before .before .pre), refl)
+
+keep-row-requires : tie.Need-keep-row-requires Inv-loop μ-loop
+keep-row-requires c κs = search needs
+
+add-c : tie.Need-add-c Inv-loop μ-loop
+add-c c = search needs
+
+loop-less : tie.Need-loop-less Inv-loop μ-loop
+loop-less c = search needs
+
+loop-again : tie.Need-loop-again Inv-loop μ-loop
+loop-again c = (keeping-on _ _ _ _ _ _ (c .before .before .before .before .before .loop .inv .0) (c .before .before .keep-row .ensures), (c .before .before .keep-row .ensures .same-long ∙ c .before .before .before .before .before .loop .inv .1))
+
+same-length : tie.Need-same-length Inv-loop μ-loop
+same-length c = search needs
+
+returns : tie.Need-returns Inv-loop μ-loop
+returns c = keeping-ends _ _ _ _ _ _ (c .before .loop .inv .0) (c .loop-test .left)
+
+pub keep-members-spec : {M : Type 1} → statement M
+keep-members-spec =
+    tie.close
+    (tie.spec
+    Inv-loop
+    μ-loop
+    loop-holds
+    keep-row-requires
+    add-c
+    loop-less
+    loop-again
+    same-length
+    returns)

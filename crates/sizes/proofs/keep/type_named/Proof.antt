@@ -1,0 +1,37 @@
+use Rattle.sizes.specs.SizeLaws.{type-pointer, type-fundamental, type-user}
+use borrow.Author.Needs.{needs}
+use Rattle.sizes.proofs.keep.type_named.Statement.{statement}
+use Rattle.sizes.proofs.keep.type_named.Tie as tie
+
+returns : tie.Need-returns
+returns c = type-pointer _ _ _ (c .if1 .taken)
+
+enum-known-kind : tie.Need-enum-known-kind
+enum-known-kind c = search needs
+
+fundamental-size-requires : tie.Need-fundamental-size-requires
+fundamental-size-requires c κs = search needs
+
+enum-known-kind-2 : tie.Need-enum-known-kind-2
+enum-known-kind-2 c = search needs
+
+row-named-requires : tie.Need-row-named-requires
+row-named-requires c κs = search needs
+
+returns-2 : tie.Need-returns-2
+returns-2 c = type-fundamental _ _ _ (c .before .before .before .before .if1 .left) (c .before .before .kind .given .1) (c .fundamental-size .ensures)
+
+returns-3 : tie.Need-returns-3
+returns-3 c = type-user _ _ _ (c .before .before .before .before .if1 .left) (c .before .before .kind2 .given .1) (c .row-named .ensures)
+
+pub type-named-spec : {M : Type 1} → statement M
+type-named-spec =
+    tie.close
+    (tie.spec
+    returns
+    enum-known-kind
+    fundamental-size-requires
+    enum-known-kind-2
+    row-named-requires
+    returns-2
+    returns-3)
