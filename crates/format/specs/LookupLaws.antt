@@ -17,12 +17,6 @@ pub member-step : (xs : List ℕ) (i x : ℕ) → i < length xs → member x (dr
 unfolding member
 member-step xs i x h = rw (add-one, drop-cons xs i 0)
 
-pub member-here : (xs : List ℕ) (i x : ℕ) → i < length xs → getD xs i 0 ≡ x → true ≡ member x (drop i xs)
-member-here xs i x h p = rw (member-step xs i x h, eq-eqb (getD xs i 0) x p)
-
-pub member-next : (xs : List ℕ) (i x : ℕ) → i < length xs → (getD xs i 0 ≡ x → ⊥) → member x (drop i xs) ≡ member x (drop (i + 1) xs)
-member-next xs i x h p = rw (member-step xs i x h, ne-eqb (getD xs i 0) x p)
-
 pub member-end : (xs : List ℕ) (i x : ℕ) → length xs ≤ i → false ≡ member x (drop i xs)
 unfolding member
 member-end xs i x h = rw (drop-of-length-le xs h)

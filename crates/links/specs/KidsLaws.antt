@@ -1,13 +1,13 @@
 -- What follows from `Kids`: a walk that ends also ends from each row that it meets, so that its children can be taken one at a time.
 use Prim.Native.Nat.{ℕ, zero, suc, _+_, _≤_, _<_}
-use native.Mathlib.Nat.{le-refl, le-trans, lt-of-not-le, not-suc-le-zero}
+use native.Mathlib.Nat.{le-refl, le-trans, lt-of-not-le}
 use native.Mathlib.Decide.{decLe}
 use native.Mathlib.Omega.{arith}
 use mathlib.Core.Path.{_≡_, refl, sym, ap, _∙_, subst}
 use mathlib.Core.Logic.{_⊎_, inl, inr}
 use mathlib.Core.Bool.{Bool, true, false, true≢false}
 use mathlib.Core.List.{List, [], _∷_}
-use lib.ListN.{length, getD}
+use lib.ListN.{length}
 use borrow.Author.Tests.{eq-eqb, ne-eqb}
 use Rattle.numbers.specs.Tests.{cond-all}
 use Rattle.numbers.specs.declared.Endian.{Endian}
@@ -26,28 +26,6 @@ use Rattle.links.specs.declared.children.Kids.the-variants.{Count, Endle
 by-test : {P : Type 0} (b : Bool) → (b ≡ true → P) → (b ≡ false → P) → P
 by-test true f g = f refl
 by-test false f g = g refl
-
--- ---- rows of the table
-
--- each of them is one of n
-abbrev pub Below : ℕ → List ℕ → Type 0
-Below n [] = Unit
-Below n (c ∷ cs) = (c < n) × Below n cs
-
-pub below-at : (n : ℕ) (cs : List ℕ) → Below n cs → (k : ℕ) → k < length cs → getD cs k 0 < n
-below-at n [] b k h = absurd (not-suc-le-zero h)
-below-at n (c ∷ cs) b zero h = b .0
-below-at n (c ∷ cs) b (suc k) h = below-at n cs (b .1) k (omega arith)
-
-below-kept : (rows : List ℕ) (n : ℕ) (cs : List ℕ) → Below n cs → Below n (nonNull rows cs)
-unfolding nonNull
-below-kept rows n [] b = tt
-below-kept rows n (c ∷ cs) b = cond-all (Below n) (nullRow rows c) (λ t. below-kept rows n cs (b .1)) (λ t. (b .0, below-kept rows n cs (b .1)))
-
-below-met : (n c : ℕ) (w : Walk) → c < n → Below n (rowsMet w) → Below n (rowsMet (meets c w))
-unfolding rowsMet meets
-below-met n c (ends cs) h b = (h, b)
-below-met n c endless h b = tt
 
 -- ---- one turn of a walk that ends
 
@@ -82,13 +60,6 @@ module _ (n : ℕ) (next : ℕ → ℕ) (end : ℕ) where
       → walkFrom n next end k c ≡ meets c (walkFrom n next end k (next c))
   turn zero c h p = absurd (never-ends c h p)
   turn (suc k) c h p = met n next end c h k ∙ ap (meets c) (sym (one-more k (next c) (rest-ends k c h p)))
-
-  walk-below : (k c : ℕ) → Below n (rowsMet (walkFrom n next end k c))
-  unfolding walkFrom rowsMet
-  walk-below zero c = cond-all (λ (w : Walk). Below n (rowsMet w)) (stops n next end c) (λ t. tt) (λ t. tt)
-  walk-below (suc k) c =
-      cond-all (λ (w : Walk). Below n (rowsMet w)) (stops n next end c) (λ t. tt)
-      (λ t. below-met n c (walkFrom n next end k (next c)) (on-below n next end c t) (walk-below k (next c)))
 
 -- ---- the children from a row on
 
@@ -183,9 +154,6 @@ module _ (e : Endian) (s rows attrs : List ℕ) (n end : ℕ) where
     pub ends-more : d < n → Ends e s rows attrs n end (siblingRow e s rows attrs n d)
     ends-more l = first l .on
 
-    pub kids-first : d < n → nullRow rows d ≡ false
-    kids-first l = first l .kept
-
     pub kids-none : n ≤ d → kidsFrom e s rows attrs n end c ≡ []
     unfolding firstOr
     kids-none l =
@@ -203,10 +171,6 @@ module _ (e : Endian) (s rows attrs : List ℕ) (n end : ℕ) where
 
     pub first-same : d ≡ firstOr n (kidsFrom e s rows attrs n end d)
     first-same = is ∙ ap (firstOr n) (sym kids-same)
-
-  pub kids-small : (c : ℕ) → Below n (kidsFrom e s rows attrs n end c)
-  unfolding kidsFrom walkOn
-  kids-small c = below-kept rows n _ (walk-below n (λ d. siblingRow e s rows attrs n d) end n c)
 
   -- ---- the loop that looks for a child: the children from c on are those from the start on
 

@@ -8,7 +8,7 @@ use mathlib.Core.Path.{_≡_, refl, sym, ap, subst, _∙_}
 use mathlib.Core.List.{List}
 use lib.ListN.{getD}
 use lib.Dec.{eqb}
-use borrow.Author.Tests.{eq-eqb, ne-eqb, eqb-true, eqb-false}
+use borrow.Author.Tests.{eq-eqb, ne-eqb, eqb-true}
 use Rattle.numbers.specs.Tests.{cond-all}
 use Rattle.tables.specs.Row.{rowWidth, rowAt}
 use Rattle.tables.specs.Find.{rowFrom, rowOfKey, Rising}
@@ -129,32 +129,26 @@ module _ (rows : List ℕ) (n key i : ℕ) (first : FirstFrom rows n key i) wher
 
 -- ---- what is known of the answer
 
--- of a row that was found among the rows from i on: its place and its key; where none was found, that no row has the key
+-- of a row that was found among the rows from i on: its place and its key
 abbrev Good : List ℕ → ℕ → ℕ → ℕ → Found → Type 0
 Good rows key i end (At j) = (i ≤ j) × (j < end) × (rowAt rows j .key ≡ key)
-Good rows key i end Nothing = (k : ℕ) → i ≤ k → k < end → rowAt rows k .key ≡ key → ⊥
+Good rows key i end Nothing = Unit
 
-good-more : (rows : List ℕ) (key i end : ℕ) (found : Found) → (rowAt rows i .key ≡ key → ⊥) → Good rows key (suc i) end found → Good rows key i end found
-good-more rows key i end (At j) other g = (omega arith, g .1, g .2)
-good-more rows key i end Nothing other g =
-    λ k h l p. elim (ℕ-discrete i k) [ yes e ↦ other (ap (λ (m : ℕ). rowAt rows m .key) e ∙ p) | no d ↦ g k (omega arith) l p ]
+good-more : (rows : List ℕ) (key i end : ℕ) (found : Found) → Good rows key (suc i) end found → Good rows key i end found
+good-more rows key i end (At j) g = (omega arith, g .1, g .2)
+good-more rows key i end Nothing g = tt
 
 good : (rows : List ℕ) (key i n end : ℕ) → i + n ≡ end → Good rows key i end (rowFrom rows i n key)
 unfolding rowFrom
-good rows key i zero end q = λ k h l p. omega arith
+good rows key i zero end q = tt
 good rows key i (suc n) end q =
     cond-all (Good rows key i end) (eqb (rowAt rows i .key) key) (λ t. (le-refl i, omega arith, eqb-true (rowAt rows i .key) key t))
-    (λ f. good-more rows key i end (rowFrom rows (suc i) n key) (eqb-false (rowAt rows i .key) key f) (good rows key (suc i) n end (omega arith)))
+    (λ f. good-more rows key i end (rowFrom rows (suc i) n key) (good rows key (suc i) n end (omega arith)))
 
 -- a row that was found is one of the table's, and has the key
 pub row-found : (rows : List ℕ) (n key : ℕ) {i : ℕ} → rowOfKey rows n key ≡ At i → (i < n) × (rowAt rows i .key ≡ key)
 unfolding rowOfKey
 row-found rows n key {i} p = let g = subst (Good rows key 0 n) p (good rows key 0 n n (omega arith)) in (g .1, g .2)
-
--- where none was found, no row has the key
-pub row-missing : (rows : List ℕ) (n key : ℕ) → rowOfKey rows n key ≡ Nothing → (k : ℕ) → k < n → rowAt rows k .key ≡ key → ⊥
-unfolding rowOfKey
-row-missing rows n key p k h = (subst (Good rows key 0 n) p (good rows key 0 n n (omega arith))) k (omega arith) h
 
 -- a row is the row of its own key
 pub row-of-own-key : {rows : List ℕ} {n : ℕ} → Rising rows n → (i : ℕ) → i < n → rowOfKey rows n (rowAt rows i .key) ≡ At i

@@ -83,18 +83,18 @@ module _ {A : Type 0} (kind : Kind A) where
   one-more : (i : ℕ) → (i + 1) * kind .width ≡ i * kind .width + kind .width
   one-more i = rw (add-one i, suc-mul i (kind .width))
 
-  pub length-all : (xs : List A) → length (kind .all xs) ≡ length xs * kind .width
+  length-all : (xs : List A) → length (kind .all xs) ≡ length xs * kind .width
   length-all [] = ap length (kind .all-none) ∙ sym (zero-mul (kind .width))
   length-all (x ∷ xs) =
       ap length (kind .all-more x xs) ∙ length-append (kind .words x) (kind .all xs)
       ∙ rw (kind .words-length x, length-all xs, suc-mul (length xs) (kind .width)) (omega arith)
 
-  pub all-append : (xs ys : List A) → kind .all (xs ++ ys) ≡ kind .all xs ++ kind .all ys
+  all-append : (xs ys : List A) → kind .all (xs ++ ys) ≡ kind .all xs ++ kind .all ys
   all-append [] ys = rw (kind .all-none)
   all-append (x ∷ xs) ys = rw (kind .all-more x (xs ++ ys), all-append xs ys, kind .all-more x xs, append-assoc)
 
   -- a stored thing and a run after it are one run
-  pub put-append : (t : List ℕ) (i : ℕ) (x : A) (xs : List A)
+  put-append : (t : List ℕ) (i : ℕ) (x : A) (xs : List A)
       → sets (put t i x) ((i + 1) * kind .width) (kind .all xs) ≡ sets t (i * kind .width) (kind .all (x ∷ xs))
   put-append t i x xs =
       let after : i * kind .width + length (kind .words x) ≡ (i + 1) * kind .width = rw (kind .words-length x, one-more i) in
@@ -113,14 +113,14 @@ module _ {A : Type 0} (kind : Kind A) where
       ∙ ap (λ (k : ℕ). sets (sets t (i * kind .width) (kind .all xs)) k (kind .all ys)) after
 
   -- a thing that fits is read back
-  pub one-back : (t : List ℕ) (i : ℕ) (x : A) → (i + 1) * kind .width ≤ length t → kind .one (put t i x) i ≡ x
+  one-back : (t : List ℕ) (i : ℕ) (x : A) → (i + 1) * kind .width ≤ length t → kind .one (put t i x) i ≡ x
   one-back t i x h =
       let long : length (kind .words x) ≡ kind .width = kind .words-length x in
       let room : (i + 1) * kind .width ≡ i * kind .width + kind .width = one-more i in
       kind .one-is (put t i x) i x (λ k l. sets-back t (i * kind .width) (kind .words x) k (omega arith) (omega arith))
 
   -- what is stored behind it does not change it
-  pub one-kept : (t : List ℕ) (i at : ℕ) (vs : List ℕ) → (i + 1) * kind .width ≤ at → kind .one (sets t at vs) i ≡ kind .one t i
+  one-kept : (t : List ℕ) (i at : ℕ) (vs : List ℕ) → (i + 1) * kind .width ≤ at → kind .one (sets t at vs) i ≡ kind .one t i
   one-kept t i at vs h =
       let room : (i + 1) * kind .width ≡ i * kind .width + kind .width = one-more i in
       kind .one-same (sets t at vs) t i (λ k l. sets-before t at vs (i * kind .width + k) (omega arith))

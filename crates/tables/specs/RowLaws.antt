@@ -4,13 +4,13 @@ use native.Mathlib.Nat.{add-zero}
 use native.Mathlib.Numerals.{add-one, add-two, add-three, add-four}
 use native.Mathlib.Omega.{arith}
 use mathlib.Core.Path.{_≡_, refl, sym}
-use mathlib.Core.List.{List, _∷_, _++_}
+use mathlib.Core.List.{List, _++_}
 use lib.ListN.{length, getD, set, List·getD-eq-default}
 use lib.Seq.{sets}
 use borrow.Author.Tests.{eq-eqb, ne-eqb}
 use Rattle.numbers.specs.declared.Endian.the-variants.{Big, Little}
 use Rattle.tables.specs.Row.{rowWidth, attrWidth, rowWords, attrWords, rowsWords, attrsWords, rowAt, attrAt, rowsFrom, attrsFrom, putRow, putAttr, endianOf}
-use Rattle.tables.specs.Flat.{Kind, sets-out, length-all, all-append, put-append, runs-append, one-back, one-kept, all-back}
+use Rattle.tables.specs.Flat.{Kind, sets-out, runs-append, all-back}
 use Rattle.tables.specs.declared.row.Row.{Row}
 use Rattle.tables.specs.declared.row.Attr.{Attr}
 
@@ -134,31 +134,10 @@ attrKind =
 
 -- the rows
 
-pub length-rowsWords : (xs : List Row) → length (rowsWords xs) ≡ length xs * rowWidth
-unfolding rowKind
-length-rowsWords xs = length-all rowKind xs
-
-pub rowsWords-append : (xs ys : List Row) → rowsWords (xs ++ ys) ≡ rowsWords xs ++ rowsWords ys
-unfolding rowKind
-rowsWords-append xs ys = all-append rowKind xs ys
-
-pub put-row-append : (t : List ℕ) (i : ℕ) (x : Row) (xs : List Row)
-    → sets (putRow t i x) ((i + 1) * rowWidth) (rowsWords xs) ≡ sets t (i * rowWidth) (rowsWords (x ∷ xs))
-unfolding rowKind
-put-row-append t i x xs = put-append rowKind t i x xs
-
 pub rows-append : (t : List ℕ) (i : ℕ) (xs ys : List Row)
     → sets t (i * rowWidth) (rowsWords (xs ++ ys)) ≡ sets (sets t (i * rowWidth) (rowsWords xs)) ((i + length xs) * rowWidth) (rowsWords ys)
 unfolding rowKind
 rows-append t i xs ys = runs-append rowKind t i xs ys
-
-pub row-back : (t : List ℕ) (i : ℕ) (x : Row) → (i + 1) * rowWidth ≤ length t → rowAt (putRow t i x) i ≡ x
-unfolding rowKind
-row-back t i x h = one-back rowKind t i x h
-
-pub row-kept : (t : List ℕ) (i at : ℕ) (vs : List ℕ) → (i + 1) * rowWidth ≤ at → rowAt (sets t at vs) i ≡ rowAt t i
-unfolding rowKind
-row-kept t i at vs h = one-kept rowKind t i at vs h
 
 pub rows-back-from : (t : List ℕ) (i : ℕ) (xs : List Row) → (i + length xs) * rowWidth ≤ length t
     → rowsFrom (sets t (i * rowWidth) (rowsWords xs)) i (length xs) ≡ xs
@@ -170,31 +149,10 @@ rows-back t xs h = rows-back-from t 0 xs (omega arith)
 
 -- the attributes
 
-pub length-attrsWords : (xs : List Attr) → length (attrsWords xs) ≡ length xs * attrWidth
-unfolding attrKind
-length-attrsWords xs = length-all attrKind xs
-
-pub attrsWords-append : (xs ys : List Attr) → attrsWords (xs ++ ys) ≡ attrsWords xs ++ attrsWords ys
-unfolding attrKind
-attrsWords-append xs ys = all-append attrKind xs ys
-
-pub put-attr-append : (t : List ℕ) (i : ℕ) (x : Attr) (xs : List Attr)
-    → sets (putAttr t i x) ((i + 1) * attrWidth) (attrsWords xs) ≡ sets t (i * attrWidth) (attrsWords (x ∷ xs))
-unfolding attrKind
-put-attr-append t i x xs = put-append attrKind t i x xs
-
 pub attrs-append : (t : List ℕ) (i : ℕ) (xs ys : List Attr)
     → sets t (i * attrWidth) (attrsWords (xs ++ ys)) ≡ sets (sets t (i * attrWidth) (attrsWords xs)) ((i + length xs) * attrWidth) (attrsWords ys)
 unfolding attrKind
 attrs-append t i xs ys = runs-append attrKind t i xs ys
-
-pub attr-back : (t : List ℕ) (i : ℕ) (x : Attr) → (i + 1) * attrWidth ≤ length t → attrAt (putAttr t i x) i ≡ x
-unfolding attrKind
-attr-back t i x h = one-back attrKind t i x h
-
-pub attr-kept : (t : List ℕ) (i at : ℕ) (vs : List ℕ) → (i + 1) * attrWidth ≤ at → attrAt (sets t at vs) i ≡ attrAt t i
-unfolding attrKind
-attr-kept t i at vs h = one-kept attrKind t i at vs h
 
 pub attrs-back-from : (t : List ℕ) (i : ℕ) (xs : List Attr) → (i + length xs) * attrWidth ≤ length t
     → attrsFrom (sets t (i * attrWidth) (attrsWords xs)) i (length xs) ≡ xs

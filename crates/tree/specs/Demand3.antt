@@ -18,7 +18,7 @@ use Rattle.format.specs.Settings.{settingsHold}
 use Rattle.format.specs.declared.settings.Settings.{Settings}
 use Rattle.tables.specs.Row.{rowAt, erasedRow}
 use Rattle.tables.specs.Test.{tableHolds, Checked}
-use Rattle.tables.specs.CheckedLaws.{checked-rising, checked-row}
+use Rattle.tables.specs.CheckedLaws.{checked-rising, checked-inside}
 use Rattle.tables.specs.Flat.{sets-back}
 use Rattle.tables.specs.Check.{afterTests, tested}
 use Rattle.tables.specs.declared.row.Counts.{Counts}
@@ -128,7 +128,7 @@ module _ (settings : Settings) (vendors sizes s rows₀ attrs₀ : List ℕ) (c 
   unerased = rw (read .rows-are) (none-erased settings vendors sizes s rows₀ attrs₀ c off (sym (read .answer-is)))
 
   plain : Plain s rows (c .rows)
-  plain = record { rising = checked-rising checked; inside = λ j h. checked-row checked j h .key-inside; unerased = unerased }
+  plain = record { rising = checked-rising checked; inside = λ j h. checked-inside checked j h; unerased = unerased }
 
   no-erased : ltb (firstErased rows (c .rows)) (c .rows) ≡ false
   unfolding firstErased

@@ -5,7 +5,7 @@ use native.Mathlib.Decide.{ℕ-discrete, decLe}
 use native.Mathlib.Omega.{arith}
 use mathlib.Core.Path.{_≡_, sym, ap, subst, _∙_}
 use mathlib.Core.Logic.{_↔_}
-use mathlib.Core.Bool.{Bool, true, false, true≢false, not-eq-not}
+use mathlib.Core.Bool.{Bool, true, false, true≢false}
 use borrow.Author.Tests.{lt-ltb, ltb-true}
 use Rattle.numbers.specs.Tests.{cond-all}
 use Rattle.tree.specs.Pick.{nearestBelow, anyBelow, firstFrom}
@@ -84,10 +84,3 @@ any-below p k =
         | no h ↦ absurd (true≢false (sym (w .2) ∙ near .after (w .0) (omega arith) (w .1)))
       ],
     )
-
--- and no exactly where each fails
-pub any-none : (p : ℕ → Bool) (k : ℕ) → (anyBelow p k ≡ false) ↔ ((i : ℕ) → i < k → p i ≡ false)
-any-none p k = (
-  λ f i h. not-eq-not {b = false} .0 (λ t. true≢false (sym (any-below p k .1 (i, h, t)) ∙ f)),
-  λ none. not-eq-not {b = false} .0 (λ t. (let w = any-below p k .0 t in true≢false (sym (w .2) ∙ none (w .0) (w .1)))),
-)
