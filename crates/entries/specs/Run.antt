@@ -3,6 +3,7 @@ use Prim.Native.Nat.{ℕ, zero, suc}
 use mathlib.Core.Bool.{Bool, true, false, not, _&&_, _||_}
 use mathlib.Core.List.{List, [], _∷_}
 use lib.Dec.{ltb, eqb}
+use Rattle.format.specs.Settings.{plays}
 use Rattle.numbers.specs.Value.{readAt}
 use Rattle.numbers.specs.declared.Endian.{Endian}
 use Rattle.format.specs.AttributeKind as number
@@ -25,10 +26,6 @@ attr n value = record { number = n; value = value }
 unfoldable pub first : Attr → Run → Run
 first a (ran xs high at) = ran (a ∷ xs) high at
 first a (failed why) = failed why
-
--- a number plays a role: 0 stands for absent and is no number's role
-unfoldable pub plays : ℕ → ℕ → Bool
-plays role n = not (eqb role 0) && eqb n role
 
 -- after a HighPc an erased root's attributes end at the first number that is not MwGlobalRef; where no number is there, reading goes on and is short
 unfoldable pub runEnds : ℕ → List ℕ → Endian → Bool → ℕ → Bool

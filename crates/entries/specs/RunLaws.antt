@@ -19,7 +19,8 @@ use Rattle.attributes.specs.declared.read.Attribute.the-variants.{Read, Short, 
 use Rattle.tables.specs.Row.{attrWidth, attrWords, attrsWords, putAttr}
 use Rattle.tables.specs.RowLaws.{attrs-append}
 use Rattle.tables.specs.declared.row.Attr.{Attr}
-use Rattle.entries.specs.Run.{Run, ran, failed, attr, first, plays, runEnds, readOn, runFrom}
+use Rattle.format.specs.Settings.{plays}
+use Rattle.entries.specs.Run.{Run, ran, failed, attr, first, runEnds, readOn, runFrom}
 use Rattle.entries.specs.Promise.{RunReady, RunStores, RunRead, runAnswer}
 use Rattle.entries.specs.declared.run.Run.the-variants as run
 

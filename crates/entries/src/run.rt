@@ -12,7 +12,8 @@ ghost use mathlib.Core.Path.{_≡_};
 ghost use Prim.Native.Nat.{suc};
 ghost use lib.ListN.{length};
 ghost use mathlib.Core.Bool.{false};
-ghost use Rattle.entries.specs.Run.{plays, runEnds, runFrom};
+ghost use Rattle.format.specs.Settings.{plays};
+ghost use Rattle.entries.specs.Run.{runEnds, runFrom};
 ghost use Rattle.entries.specs.Promise.{RunReady, RunRead};
 
 // Where reading stopped, how many attributes the table then has, whether a HighPc was among those read.

@@ -11,6 +11,7 @@ use Rattle.format.specs.TagKind.{tags}
 use Rattle.format.specs.TagKind as tag
 use Rattle.format.specs.AttributeKind.{used, alsoKnown, attributeKinds}
 use Rattle.format.specs.AttributeKind as number
+use Rattle.format.specs.Settings.{plays}
 use Rattle.format.specs.Known.{known}
 use Rattle.format.specs.FormKind.{forms, formOf, formNumber, isForm}
 use Rattle.format.specs.FundType.{fundTypes, fundTypeOf, parseInt}
@@ -53,7 +54,7 @@ use Rattle.records.specs.Elements as element
 use Rattle.records.specs.Enumeration.{Lists, listed, joined, sizeBefore, listAt, listsFrom}
 use Rattle.records.specs.Enumeration as enumeration
 use Rattle.entries.specs.Head.{nullEnd, tagHead, sizeHead, headAt}
-use Rattle.entries.specs.Run.{attr, first, plays, runEnds, readOn, runFrom}
+use Rattle.entries.specs.Run.{attr, first, runEnds, readOn, runFrom}
 use Rattle.entries.specs.Entry.{flip, littleFlag, flagOf, flagsOf, kindOf, ordinary, rooted, attributes, rootEndian, rootIn, entryFrom, entryAt}
 use Rattle.entries.specs.Walk.{Walk, walked, refused, join, andThen, onward, walkFrom, walkAt}
 use Rattle.entries.specs.Section.{wholeWalk}

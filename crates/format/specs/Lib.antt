@@ -1,6 +1,7 @@
 -- The format's numbers, the limits, the refusals and the settings. What must be believed: the tables (`TagKind` to `SubscriptFormat`), named as in
 -- the Rust; `Known`, `Limits`, `Refusal` and `Settings`, from document 01; `Lookup`, the three ways to ask a table. The rest are laws: `LookupLaws`,
--- `Computed` (a test that is computed over a whole table), `FormLaws`, `SettingsLaws`, and `Only` (no second answer fits).
+-- `Computed` (a test that is computed over a whole table), `FormLaws`, `SettingsLaws`, and `Only` (no second answer fits). `InputA` is document 01's example, for
+-- the crates above.
 pub mod Lookup
 pub mod TagKind
 pub mod AttributeKind
@@ -18,3 +19,4 @@ pub mod Computed
 pub mod FormLaws
 pub mod SettingsLaws
 pub mod Only
+pub mod InputA

@@ -10,7 +10,7 @@ use lib.ListN.{length, getD, drop, drop-of-length-le}
 use lib.Seq.{drop-cons}
 use lib.Dec.{eqb, ltb, leb·suc-suc}
 use borrow.Author.Tests.{eq-eqb, ne-eqb, lt-ltb}
-use Rattle.format.specs.Lookup.{Line, member, indexOf, lookup}
+use Rattle.format.specs.Lookup.{Line, _means_, member, indexOf, lookup}
 
 -- from i on: the element at i, or one after it
 pub member-step : (xs : List ℕ) (i x : ℕ) → i < length xs → member x (drop i xs) ≡ (eqb (getD xs i 0) x || member x (drop (i + 1) xs))
@@ -82,3 +82,23 @@ lookup-none P [] other n t = refl
 lookup-none P (l ∷ ls) other n t =
     rw (ne-eqb (l .number) n (λ e. (told-before (P × (n ≡ l .number → ⊥)) n ls t) .1 (sym e)))
     (lookup-none (P × (n ≡ l .number → ⊥)) ls other n t)
+
+-- ---- a list that the code has as a `match`: numbers are on it, any other is not
+
+-- the list as a table
+abbrev pub lines : List ℕ → List (Line Bool)
+lines [] = []
+lines (x ∷ xs) = x means true ∷ lines xs
+
+either-is : (b c : Bool) → cond b true c ≡ (b || c)
+either-is true c = refl
+either-is false c = refl
+
+lines-member : (xs : List ℕ) (n : ℕ) → lookup (lines xs) false n ≡ member n xs
+unfolding lookup member
+lines-member [] n = refl
+lines-member (x ∷ xs) n = ap (cond (eqb x n) true) (lines-member xs n) ∙ either-is (eqb x n) (member n xs)
+
+-- none of the list's numbers
+pub unlisted : (P : Type 0) (xs : List ℕ) (n : ℕ) → NoneOf P n (lines xs) → false ≡ member n xs
+unlisted P xs n t = lookup-none P (lines xs) false n t ∙ lines-member xs n

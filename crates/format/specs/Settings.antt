@@ -28,6 +28,10 @@ roleHolds vendors role = eqb role 0 || member role vendors
 unfoldable pub roleForm : ℕ → ℕ → Bool
 roleForm form role = eqb role 0 || eqb (role % 16) form
 
+-- an attribute of this number plays the role; 0 is absent and matches no number
+unfoldable pub plays : ℕ → ℕ → Bool
+plays role number = not (eqb role 0) && eqb number role
+
 -- no two roles are equal unless 0
 unfoldable pub rolesDiffer : ℕ → ℕ → Bool
 rolesDiffer a b = eqb a 0 || not (eqb a b)

@@ -11,7 +11,8 @@ use Rattle.format.specs.Known.{known}
 use Rattle.format.specs.FormKind.{forms, formOf}
 use Rattle.format.specs.FundType.{fundTypes}
 use Rattle.format.specs.Refusal.{numberOf}
-use Rattle.format.specs.Settings.{vendorNumber, vendorsHold, roleHolds, roleForm, rolesDiffer, rolesHold, settingsHold}
+use Rattle.format.specs.InputA.{inputA}
+use Rattle.format.specs.Settings.{plays, vendorNumber, vendorsHold, roleHolds, roleForm, rolesDiffer, rolesHold, settingsHold}
 use Rattle.attributes.specs.Text.{zeroFrom}
 use Rattle.attributes.specs.End.{fixedEnd, blockEnd, textEnd, valueEnd}
 use Rattle.attributes.specs.Read.{ending, numbered, readAttribute}
@@ -20,7 +21,7 @@ use Rattle.tables.specs.Find.{rowFrom, rowOfKey}
 use Rattle.tables.specs.Test.{isAt, attrHolds, runHolds, rowHolds, rowsHold, tableHolds}
 use Rattle.tables.specs.Check.{afterTests, tested}
 use Rattle.entries.specs.Head.{nullEnd, tagHead, sizeHead, headAt}
-use Rattle.entries.specs.Run.{first, plays, runEnds, readOn, runFrom}
+use Rattle.entries.specs.Run.{first, runEnds, readOn, runFrom}
 use Rattle.entries.specs.Entry.{flip, littleFlag, flagOf, flagsOf, kindOf, ordinary, rooted, attributes, rootEndian, rootIn, entryFrom, entryAt}
 use Rattle.entries.specs.Walk.{join, andThen, onward, walkFrom, walkAt}
 use Rattle.entries.specs.Section.{wholeWalk, fitting, stored, readSection}
@@ -31,13 +32,6 @@ use Rattle.tree.specs.Nest.{lies, depth, parent, crosses, faulty, deep, firstFa
 use Rattle.tree.specs.Tree.{placesFrom, firstErased, listed, treeOf}
 use Rattle.listing.specs.Text.{glyph, digits, widthFrom, decimalWidth, headerText, rowText, refusalText, rowsText}
 use Rattle.listing.specs.Report.{listingSizes, rowRoom, attrRoom, placeRoom, placesText, treeText, answerText, reportText, inputText}
-
--- document 01's input A, of 42 bytes
-unfoldable pub inputA : List ℕ
-inputA =
-    0x00 ∷ 0x00 ∷ 0x00 ∷ 0x12 ∷ 0x00 ∷ 0x13 ∷ 0x00 ∷ 0x12 ∷ 0x00 ∷ 0x00 ∷ 0x00 ∷ 0x2a ∷ 0x00 ∷ 0xb6 ∷ 0x00 ∷ 0x00 ∷ 0x00 ∷ 0x04 ∷
-    0x00 ∷ 0x00 ∷ 0x00 ∷ 0x14 ∷ 0x00 ∷ 0x0d ∷ 0x00 ∷ 0x55 ∷ 0x00 ∷ 0x07 ∷ 0x00 ∷ 0x23 ∷ 0x00 ∷ 0x06 ∷ 0x04 ∷ 0x00 ∷ 0x00 ∷ 0x00 ∷ 0x00 ∷ 0x07 ∷
-    0x00 ∷ 0x00 ∷ 0x00 ∷ 0x04 ∷ []
 
 -- an input, whether it is longer than the program reads, and the text printed for it
 pub record Example : Type 0 where
@@ -65,5 +59,5 @@ examples =
     ∷ []
 
 pub examples-hold : map (λ e. inputText (e .longer) (e .bytes)) examples ≡ map (λ e. e .text) examples
-unfolding examples inputA numberOf fundTypes valueOf there readAt member indexOf lookup tags used alsoKnown attributeKinds known forms formOf vendorNumber vendorsHold roleHolds roleForm rolesDiffer rolesHold settingsHold zeroFrom fixedEnd blockEnd textEnd valueEnd ending numbered readAttribute nullEnd tagHead sizeHead headAt first plays runEnds readOn runFrom flip littleFlag flagOf flagsOf kindOf ordinary rooted attributes rootEndian rootIn entryFrom entryAt join andThen onward walkFrom walkAt wholeWalk fitting stored readSection glyph digits widthFrom decimalWidth headerText rowText rowsText refusalText rowWords attrWords rowsWords attrsWords rowAt attrAt erasedRow endianOf rowFrom rowOfKey isAt attrHolds runHolds rowHolds rowsHold tableHolds afterTests tested wants attrFrom attributeOf asReference referenceBy referenceOf countBelow nearestBelow firstFrom laterRow reachBy reachEnd lies depth parent crosses faulty deep firstFault firstDeep placesFrom firstErased listed treeOf listingSizes rowRoom attrRoom placeRoom placesText treeText answerText reportText inputText
+unfolding examples numberOf fundTypes valueOf there readAt member indexOf lookup tags used alsoKnown attributeKinds known forms formOf vendorNumber vendorsHold roleHolds roleForm rolesDiffer rolesHold settingsHold zeroFrom fixedEnd blockEnd textEnd valueEnd ending numbered readAttribute nullEnd tagHead sizeHead headAt first plays runEnds readOn runFrom flip littleFlag flagOf flagsOf kindOf ordinary rooted attributes rootEndian rootIn entryFrom entryAt join andThen onward walkFrom walkAt wholeWalk fitting stored readSection glyph digits widthFrom decimalWidth headerText rowText rowsText refusalText rowWords attrWords rowsWords attrsWords rowAt attrAt erasedRow endianOf rowFrom rowOfKey isAt attrHolds runHolds rowHolds rowsHold tableHolds afterTests tested wants attrFrom attributeOf asReference referenceBy referenceOf countBelow nearestBelow firstFrom laterRow reachBy reachEnd lies depth parent crosses faulty deep firstFault firstDeep placesFrom firstErased listed treeOf listingSizes rowRoom attrRoom placeRoom placesText treeText answerText reportText inputText
 examples-hold = refl

@@ -24,7 +24,8 @@ use Rattle.blocks.specs.declared.types.Typed.the-variants as typed
 use Rattle.tables.specs.Row.{rowAt, attrAt}
 use Rattle.tables.specs.Check.{refusedAt}
 use Rattle.links.specs.Typed.{endsOf}
-use Rattle.records.specs.Taken.{plays, takes, special}
+use Rattle.format.specs.Settings.{plays}
+use Rattle.records.specs.Taken.{takes, special}
 use Rattle.records.specs.declared.taken.Record.{Record}
 use Rattle.records.specs.declared.taken.Record.the-variants as record′
 use Rattle.records.specs.declared.scan.Run.{Run}

@@ -1,8 +1,9 @@
 -- The records, and which attributes each takes (13 for any other): to hold against the Rust's functions, whose names stand above the lists.
 use Prim.Native.Nat.{ℕ}
-use mathlib.Core.Bool.{Bool, false, not, _&&_, _||_}
+use mathlib.Core.Bool.{Bool, false, _||_}
 use mathlib.Core.List.{List, [], _∷_}
 use lib.Dec.{eqb}
+use Rattle.format.specs.Settings.{plays}
 use Rattle.format.specs.Lookup.{member}
 use Rattle.format.specs.AttributeKind.{Sibling, Name, FundType, ModFundType, UserDefType, ModUDType, Location, ByteSize, BitSize, BitOffset, ElementList, LowPc, HighPc, ContainingType, Private, Protected, Public, Specification}
 use Rattle.format.specs.AttributeKind as attribute
@@ -31,10 +32,6 @@ takenBy Label = Sibling ∷ Name ∷ LowPc ∷ []
 takenBy PtrToMember = Sibling ∷ typesAnd (ContainingType ∷ [])
 -- `process_overlay_branch`
 takenBy OverlayBranch = Sibling ∷ attribute.Member ∷ LowPc ∷ HighPc ∷ Name ∷ []
-
--- an attribute of this number plays a role; 0 is absent and matches no number
-unfoldable pub plays : ℕ → ℕ → Bool
-plays role number = not (eqb role 0) && eqb number role
 
 -- the vendor attributes that a record takes
 unfoldable pub roleTaken : Roles → Record → ℕ → Bool

@@ -3,7 +3,7 @@ use Prim.Native.Nat.{ℕ, suc, _+_, _*_, _/_, _≤_, _<_}
 use native.Mathlib.Nat.{add-zero, zero-add}
 use native.Mathlib.Omega.{arith}
 use mathlib.Core.Path.{_≡_, refl, sym, ap, ap₂, _∙_, subst}
-use mathlib.Core.Bool.{Bool, true, false, cond, _||_}
+use mathlib.Core.Bool.{Bool, true, false, cond}
 use mathlib.Core.List.{List, [], _∷_}
 use lib.ListN.{length}
 use lib.Seq.{sets, length-sets}
@@ -13,8 +13,7 @@ use Rattle.numbers.specs.declared.Endian.{Endian}
 use Rattle.format.specs.AttributeKind as attribute
 use Rattle.format.specs.TagKind as tag
 use Rattle.format.specs.Limits.{entryLimit}
-use Rattle.format.specs.Lookup.{Line, _means_, member, lookup}
-use Rattle.format.specs.LookupLaws.{NoneOf, lookup-none}
+use Rattle.format.specs.Lookup.{member}
 use Rattle.format.specs.declared.settings.Settings.{Settings}
 use Rattle.format.specs.declared.refusal.Refusal.{Refusal}
 use Rattle.format.specs.declared.refusal.Reason.the-variants as reason
@@ -78,24 +77,6 @@ says k (whole.Refused why) = ⊥
 abbrev isNone : UnionWhole → Type 0
 isNone (whole.Is u) = ⊥
 isNone (whole.Refused why) = Unit
-
--- ---- a list that the code has as a `match`: numbers are on it, any other is not
-
-abbrev pub lines : List ℕ → List (Line Bool)
-lines [] = []
-lines (x ∷ xs) = x means true ∷ lines xs
-
-either-is : (b c : Bool) → cond b true c ≡ (b || c)
-either-is true c = refl
-either-is false c = refl
-
-lines-member : (xs : List ℕ) (n : ℕ) → lookup (lines xs) false n ≡ member n xs
-unfolding lookup member
-lines-member [] n = refl
-lines-member (x ∷ xs) n = ap (cond (eqb x n) true) (lines-member xs n) ∙ either-is (eqb x n) (member n xs)
-
-pub unlisted : (P : Type 0) (xs : List ℕ) (n : ℕ) → NoneOf P n (lines xs) → false ≡ member n xs
-unlisted P xs n t = lookup-none P (lines xs) false n t ∙ lines-member xs n
 
 -- ---- one child
 

@@ -22,7 +22,8 @@ use format::lookup::on_list;
 use format::settings::Roles;
 ghost use mathlib.Core.Path.{_≡_};
 ghost use Rattle.format.specs.Lookup.{member};
-ghost use Rattle.records.specs.Taken.{takenBy, plays, roleTaken, takes, special};
+ghost use Rattle.format.specs.Settings.{plays};
+ghost use Rattle.records.specs.Taken.{takenBy, roleTaken, takes, special};
 
 pub enum Record {
     Member,

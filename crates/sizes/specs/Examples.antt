@@ -1,11 +1,7 @@
 -- Document 01's input A, computed from its bytes and the table that reading fills: the size and the layout of its structure.
 use Prim.Native.Nat.{ℕ}
 use mathlib.Core.Path.{_≡_, refl}
-use mathlib.Core.Bool.{false}
 use mathlib.Core.List.{List, [], _∷_}
-use Rattle.numbers.specs.declared.Endian.the-variants.{Big}
-use Rattle.format.specs.declared.settings.Producer.the-variants as producer
-use Rattle.format.specs.declared.settings.Settings.{Settings}
 use Rattle.tables.specs.declared.row.Counts.{Counts}
 use Rattle.sizes.specs.declared.sized.Sized.the-variants as sized
 use Rattle.sizes.specs.declared.layout.LayoutRead.the-variants as layout
@@ -13,9 +9,10 @@ use Rattle.numbers.specs.Value.{valueOf, there, readAt}
 use Rattle.format.specs.AttributeKind.{attributeKinds}
 use Rattle.format.specs.FormKind.{formOf, formNumber, isForm}
 use Rattle.format.specs.FundType.{fundTypes, fundTypeOf, parseInt}
+use Rattle.format.specs.InputA.{inputA, settingsA}
 use Rattle.format.specs.Known.{known}
 use Rattle.format.specs.Lookup.{member, indexOf, lookup}
-use Rattle.format.specs.Settings.{vendorsHold, roleHolds, roleForm, rolesDiffer, rolesHold, settingsHold}
+use Rattle.format.specs.Settings.{plays, vendorsHold, roleHolds, roleForm, rolesDiffer, rolesHold, settingsHold}
 use Rattle.format.specs.TagKind.{tags}
 use Rattle.attributes.specs.End.{fixedEnd, blockEnd, valueEnd}
 use Rattle.attributes.specs.Parts.{partAt, blockAt}
@@ -35,36 +32,23 @@ use Rattle.records.specs.Front.{kindTaken, kindFault, childlessFault, headOf, f
 use Rattle.records.specs.Member.{bitsBy, withBits, memberWith, placedBy, memberPlaced, typedBy, memberFields, memberAt}
 use Rattle.records.specs.MemberWords.{namePlace, nameLength}
 use Rattle.records.specs.Scan.{runOf, attributeAt, expected, expectedForm, isType, typedFault, locatedFault, locationFault, contentFault, formFault, attributeFault, orElse, faultsFrom, faultAt}
-use Rattle.records.specs.Taken.{takenBy, plays, takes}
+use Rattle.records.specs.Taken.{takenBy, takes}
 use Rattle.records.specs.Unions.{andMember, memberThen}
 use Rattle.sizes.specs.Layout.{laidMember, andLaid, layThen, endOr, laidFrom, isBounded, sizeOrLargest, ownSize, membersLaid, shapeLaid, rowLay, layoutBy, layoutAt, laidWords, layInto, intoRoom, layoutOf}
 use Rattle.sizes.specs.Size.{kindSize, typeSizeBy, childThen, membersFrom, membersBy, membersOf, sizeOr, memberSize, sizeOrEnds, membersSize, shapeOf, shapeSize, entryAt, foundSize, entrySize, typeSize, sizeOfKey}
 use Rattle.records.specs.Fields as fields
 
-abbrev inputA : List ℕ
-inputA =
-    0x00 ∷ 0x00 ∷ 0x00 ∷ 0x12 ∷ 0x00 ∷ 0x13 ∷ 0x00 ∷ 0x12 ∷ 0x00 ∷ 0x00 ∷ 0x00 ∷ 0x2A ∷ 0x00 ∷ 0xB6 ∷ 0x00 ∷ 0x00 ∷ 0x00 ∷ 0x04 ∷
-    0x00 ∷ 0x00 ∷ 0x00 ∷ 0x14 ∷ 0x00 ∷ 0x0D ∷ 0x00 ∷ 0x55 ∷ 0x00 ∷ 0x07 ∷ 0x00 ∷ 0x23 ∷ 0x00 ∷ 0x06 ∷ 0x04 ∷ 0x00 ∷ 0x00 ∷ 0x00 ∷ 0x00 ∷ 0x07 ∷
-    0x00 ∷ 0x00 ∷ 0x00 ∷ 0x04 ∷ []
-
+-- its rows and its attributes as the words of a table
 abbrev rowsA : List ℕ
 rowsA = 0x00 ∷ 0x13 ∷ 0 ∷ 0 ∷ 2 ∷ 0x12 ∷ 0x0D ∷ 0 ∷ 2 ∷ 2 ∷ 0x26 ∷ 0 ∷ 0 ∷ 4 ∷ 0 ∷ []
 
 abbrev attrsA : List ℕ
 attrsA = 0x12 ∷ 8 ∷ 0xB6 ∷ 14 ∷ 0x55 ∷ 26 ∷ 0x23 ∷ 30 ∷ []
 
+-- the sizes of the fundamental types, in their order
 abbrev sizesA : List ℕ
 sizesA =
     2 ∷ 1 ∷ 1 ∷ 1 ∷ 2 ∷ 2 ∷ 2 ∷ 4 ∷ 4 ∷ 4 ∷ 4 ∷ 4 ∷ 4 ∷ 4 ∷ 4 ∷ 8 ∷ 0 ∷ 0 ∷ 0 ∷ 0 ∷ 1 ∷ 0 ∷ 0 ∷ 8 ∷ 8 ∷ 8 ∷ 16 ∷ 8 ∷ []
-
-abbrev settingsA : Settings
-settingsA =
-    record {
-      endian = Big;
-      erased = false;
-      producer = producer.Other;
-      roles = record { «global_ref» = 0; mangled = 0; «overlay_name» = 0; «overlay_id» = 0 };
-    }
 
 abbrev countsA : Counts
 countsA = record { rows = 3; attrs = 4 }

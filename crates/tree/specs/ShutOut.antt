@@ -3,7 +3,7 @@
 use Prim.Native.Nat.{ℕ, _*_, _≤_, _<_}
 use native.Mathlib.Omega.{arith}
 use mathlib.Core.Path.{_≡_, refl, sym, ap, _∙_, subst}
-use mathlib.Core.Bool.{Bool, true, false, cond}
+use mathlib.Core.Bool.{Bool, true, cond}
 use mathlib.Core.List.{List, [], _∷_, _++_}
 use lib.ListN.{length, getD, drop, replicate}
 use lib.Seq.{sets, sets-eq}
@@ -18,10 +18,10 @@ use Rattle.format.specs.AttributeKind as number
 use Rattle.format.specs.Known.{known}
 use Rattle.format.specs.FormKind.{forms, formOf}
 use Rattle.format.specs.FundType.{fundTypes}
+use Rattle.format.specs.InputA.{inputA, settingsA as settings}
 use Rattle.format.specs.Limits.{sectionLimit, entryLimit, attributeLimit}
-use Rattle.format.specs.Settings.{vendorsHold, roleHolds, roleForm, rolesDiffer, rolesHold, settingsHold}
+use Rattle.format.specs.Settings.{plays, vendorsHold, roleHolds, roleForm, rolesDiffer, rolesHold, settingsHold}
 use Rattle.format.specs.declared.settings.Settings.{Settings}
-use Rattle.format.specs.declared.settings.Producer.the-variants.{Other}
 use Rattle.format.specs.declared.refusal.Refusal.{Refusal}
 use Rattle.attributes.specs.Text.{zeroFrom}
 use Rattle.attributes.specs.End.{fixedEnd, blockEnd, textEnd, valueEnd}
@@ -33,7 +33,7 @@ use Rattle.tables.specs.declared.row.Row.{Row}
 use Rattle.tables.specs.declared.row.Attr.{Attr}
 use Rattle.tables.specs.declared.row.Counts.{Counts}
 use Rattle.entries.specs.Head.{nullEnd, tagHead, sizeHead, headAt}
-use Rattle.entries.specs.Run.{attr, first, plays, runEnds, readOn, runFrom}
+use Rattle.entries.specs.Run.{attr, first, runEnds, readOn, runFrom}
 use Rattle.entries.specs.Entry.{littleFlag, flagOf, flagsOf, kindOf, ordinary, attributes, entryFrom, entryAt}
 use Rattle.entries.specs.Walk.{walked, join, andThen, onward, walkFrom, walkAt}
 use Rattle.entries.specs.Section.{Outcome, counts, fitting, stored, wholeWalk, readSection, SectionRead}
@@ -51,10 +51,7 @@ use Rattle.tree.specs.declared.listing.Listing.{Listing}
 use Rattle.tree.specs.declared.listing.Listing.the-variants as listing
 use Rattle.tree.specs.declared.listing.Listing.the-variants.{Listed}
 
--- big-endian, erased entries out, no vendor numbers, each size 4
-abbrev pub settings : Settings
-settings = record { endian = Big; erased = false; producer = Other; roles = record { «global_ref» = 0; mangled = 0; «overlay_name» = 0; «overlay_id» = 0 } }
-
+-- each size is 4, as in the listing program
 unfoldable pub sizes : List ℕ
 sizes = replicate 28 4
 
@@ -117,13 +114,7 @@ twoRows = rowOf 0 tag.StructureType 0 1 ∷ rowOf 9 tag.Subroutine 1 1 ∷ []
 abbrev twoAttrs : List Attr
 twoAttrs = attr number.Name 8 ∷ attr number.Name 17 ∷ []
 
--- document 01's input A, of 42 bytes
-abbrev pub inputA : List ℕ
-inputA =
-    0x00 ∷ 0x00 ∷ 0x00 ∷ 0x12 ∷ 0x00 ∷ 0x13 ∷ 0x00 ∷ 0x12 ∷ 0x00 ∷ 0x00 ∷ 0x00 ∷ 0x2a ∷ 0x00 ∷ 0xb6 ∷ 0x00 ∷ 0x00 ∷ 0x00 ∷ 0x04 ∷
-    0x00 ∷ 0x00 ∷ 0x00 ∷ 0x14 ∷ 0x00 ∷ 0x0d ∷ 0x00 ∷ 0x55 ∷ 0x00 ∷ 0x07 ∷ 0x00 ∷ 0x23 ∷ 0x00 ∷ 0x06 ∷ 0x04 ∷ 0x00 ∷ 0x00 ∷ 0x00 ∷ 0x00 ∷ 0x07 ∷
-    0x00 ∷ 0x00 ∷ 0x00 ∷ 0x04 ∷ []
-
+-- document 01's input A
 abbrev rowsA : List Row
 rowsA = rowOf 0x00 tag.StructureType 0 2 ∷ rowOf 0x12 tag.Member 2 2 ∷ rowOf 0x26 tag.Padding 4 0 ∷ []
 

@@ -1,4 +1,4 @@
-use Rattle.entries.specs.Run.{plays}
+use Rattle.format.specs.Settings.{plays}
 use mathlib.Core.Path.{refl}
 use Rattle.entries.proofs.run.plays_role.Statement.{statement}
 use Rattle.entries.proofs.run.plays_role.Tie as tie

@@ -1,4 +1,4 @@
-use Rattle.records.specs.Taken.{plays}
+use Rattle.format.specs.Settings.{plays}
 use Prim.Native.Nat.{_-_}
 use mathlib.Core.Path.{refl}
 use Rattle.records.proofs.taken.plays.Statement.{statement}
