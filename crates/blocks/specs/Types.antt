@@ -6,6 +6,7 @@ use lib.ListN.{length, take}
 use lib.Dec.{eqb, leb}
 use Rattle.numbers.specs.Value.{valueOf, readAt}
 use Rattle.numbers.specs.declared.Endian.{Endian}
+use Rattle.format.specs.AttributeKind as attribute
 use Rattle.format.specs.FundType.{parseInt}
 use Rattle.format.specs.declared.fund_type.FundType.{FundType}
 use Rattle.format.specs.declared.fund_type.FundType.the-variants as fund
@@ -64,7 +65,7 @@ modUDType e place block = lastOf 4 e block (λ ms key. modified place ms (UserDe
 -- there has no bytes
 unfoldable pub typeAt : Endians → List ℕ → ℕ → ℕ → Typed
 typeAt ends s number at =
-    cond (eqb number 0x55) (fundType ends s at)
-    (cond (eqb number 0x63) (modFundType (ends .section) (at + 2) (blockAt (ends .«data») 2 s at))
-    (cond (eqb number 0x72) (userDefType ends s at)
-    (cond (eqb number 0x83) (modUDType (ends .section) (at + 2) (blockAt (ends .«data») 2 s at)) (Refused (refusedBlock reason.Block)))))
+    cond (eqb number attribute.FundType) (fundType ends s at)
+    (cond (eqb number attribute.ModFundType) (modFundType (ends .section) (at + 2) (blockAt (ends .«data») 2 s at))
+    (cond (eqb number attribute.UserDefType) (userDefType ends s at)
+    (cond (eqb number attribute.ModUDType) (modUDType (ends .section) (at + 2) (blockAt (ends .«data») 2 s at)) (Refused (refusedBlock reason.Block)))))

@@ -3,6 +3,7 @@ use Prim.Native.Nat.{ℕ, zero, suc}
 use mathlib.Core.Bool.{Bool, cond, _||_}
 use mathlib.Core.List.{List}
 use lib.Dec.{eqb}
+use Rattle.format.specs.AttributeKind as attribute
 use Rattle.numbers.specs.Value.{readAt}
 use Rattle.numbers.specs.declared.Endian.{Endian}
 use Rattle.numbers.specs.declared.unsigned.Read32.{Read32}
@@ -15,13 +16,14 @@ use Rattle.links.specs.declared.lookup.Wanted.the-variants as wanted
 use Rattle.links.specs.declared.lookup.Reference.{Reference}
 use Rattle.links.specs.declared.lookup.Reference.the-variants as reference
 
+-- the number of the attribute that refers to a row's sibling
 abbrev pub siblingNumber : ℕ
-siblingNumber = 0x12
+siblingNumber = attribute.Sibling
 
--- an attribute of this number is wanted; the type attributes are FundType, ModFundType, UserDefType, ModUDType
+-- an attribute of this number is wanted: a given one, or any of the four type attributes
 unfoldable pub wants : Wanted → ℕ → Bool
 wants (wanted.Number number) m = eqb m number
-wants wanted.Type m = ((eqb m 0x55 || eqb m 0x63) || eqb m 0x72) || eqb m 0x83
+wants wanted.Type m = ((eqb m attribute.FundType || eqb m attribute.ModFundType) || eqb m attribute.UserDefType) || eqb m attribute.ModUDType
 
 -- the first of n attributes from i on that is wanted
 unfoldable pub attrFrom : Wanted → List ℕ → ℕ → ℕ → Found

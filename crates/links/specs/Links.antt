@@ -3,6 +3,7 @@ use Prim.Native.Nat.{ℕ, zero, suc, _-_, _≤_, _<_}
 use mathlib.Core.Bool.{Bool, cond, not, _||_}
 use mathlib.Core.List.{List, [], _∷_}
 use lib.Dec.{eqb}
+use Rattle.format.specs.TagKind as tag
 use Rattle.numbers.specs.declared.Endian.{Endian}
 use Rattle.format.specs.Limits.{entryLimit}
 use Rattle.tables.specs.Row.{rowAt, erasedRow}
@@ -44,7 +45,7 @@ childWalk e s rows attrs n i =
 
 -- row c is a null entry
 unfoldable pub nullRow : List ℕ → ℕ → Bool
-nullRow rows c = eqb (rowAt rows c .kind) 0
+nullRow rows c = eqb (rowAt rows c .kind) tag.Padding
 
 -- null entries are left out
 unfoldable pub nonNull : List ℕ → List ℕ → List ℕ

@@ -21,15 +21,14 @@ use Rattle.links.specs.Links.{childWalk}
 use Rattle.links.specs.Typed.{inRow}
 use Rattle.records.specs.Taken.{special}
 use Rattle.records.specs.Scan.{runOf, attributeAt, numberAt, faultAt}
-use Rattle.records.specs.Fields.{lastFrom, nameOf, wordBy, wordOf, needed}
+use Rattle.records.specs.Fields.{lastFrom, wordBy, byteSized}
 use Rattle.records.specs.Front.{kindFault, childlessFault, unless}
 use Rattle.records.specs.Elements.{Listed, Elements, are, missing, listWidth, elementsIn, valuesOf, namesOf}
 use Rattle.records.specs.declared.taken.Record.the-variants as record′
 use Rattle.records.specs.declared.scan.Run.{Run}
+use Rattle.records.specs.declared.fields.Name.{Name}
 use Rattle.records.specs.declared.fields.Sought.the-variants as sought
 use Rattle.records.specs.declared.fields.Word.{Word}
-use Rattle.records.specs.declared.fields.Needed.{Needed}
-use Rattle.records.specs.declared.fields.Needed.the-variants as need
 use Rattle.records.specs.declared.enumeration.Enumeration.{Enumeration}
 use Rattle.records.specs.declared.enumeration.EnumerationWhole.{EnumerationWhole}
 use Rattle.records.specs.declared.enumeration.EnumerationWhole.the-variants as whole
@@ -84,14 +83,13 @@ inOrder producer xs = cond (isGcc producer) (reversed xs) xs
 
 -- ---- the enumeration at row i
 
-module _ (s attrs : List ℕ) (run : Run) (members : ℕ) where
-  unfoldable pub withSize : Needed → EnumerationWhole
-  withSize (need.Is size) = whole.Is (record { name = nameOf s attrs run attribute.Name; «byte_size» = size; members = members })
-  withSize (need.Refused why) = whole.Refused why
+-- an enumeration of so many members
+abbrev pub enumerationIs : ℕ → Name → ℕ → EnumerationWhole
+enumerationIs members name size = whole.Is (record { name = name; «byte_size» = size; members = members })
 
-  -- a ByteSize is needed
-  unfoldable pub sizedBy : EnumerationWhole
-  sizedBy = withSize (needed (run .key) (wordOf s attrs run attribute.ByteSize))
+-- a ByteSize is needed
+unfoldable pub sizedBy : List ℕ → List ℕ → Run → ℕ → EnumerationWhole
+sizedBy s attrs run members = byteSized whole.Refused (enumerationIs members) s attrs run
 
 module _ (settings : Settings) (s rows attrs : List ℕ) (n i : ℕ) where
   abbrev theRun : Run

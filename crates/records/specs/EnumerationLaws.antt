@@ -31,15 +31,15 @@ use Rattle.links.specs.declared.typed.Keyed.the-variants as keyed
 use Rattle.records.specs.Taken.{special}
 use Rattle.records.specs.Scan.{runOf, attributeAt, attributeFault, numberAt, faultAt, scanFrom}
 use Rattle.records.specs.ScanLaws.{Before, Stopped, FaultMet, scan-stop, scan-refused}
-use Rattle.records.specs.Fields.{lastFrom, nameOf, wordBy, wordOf, needed}
-use Rattle.records.specs.FieldsLaws.{by-told, needed-told}
+use Rattle.records.specs.Fields.{lastFrom, wordBy}
+use Rattle.records.specs.FieldsLaws.{byte-sized-all}
 use Rattle.records.specs.Front.{kindFault, childlessFault, unless}
 use Rattle.records.specs.FrontLaws.{unless-clear, unless-refused}
 use Rattle.records.specs.RecordLaws.{fields-clear}
 use Rattle.records.specs.Elements.{Listed, Elements, are, missing, listWidth, elementsIn, valuesOf, namesOf}
 use Rattle.records.specs.ElementsWays.{valueWords, nameWords, storeAll, Addable, asLists, before, countFrom, storeValues, storeNames, StoredFrom}
 use Rattle.records.specs.ElementsLaws.{width-few, elements-few, store-append, store-length, values-forwards, names-forwards, values-backwards, names-backwards}
-use Rattle.records.specs.Enumeration.{Lists, listed, refused, joined, sizeBefore, listAt, listsFrom, withSize, sizedBy, rowLists, enumerationEnd, listedBy, enumerationAt, isGcc, reversed, inOrder, Outcome, listInto, intoRooms, enumerationBy, EnumerationGiven}
+use Rattle.records.specs.Enumeration.{Lists, listed, refused, joined, sizeBefore, listAt, listsFrom, enumerationIs, sizedBy, rowLists, enumerationEnd, listedBy, enumerationAt, isGcc, reversed, inOrder, Outcome, listInto, intoRooms, enumerationBy, EnumerationGiven}
 use Rattle.records.specs.EnumerationWays.{Countable, Stepping, AskedShort, oneList, restFrom, Advanced, Steps, WholeStored}
 use Rattle.records.specs.declared.taken.Record.the-variants as record′
 use Rattle.records.specs.declared.scan.Run.{Run}
@@ -49,10 +49,7 @@ use Rattle.records.specs.declared.scan.Fault.the-variants as fault
 use Rattle.records.specs.declared.scan.Scan.{Scan}
 use Rattle.records.specs.declared.scan.Scan.the-variants as scan
 use Rattle.records.specs.declared.fields.Sought.the-variants as sought
-use Rattle.records.specs.declared.fields.Name.{Name}
 use Rattle.records.specs.declared.fields.Word.{Word}
-use Rattle.records.specs.declared.fields.Needed.{Needed}
-use Rattle.records.specs.declared.fields.Needed.the-variants as need
 use Rattle.records.specs.declared.words.Counted.{Counted}
 use Rattle.records.specs.declared.words.Counted.the-variants as counted
 use Rattle.records.specs.declared.elements.Slots.{Slots}
@@ -449,19 +446,7 @@ module _ (producer : Producer) (xs : List Listed) {gcc : Bool} (g : gcc ≡ isGc
   unfolding inOrder
   names-ordered names = names-by (isGcc producer) g names
 
--- ---- a ByteSize, and no children
-
-module _ (s attrs : List ℕ) (run : Run) (members : ℕ) {w : Word} {told : Needed} (q : w ≡ wordOf s attrs run attribute.ByteSize) (is : told ≡ needed (run .key) w) where
-  pub sized : {size : ℕ} {n : Name} → told ≡ need.Is size → n ≡ nameOf s attrs run attribute.Name
-      → whole.Is (record { name = n; «byte_size» = size; members = members }) ≡ sizedBy s attrs run members
-  unfolding sizedBy withSize
-  sized {size} p h =
-      by-told (withSize s attrs run members) (needed-told (run .key) q is) p
-      (ap (λ (x : Name). whole.Is (record { name = x; «byte_size» = size; members = members })) h)
-
-  pub sizeless : {why : Refusal} → told ≡ need.Refused why → whole.Refused why ≡ sizedBy s attrs run members
-  unfolding sizedBy withSize
-  sizeless p = by-told (withSize s attrs run members) (needed-told (run .key) q is) p refl
+-- ---- no children, and a ByteSize
 
 module _ (settings : Settings) (s rows attrs : List ℕ) (n i : ℕ) where
   pub end-clear : (members : ℕ) {told : Fault} {run : Run} {r : EnumerationWhole} → told ≡ childlessFault rows i (childWalk (settings .endian) s rows attrs n i)
@@ -538,11 +523,6 @@ module _ (settings : Settings) (s rows attrs : List ℕ) (n i : ℕ) where
   Members l (whole.Is e) = (xs : List Listed) × (l ≡ listed xs) × (e .members ≡ length xs)
   Members l (whole.Refused why) = Unit
 
-  sized-members : (run : Run) (xs : List Listed) (x : Needed) → Members (listed xs) (withSize s attrs run (length xs) x)
-  unfolding withSize
-  sized-members run xs (need.Is size) = (xs, refl, refl)
-  sized-members run xs (need.Refused why) = tt
-
   unless-members : (f : Fault) (l : Lists) (a : EnumerationWhole) → Members l a → Members l (unless f whole.Refused a)
   unfolding unless
   unless-members fault.Clear l a m = m
@@ -553,7 +533,7 @@ module _ (settings : Settings) (s rows attrs : List ℕ) (n i : ℕ) where
   by-members (listed xs) =
       unless-members (childlessFault rows i (childWalk (settings .endian) s rows attrs n i)) (listed xs)
       (sizedBy s attrs (runOf (settings .endian) rows i) (length xs))
-      (sized-members (runOf (settings .endian) rows i) xs (needed (runOf (settings .endian) rows i .key) (wordOf s attrs (runOf (settings .endian) rows i) attribute.ByteSize)))
+      (byte-sized-all whole.Refused (enumerationIs (length xs)) s attrs (runOf (settings .endian) rows i) (Members (listed xs)) (λ name size. (xs, refl, refl)) (λ why. tt))
   by-members (refused why) = tt
 
   pub members-listed : {e : Enumeration} → enumerationAt settings s rows attrs n i ≡ whole.Is e

@@ -5,6 +5,7 @@ use mathlib.Core.List.{List}
 use lib.Dec.{eqb}
 use Rattle.format.specs.FormKind.{formOf}
 use Rattle.format.specs.AttributeKind as attribute
+use Rattle.format.specs.declared.refusal.Refusal.{Refusal}
 use Rattle.format.specs.declared.refusal.Reason.the-variants as reason
 use Rattle.attributes.specs.Text.{zeroFrom}
 use Rattle.attributes.specs.Parts.{blockAt}
@@ -156,3 +157,14 @@ visibilityIn attrs found.Nothing = visibility.Public
 
 unfoldable pub visibilityOf : List ℕ → Run → Visibility
 visibilityOf attrs run = visibilityIn attrs (lastOf sought.Visibility attrs run)
+
+-- ---- a name, and a ByteSize that is needed: of unions and enumerations
+
+module _ {A : Type 0} (refused : Refusal → A) (answer : Name → ℕ → A) (s attrs : List ℕ) (run : Run) where
+  unfoldable pub withByteSize : Needed → A
+  withByteSize (need.Is size) = answer (nameOf s attrs run attribute.Name) size
+  withByteSize (need.Refused why) = refused why
+
+  -- 15 without a ByteSize; the name may be missing
+  unfoldable pub byteSized : A
+  byteSized = withByteSize (needed (run .key) (wordOf s attrs run attribute.ByteSize))

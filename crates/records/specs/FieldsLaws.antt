@@ -26,12 +26,13 @@ use Rattle.links.specs.Typed.{wordAt}
 use Rattle.links.specs.declared.typed.Value.{Value}
 use Rattle.records.specs.TakenLaws.{by-case, test-passed, test-failed}
 use Rattle.records.specs.Scan.{attributeAt}
-use Rattle.records.specs.Fields.{isSought, lastFrom, lastOf, textOf, nameBy, nameOf, replaced, typeBy, typeOf, asOffset, offsetIn, offsetBy, offsetField, asAddress, addressIn, addressBy, addressField, asWord, wordIn, wordBy, wordOf, needed, visibilityBy, visibilityIn, visibilityOf}
+use Rattle.records.specs.Fields.{isSought, lastFrom, lastOf, textOf, nameBy, nameOf, replaced, typeBy, typeOf, asOffset, offsetIn, offsetBy, offsetField, asAddress, addressIn, addressBy, addressField, asWord, wordIn, wordBy, wordOf, needed, withByteSize, byteSized, visibilityBy, visibilityIn, visibilityOf}
 use Rattle.records.specs.declared.scan.Run.{Run}
 use Rattle.records.specs.declared.scan.Attribute.{Attribute}
 use Rattle.records.specs.declared.fields.Sought.{Sought}
 use Rattle.records.specs.declared.fields.Sought.the-variants as sought
 use Rattle.records.specs.declared.fields.Text.{Text}
+use Rattle.records.specs.declared.fields.Name.{Name}
 use Rattle.records.specs.declared.fields.Name.the-variants as name
 use Rattle.records.specs.declared.fields.Word.{Word}
 use Rattle.records.specs.declared.fields.Word.the-variants as word
@@ -204,3 +205,26 @@ module _ (attrs : List ℕ) (run : Run) {told : Found} (is : told ≡ lastOf sou
   pub visibility-none : told ≡ found.Nothing → visibility.Public ≡ visibilityOf attrs run
   unfolding visibilityOf visibilityIn
   visibility-none p = by-told (visibilityIn attrs) is p refl
+
+-- ---- a name, and a ByteSize that is needed
+
+module _ {A : Type 0} (refused : Refusal → A) (answer : Name → ℕ → A) (s attrs : List ℕ) (run : Run) where
+  module _ {w : Word} {told : Needed} (q : w ≡ wordOf s attrs run attribute.ByteSize) (is : told ≡ needed (run .key) w) where
+    pub byte-size-there : {size : ℕ} {n : Name} → told ≡ need.Is size → n ≡ nameOf s attrs run attribute.Name → answer n size ≡ byteSized refused answer s attrs run
+    unfolding byteSized withByteSize
+    byte-size-there {size} p h = by-told (withByteSize refused answer s attrs run) (needed-told (run .key) q is) p (ap (λ (x : Name). answer x size) h)
+
+    pub byte-size-missing : {why : Refusal} → told ≡ need.Refused why → refused why ≡ byteSized refused answer s attrs run
+    unfolding byteSized withByteSize
+    byte-size-missing p = by-told (withByteSize refused answer s attrs run) (needed-told (run .key) q is) p refl
+
+  -- what holds of both answers
+  with-byte-size : (P : A → Type 0) → ((n : Name) (size : ℕ) → P (answer n size)) → ((why : Refusal) → P (refused why))
+      → (x : Needed) → P (withByteSize refused answer s attrs run x)
+  unfolding withByteSize
+  with-byte-size P f g (need.Is size) = f (nameOf s attrs run attribute.Name) size
+  with-byte-size P f g (need.Refused why) = g why
+
+  pub byte-sized-all : (P : A → Type 0) → ((n : Name) (size : ℕ) → P (answer n size)) → ((why : Refusal) → P (refused why)) → P (byteSized refused answer s attrs run)
+  unfolding byteSized
+  byte-sized-all P f g = with-byte-size P f g (needed (run .key) (wordOf s attrs run attribute.ByteSize))

@@ -8,7 +8,6 @@ use lib.ListN.{length}
 use lib.Seq.{sets}
 use lib.Dec.{eqb, leb}
 use Rattle.format.specs.Lookup.{member}
-use Rattle.format.specs.AttributeKind as attribute
 use Rattle.format.specs.TagKind as tag
 use Rattle.format.specs.declared.settings.Settings.{Settings}
 use Rattle.format.specs.declared.refusal.Refusal.{Refusal}
@@ -20,14 +19,13 @@ use Rattle.links.specs.Walk.{Walk, ends, endless}
 use Rattle.links.specs.Links.{childWalk, nonNull}
 use Rattle.links.specs.Typed.{inRow}
 use Rattle.records.specs.Scan.{runOf}
-use Rattle.records.specs.Fields.{nameOf, wordOf, needed}
+use Rattle.records.specs.Fields.{byteSized}
 use Rattle.records.specs.Front.{headOf, unless}
 use Rattle.records.specs.Member.{memberAt}
 use Rattle.records.specs.MemberWords.{memberWords, memberWidth}
 use Rattle.records.specs.declared.taken.Record.the-variants as record′
 use Rattle.records.specs.declared.scan.Run.{Run}
-use Rattle.records.specs.declared.fields.Needed.{Needed}
-use Rattle.records.specs.declared.fields.Needed.the-variants as need
+use Rattle.records.specs.declared.fields.Name.{Name}
 use Rattle.records.specs.declared.member.Member.{Member}
 use Rattle.records.specs.declared.member.MemberRead.{MemberRead}
 use Rattle.records.specs.declared.member.MemberRead.the-variants as read
@@ -83,14 +81,13 @@ module _ (settings : Settings) (s rows attrs : List ℕ) (n : ℕ) where
   unfoldable pub rowMembers : ℕ → Members
   rowMembers i = membersBy (rowAt rows i .key) (childWalk (settings .endian) s rows attrs n i)
 
-module _ (s attrs : List ℕ) (run : Run) (many : ℕ) where
-  unfoldable pub withSize : Needed → UnionWhole
-  withSize (need.Is size) = whole.Is (record { name = nameOf s attrs run attribute.Name; «byte_size» = size; members = many })
-  withSize (need.Refused why) = whole.Refused why
+-- a union of so many members
+abbrev pub unionIs : ℕ → Name → ℕ → UnionWhole
+unionIs many name size = whole.Is (record { name = name; «byte_size» = size; members = many })
 
-  -- a ByteSize is needed
-  unfoldable pub sizedBy : UnionWhole
-  sizedBy = withSize (needed (run .key) (wordOf s attrs run attribute.ByteSize))
+-- a ByteSize is needed
+unfoldable pub sizedBy : List ℕ → List ℕ → Run → ℕ → UnionWhole
+sizedBy s attrs run many = byteSized whole.Refused (unionIs many) s attrs run
 
 module _ (settings : Settings) (s rows attrs : List ℕ) (n i : ℕ) where
   unfoldable pub membersTaken : Members → UnionWhole

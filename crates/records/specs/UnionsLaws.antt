@@ -10,7 +10,6 @@ use lib.Seq.{sets, length-sets}
 use lib.Dec.{eqb, leb}
 use borrow.Author.Tests.{eq-eqb, ne-eqb, le-leb, lt-leb}
 use Rattle.numbers.specs.declared.Endian.{Endian}
-use Rattle.format.specs.AttributeKind as attribute
 use Rattle.format.specs.TagKind as tag
 use Rattle.format.specs.Limits.{entryLimit}
 use Rattle.format.specs.Lookup.{member}
@@ -35,21 +34,18 @@ use Rattle.links.specs.declared.typed.Keyed.{Keyed}
 use Rattle.links.specs.declared.typed.Keyed.the-variants as keyed
 use Rattle.records.specs.TakenLaws.{test-passed, test-failed}
 use Rattle.records.specs.Scan.{runOf}
-use Rattle.records.specs.Fields.{nameOf}
 use Rattle.records.specs.FrontLaws.{unless-clear, unless-refused}
 use Rattle.records.specs.Front.{headOf, unless}
 use Rattle.records.specs.Member.{memberAt}
 use Rattle.records.specs.MemberWords.{memberWidth, memberWords}
 use Rattle.records.specs.MemberWordsLaws.{words-wide}
-use Rattle.records.specs.Unions.{ignored, Placed, Members, members, refused, andMember, memberThen, childThen, membersFrom, membersBy, rowMembers, withSize, sizedBy, membersTaken, unionAt, membersWords, Outcome, membersInto, intoRoom, unionBy, UnionGiven}
+use Rattle.records.specs.FieldsLaws.{byte-sized-all}
+use Rattle.records.specs.Unions.{ignored, Placed, Members, members, refused, andMember, memberThen, childThen, membersFrom, membersBy, rowMembers, unionIs, sizedBy, membersTaken, unionAt, membersWords, Outcome, membersInto, intoRoom, unionBy, UnionGiven}
 use Rattle.records.specs.UnionsWays.{TakeAsked, EndsAt, countOf, Stored, stored, storedOn, Takes, MembersStored, WholeStored}
 use Rattle.records.specs.declared.taken.Record.the-variants as record′
 use Rattle.records.specs.declared.scan.Run.{Run}
 use Rattle.records.specs.declared.scan.Fault.{Fault}
 use Rattle.records.specs.declared.scan.Fault.the-variants as fault
-use Rattle.records.specs.declared.fields.Name.{Name}
-use Rattle.records.specs.declared.fields.Needed.{Needed}
-use Rattle.records.specs.declared.fields.Needed.the-variants as need
 use Rattle.records.specs.declared.member.Member.{Member}
 use Rattle.records.specs.declared.member.MemberRead.{MemberRead}
 use Rattle.records.specs.declared.member.MemberRead.the-variants as read
@@ -305,11 +301,6 @@ module _ (settings : Settings) (s rows attrs : List ℕ) (n i : ℕ) {told : Kid
 
 -- ---- the whole union
 
-pub union-whole : (s attrs : List ℕ) (run : Run) (many size : ℕ) {name : Name} → name ≡ nameOf s attrs run attribute.Name
-    → whole.Is (record { name = name; «byte_size» = size; members = many }) ≡ withSize s attrs run many (need.Is size)
-unfolding withSize
-union-whole s attrs run many size p = ap (λ (x : Name). whole.Is (record { name = x; «byte_size» = size; members = many })) p
-
 module _ (settings : Settings) (s rows attrs : List ℕ) (n i : ℕ) where
   sized-all : (all : Members) {many : ℕ} → countOf all ≡ counted.Count many
       → sizedBy s attrs (runOf (settings .endian) rows i) many ≡ membersTaken settings s rows attrs n i all
@@ -357,15 +348,16 @@ pub record AsMany (all : Members) (u : Union) : Type 0 where
   pub are : all ≡ members list
   pub many : length list ≡ u .members
 
-sized-counts : (s attrs : List ℕ) (run : Run) (many : ℕ) (w : Needed) {u : Union} → withSize s attrs run many w ≡ whole.Is u → many ≡ u .members
-unfolding withSize
-sized-counts s attrs run many (need.Is size) p = subst (says many) p refl
-sized-counts s attrs run many (need.Refused why) p = absurd (subst isNone p tt)
+sized-counts : (s attrs : List ℕ) (run : Run) (many : ℕ) {u : Union} → sizedBy s attrs run many ≡ whole.Is u → many ≡ u .members
+unfolding sizedBy
+sized-counts s attrs run many {u} =
+    byte-sized-all whole.Refused (unionIs many) s attrs run (λ (a : UnionWhole). a ≡ whole.Is u → many ≡ u .members) (λ name size p. subst (says many) p refl)
+    (λ why p. absurd (subst isNone p tt))
 
 module _ (settings : Settings) (s rows attrs : List ℕ) (n i : ℕ) where
   taken-counts : (f : Fault) (all : Members) {u : Union} → unless f whole.Refused (membersTaken settings s rows attrs n i all) ≡ whole.Is u → AsMany all u
-  unfolding unless membersTaken sizedBy
-  taken-counts fault.Clear (members ms) p = record { list = ms; are = refl; many = sized-counts s attrs (runOf (settings .endian) rows i) (length ms) _ p }
+  unfolding unless membersTaken
+  taken-counts fault.Clear (members ms) p = record { list = ms; are = refl; many = sized-counts s attrs (runOf (settings .endian) rows i) (length ms) p }
   taken-counts fault.Clear (refused why) p = absurd (subst isNone p tt)
   taken-counts (fault.Refused why) all p = absurd (subst isNone p tt)
 

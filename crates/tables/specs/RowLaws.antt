@@ -139,13 +139,9 @@ pub rows-append : (t : List ℕ) (i : ℕ) (xs ys : List Row)
 unfolding rowKind
 rows-append t i xs ys = runs-append rowKind t i xs ys
 
-pub rows-back-from : (t : List ℕ) (i : ℕ) (xs : List Row) → (i + length xs) * rowWidth ≤ length t
-    → rowsFrom (sets t (i * rowWidth) (rowsWords xs)) i (length xs) ≡ xs
-unfolding rowKind
-rows-back-from t i xs h = all-back rowKind t i xs h
-
 pub rows-back : (t : List ℕ) (xs : List Row) → length xs * rowWidth ≤ length t → rowsFrom (sets t 0 (rowsWords xs)) 0 (length xs) ≡ xs
-rows-back t xs h = rows-back-from t 0 xs (omega arith)
+unfolding rowKind
+rows-back t xs h = all-back rowKind t 0 xs (omega arith)
 
 -- the attributes
 
@@ -154,10 +150,6 @@ pub attrs-append : (t : List ℕ) (i : ℕ) (xs ys : List Attr)
 unfolding attrKind
 attrs-append t i xs ys = runs-append attrKind t i xs ys
 
-pub attrs-back-from : (t : List ℕ) (i : ℕ) (xs : List Attr) → (i + length xs) * attrWidth ≤ length t
-    → attrsFrom (sets t (i * attrWidth) (attrsWords xs)) i (length xs) ≡ xs
-unfolding attrKind
-attrs-back-from t i xs h = all-back attrKind t i xs h
-
 pub attrs-back : (t : List ℕ) (xs : List Attr) → length xs * attrWidth ≤ length t → attrsFrom (sets t 0 (attrsWords xs)) 0 (length xs) ≡ xs
-attrs-back t xs h = attrs-back-from t 0 xs (omega arith)
+unfolding attrKind
+attrs-back t xs h = all-back attrKind t 0 xs (omega arith)

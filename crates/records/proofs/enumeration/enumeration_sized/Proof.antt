@@ -1,4 +1,6 @@
-use Rattle.records.specs.EnumerationLaws.{sized, sizeless}
+use Rattle.records.specs.Enumeration.{enumerationIs, sizedBy}
+use Rattle.records.specs.FieldsLaws.{byte-size-there, byte-size-missing}
+use Rattle.records.specs.declared.enumeration.EnumerationWhole.the-variants as whole
 use borrow.Author.Needs.{needs}
 use Prim.Native.Nat.{_-_}
 use Rattle.records.proofs.enumeration.enumeration_sized.Statement.{statement}
@@ -20,10 +22,12 @@ enum-known-why : tie.Need-enum-known-why
 enum-known-why c = search needs
 
 returns : tie.Need-returns
-returns c = sized _ _ _ _ (c .before .before .before .before .before .last-word .ensures) (c .before .before .before .before .needs .ensures) (c .before .before .size .given .1) (c .last-name .ensures)
+unfolding sizedBy
+returns c = byte-size-there whole.Refused (enumerationIs (c .before .before .before .before .before .before .before .before .args .members)) _ _ _ (c .before .before .before .before .before .last-word .ensures) (c .before .before .before .before .needs .ensures) (c .before .before .size .given .1) (c .last-name .ensures)
 
 returns-2 : tie.Need-returns-2
-returns-2 c = sizeless _ _ _ _ (c .before .before .before .before .last-word .ensures) (c .before .before .before .needs .ensures) (c .before .why .given .1)
+unfolding sizedBy
+returns-2 c = byte-size-missing whole.Refused (enumerationIs (c .before .before .before .before .before .before .before .args .members)) _ _ _ (c .before .before .before .before .last-word .ensures) (c .before .before .before .needs .ensures) (c .before .why .given .1)
 
 pub enumeration-sized-spec : {M : Type 1} → statement M
 enumeration-sized-spec =

@@ -1,9 +1,8 @@
-use Rattle.records.specs.Unions.{withSize, sizedBy}
-use Rattle.records.specs.FieldsLaws.{by-told, needed-told}
-use Rattle.records.specs.UnionsLaws.{union-whole}
+use Rattle.records.specs.Unions.{unionIs, sizedBy}
+use Rattle.records.specs.FieldsLaws.{byte-size-there, byte-size-missing}
+use Rattle.records.specs.declared.unions.UnionWhole.the-variants as whole
 use borrow.Author.Needs.{needs}
 use Prim.Native.Nat.{_-_}
-use mathlib.Core.Path.{refl}
 use Rattle.records.proofs.unions.union_sized.Statement.{statement}
 use Rattle.records.proofs.unions.union_sized.Tie as tie
 
@@ -24,11 +23,11 @@ enum-known-why c = search needs
 
 returns : tie.Need-returns
 unfolding sizedBy
-returns c = by-told (withSize _ _ _ _) (needed-told _ (c .before .before .before .before .before .last-word .ensures) (c .before .before .before .before .needs .ensures)) (c .before .before .size .given .1) (union-whole _ _ _ _ _ (c .last-name .ensures))
+returns c = byte-size-there whole.Refused (unionIs (c .before .before .before .before .before .before .before .before .args .members)) _ _ _ (c .before .before .before .before .before .last-word .ensures) (c .before .before .before .before .needs .ensures) (c .before .before .size .given .1) (c .last-name .ensures)
 
 returns-2 : tie.Need-returns-2
-unfolding sizedBy withSize
-returns-2 c = by-told (withSize _ _ _ _) (needed-told _ (c .before .before .before .before .last-word .ensures) (c .before .before .before .needs .ensures)) (c .before .why .given .1) refl
+unfolding sizedBy
+returns-2 c = byte-size-missing whole.Refused (unionIs (c .before .before .before .before .before .before .before .args .members)) _ _ _ (c .before .before .before .before .last-word .ensures) (c .before .before .before .needs .ensures) (c .before .why .given .1)
 
 pub union-sized-spec : {M : Type 1} → statement M
 union-sized-spec =
