@@ -1,4 +1,5 @@
-// Room for what is read. A contract says the length alone, so that callers' proofs do not look at so many words.
+// Room for what is read. A contract says the length alone. Only the longest section needs a function for that: written where it is lent, its bytes would
+// stand in the callers' proofs. The other rooms are here so that all sizes stand in one place.
 ghost use mathlib.Core.Path.{_≡_};
 ghost use lib.ListN.{length};
 
