@@ -7,12 +7,14 @@ use Rattle.numbers.specs.declared.unsigned.Read32 as read32
 use Rattle.numbers.specs.declared.unsigned.Read64 as read64
 use Rattle.attributes.specs.declared.decode.Endians.{Endians}
 
+-- an address, and a reference: four bytes
 abbrev pub addressAt : Endians → List ℕ → ℕ → read32.Read32
 addressAt ends s at = readAt read32.the-variants.Value read32.the-variants.Short (ends .section) 4 s at
 
 abbrev pub referenceAt : Endians → List ℕ → ℕ → read32.Read32
 referenceAt ends s at = readAt read32.the-variants.Value read32.the-variants.Short (ends .section) 4 s at
 
+-- data of 2, 4 and 8 bytes
 abbrev pub data2At : Endians → List ℕ → ℕ → read16.Read16
 data2At ends s at = readAt read16.the-variants.Value read16.the-variants.Short (ends .«data») 2 s at
 

@@ -10,6 +10,7 @@ use Rattle.blocks.specs.Location.{refusedBlock}
 use Rattle.blocks.specs.declared.modifiers.Modifiers.{Modifiers}
 use Rattle.blocks.specs.declared.modifiers.Modifiers.the-variants.{Known, Refused}
 
+-- a modifier that document 01 names
 unfoldable pub isKnown : Modifier → Bool
 isKnown MwPointerTo = true
 isKnown PointerTo = true
@@ -27,6 +28,7 @@ isPointer Const = false
 isPointer Volatile = false
 isPointer Unknown = false
 
+-- each byte says one that is known
 unfoldable pub allKnown : List ℕ → Bool
 allKnown [] = true
 allKnown (m ∷ rest) = isKnown (modifierOf m) && allKnown rest

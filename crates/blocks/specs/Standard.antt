@@ -13,12 +13,15 @@ pub record Atom : Type 0 where
   pub op : LocationOp
   pub operand : ℕ
 
+-- an atom and its operand
 abbrev pub atom : LocationOp → ℕ → Atom
 atom op n = record { op = op; operand = n }
 
+-- its bytes
 unfoldable pub writtenAtom : Endian → Atom → List ℕ
 writtenAtom e a = atomNumber (a .op) ∷ bytesOf e (operandWidth (a .op)) (a .operand)
 
+-- the bytes of a location
 unfoldable pub written : Endian → List Atom → List ℕ
 written e [] = []
 written e (a ∷ atoms) = writtenAtom e a ++ written e atoms

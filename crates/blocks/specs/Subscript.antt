@@ -35,6 +35,7 @@ unfoldable pub lowBound : Endian → List ℕ → ℕ → Index
 lowBound e block t =
     readAt (λ low. cond (eqb low 0) (index.Is t) (index.Refused (refusedBlock reason.Bound))) (index.Refused (refusedBlock reason.Block)) e 4 block 3
 
+-- an index type that is known, and the low bound after it
 unfoldable pub knownIndex : Endian → List ℕ → FundType → Index
 knownIndex e block (fund.Known t) = lowBound e block t
 knownIndex e block fund.Unknown = index.Refused (refusedBlock reason.Number)
@@ -58,6 +59,7 @@ oneMore high = cond (eqb high 0xFFFFFFFF) 0 (high + 1)
 unfoldable pub highBound : Endian → List ℕ → ℕ → Subscript
 highBound e block t = readAt (λ high. Dimension t (oneMore high) 11) (Refused (refusedBlock reason.Block)) e 4 block 7
 
+-- index type, low bound, high bound
 unfoldable pub constBound : Endian → List ℕ → Subscript
 constBound e block = indexed (highBound e block) (indexAt e block)
 
@@ -67,10 +69,12 @@ constBound e block = indexed (highBound e block) (indexAt e block)
 unfoldable pub locationSize : Endian → List ℕ → Located
 locationSize e location = cond (eqb (length location) 0) (located.Is 0) (offsetOf e location)
 
+-- a dimension of this size, which took so many bytes
 unfoldable pub asDimension : ℕ → ℕ → Located → Subscript
 asDimension t used (located.Is size) = Dimension t size used
 asDimension t used (located.Refused why) = Refused why
 
+-- a dimension whose size these bytes say; they begin at 9
 unfoldable pub sizedDimension : Endian → ℕ → List ℕ → Subscript
 sizedDimension e t location = asDimension t (9 + length location) (locationSize e location)
 
@@ -82,11 +86,13 @@ sizedBy e block t n = cond (there block 9 n) (sizedDimension e t (partAt block 9
 unfoldable pub highLocation : Endian → List ℕ → ℕ → Subscript
 highLocation e block t = readAt (sizedBy e block t) (Refused (refusedBlock reason.Block)) e 2 block 7
 
+-- index type, low bound, location
 unfoldable pub locationBound : Endian → List ℕ → Subscript
 locationBound e block = indexed (highLocation e block) (indexAt e block)
 
 -- ---- format 8: a type attribute, all of it in section endianness
 
+-- an element type, which took so many bytes
 unfoldable pub elementOf : ℕ → Typed → Subscript
 elementOf used (typed.Is t) = Element t used
 elementOf used (typed.Refused why) = Refused why
@@ -97,11 +103,13 @@ elementAs e block (attribute.Read number value next) = elementOf next (typeAt (r
 elementAs e block (attribute.Short field) = Refused (refusedBlock reason.Block)
 elementAs e block (attribute.Unknown field) = Refused (refusedBlock reason.Block)
 
+-- the attribute behind the format
 unfoldable pub elementAt : Endian → List ℕ → Subscript
 elementAt e block = elementAs e block (readAttribute [] e block 1)
 
 -- ---- the subscript that a block begins with
 
+-- by its format; those that document 01 does not take are 17
 unfoldable pub subscriptAs : Endian → List ℕ → SubscriptFormat → Subscript
 subscriptAs e block FundTypeConstConst = constBound e block
 subscriptAs e block FundTypeConstLocation = locationBound e block

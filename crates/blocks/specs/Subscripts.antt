@@ -68,10 +68,12 @@ pub record Walked (e : Endian) (block : List ℕ) (r : Counted) (room room′ : 
 
 -- ---- into lent room: 8 last, with the count; on a refusal the room stays as it was
 
+-- an outcome: the answer, and what the lent room then holds
 pub record Outcome : Type 0 where
   pub answer : Subscripts
   pub room : List ℕ
 
+-- a dimension is two words
 unfoldable pub intoRoom : List ℕ → List ℕ → Counted → Outcome
 intoRoom words room (counted.Are t n) =
     cond (leb n (length room / 2)) (record { answer = subscripts.Read t n; room = sets room 0 words }) (record { answer = subscripts.Room n; room = room })

@@ -48,7 +48,7 @@ fundType ends s at = readAt (fundamental at []) (Refused (refusedBlock reason.Bl
 unfoldable pub userDefType : Endians → List ℕ → ℕ → Typed
 userDefType ends s at = readAt (λ key. modified at [] (UserDefined key)) (Refused (refusedBlock reason.Block)) (ends .section) 4 s at
 
--- a block of modifiers and then w bytes, from `place` on: what those bytes say
+-- a block of modifiers and then w bytes: the type that `type` makes of the modifiers and of the number which those bytes say; 17 where there are fewer
 unfoldable pub lastOf : ℕ → Endian → List ℕ → (List ℕ → ℕ → Typed) → Typed
 lastOf w e block type =
     cond (leb w (length block)) (type (take (length block - w) block) (valueOf e w block (length block - w))) (Refused (refusedBlock reason.Block))

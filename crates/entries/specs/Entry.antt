@@ -36,6 +36,7 @@ unfoldable pub littleFlag : Endian → ℕ
 littleFlag Big = 0
 littleFlag Little = 4
 
+-- a flag that counts so much
 unfoldable pub flagOf : Bool → ℕ → ℕ
 flagOf on value = cond on value 0
 
@@ -71,6 +72,7 @@ module _ (vendors : List ℕ) (global : ℕ) (s : List ℕ) where
   unfoldable pub attributes : Endian → Bool → ℕ → ℕ → Run
   attributes e root end at = runFrom vendors global s e root end (suc (length s)) false (at + 6)
 
+  -- an erased root, once its data endianness is known
   unfoldable pub rootIn : ℕ → ℕ → ℕ → Look → Entry
   rootIn at end a (Is e) = rooted e at end a (attributes e true end at)
   rootIn at end a Short = stop reason.Short

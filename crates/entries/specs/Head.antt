@@ -26,5 +26,6 @@ unfoldable pub sizeHead : Bool → List ℕ → Endian → ℕ → ℕ → Head
 sizeHead erased s e at size =
     cond (ltb size 8) (Null (nullEnd at size)) (readAt (tagHead erased (at + size)) (Refused reason.Short) e 2 s (at + 4))
 
+-- what the entry at `at` begins with: short where size or tag is not there
 unfoldable pub headAt : Bool → List ℕ → Endian → ℕ → Head
 headAt erased s e at = readAt (sizeHead erased s e at) (Refused reason.Short) e 4 s at

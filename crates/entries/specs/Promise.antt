@@ -35,17 +35,20 @@ HeadBounds s at (Root end) = (at + 6 ≤ length s) × (end ≤ at + 2 ^ 32)
 HeadBounds s at (Ordinary kind end) = (at + 6 ≤ length s) × (end ≤ at + 2 ^ 32)
 HeadBounds s at (Refused why) = Unit
 
+-- what reading a head answers
 pub record HeadRead (s : List ℕ) (at : ℕ) (what r : Head) : Type 0 where
   pub answer : r ≡ what
   pub bounds : HeadBounds s at r
 
 -- ---- an entry's attributes
 
+-- asked of reading attributes: the place is inside, and no more attributes than bytes came before
 pub record RunReady (s : List ℕ) (at attrs : ℕ) : Type 0 where
   pub small : length s < sectionLimit
   pub here : at ≤ length s
   pub few : attrs ≤ at
 
+-- the code's answer: place and count go on, `attrs` being the count before
 unfoldable pub runAnswer : ℕ → Run → run.Run
 runAnswer attrs (ran xs high place) = run.the-variants.Ran place (attrs + length xs) high
 runAnswer attrs (failed why) = run.the-variants.Refused why
@@ -57,10 +60,12 @@ pub record RunStored (s : List ℕ) (at attrs : ℕ) (xs : List Attr) (place : �
   pub forward : at ≤ place
   pub here : place ≤ length s
 
+-- what is said of the table; of a refusal nothing: it comes while empty tables count
 abbrev pub RunStores : List ℕ → ℕ → ℕ → Run → List ℕ → List ℕ → Type 0
 RunStores s at attrs (ran xs high place) table₀ table₁ = RunStored s at attrs xs place table₀ table₁
 RunStores s at attrs (failed why) table₀ table₁ = Unit
 
+-- what reading attributes answers and stores
 pub record RunRead (s : List ℕ) (at attrs : ℕ) (what : Run) (r : run.Run) (table₀ table₁ : List ℕ) : Type 0 where
   pub answer : r ≡ runAnswer attrs what
   pub stores : RunStores s at attrs what table₀ table₁
@@ -75,6 +80,7 @@ farthest = 2 ^ 33
 abbrev pub start : State
 start = record { at = 0; rows = 0; attrs = 0 }
 
+-- asked of reading entries: no more rows and attributes than bytes came before
 pub record Ready (s : List ℕ) (from : State) : Type 0 where
   pub small : length s < sectionLimit
   pub rows-few : from .rows ≤ from .at
@@ -105,6 +111,7 @@ pub record NullReady (from : State) (place : ℕ) : Type 0 where
   pub rows-few : from .rows ≤ from .at
   pub attrs-few : from .attrs ≤ from .at
 
+-- what storing it answers
 pub record NullRead (from : State) (isErased : Bool) (e : Endian) (place : ℕ) (r : entry.Entry) (rows₀ rows₁ : List ℕ) : Type 0 where
   pub answer : r ≡ entry.the-variants.Next (advanced from 1 0 place)
   pub words : rows₁ ≡ sets rows₀ (from .rows * rowWidth) (rowsWords (row isErased false e (from .at) tag.Padding (from .attrs) [] ∷ []))
@@ -114,10 +121,12 @@ pub record BodyReady (s : List ℕ) (from : State) : Type 0 where
   pub ready : Ready s from
   pub here : from .at + 6 ≤ length s
 
+-- the code's answer: one row more, and the attributes
 unfoldable pub bodyAnswer : State → Run → Body
 bodyAnswer from (ran xs high place) = body.Read (advanced from 1 (length xs) place)
 bodyAnswer from (failed why) = body.Refused why
 
+-- what is said of the tables
 abbrev pub BodyStores : List ℕ → State → Shape → Run → List ℕ → List ℕ → List ℕ → List ℕ → Type 0
 BodyStores s from shape (ran xs high place) rows₀ rows₁ attrs₀ attrs₁ =
     Stored from (row (shape .erased) (shape .root) (shape .endian) (from .at) (kindOf (shape .root) (shape .kind) high) (from .attrs) xs ∷ []) xs place rows₀ rows₁
@@ -125,10 +134,12 @@ BodyStores s from shape (ran xs high place) rows₀ rows₁ attrs₀ attrs₁ =
     × Taken s from place
 BodyStores s from shape (failed why) rows₀ rows₁ attrs₀ attrs₁ = Unit
 
+-- what reading a body answers and stores
 pub record BodyRead (s : List ℕ) (from : State) (shape : Shape) (what : Run) (r : Body) (rows₀ rows₁ attrs₀ attrs₁ : List ℕ) : Type 0 where
   pub answer : r ≡ bodyAnswer from what
   pub stores : BodyStores s from shape what rows₀ rows₁ attrs₀ attrs₁
 
+-- the same three of an entry
 unfoldable pub entryAnswer : State → Entry → entry.Entry
 entryAnswer from (next rs xs place) = entry.the-variants.Next (advanced from (length rs) (length xs) place)
 entryAnswer from (inside r xs place e end) = entry.the-variants.Inside (advanced from 1 (length xs) place) e end
@@ -144,6 +155,7 @@ pub record EntryRead (s : List ℕ) (from : State) (what : Entry) (r : entry.Ent
   pub answer : r ≡ entryAnswer from what
   pub stores : EntryStores s from what rows₀ rows₁ attrs₀ attrs₁
 
+-- and of entries one after the other
 unfoldable pub walkAnswer : State → Walk → walk.Walk
 walkAnswer from (walked rs xs place) = walk.the-variants.Walked (advanced from (length rs) (length xs) place)
 walkAnswer from (refused why place) = walk.the-variants.Refused why place

@@ -19,6 +19,7 @@ pub data Run : Type 0 where
   ran : List Attr → Bool → ℕ → Run
   failed : Reason → Run
 
+-- an attribute: its number and the place of its value
 abbrev pub attr : ℕ → ℕ → Attr
 attr n value = record { number = n; value = value }
 

@@ -24,6 +24,7 @@ unfoldable pub wholeWalk : Settings → List ℕ → List ℕ → Walk
 wholeWalk settings vendors s =
     walkAt vendors (settings .roles .«global_ref») (settings .erased) s erasedLimit false (settings .endian) (length s) 0 0
 
+-- a refusal with its place, and counts of rows and attributes
 abbrev pub refusal : Reason → ℕ → Section
 refusal why at = Refused (record { reason = why; place = at })
 
@@ -68,13 +69,16 @@ pub record SectionRead (o : Outcome) (r : Section) (rows attrs : List ℕ) : Typ
 
 -- ---- reading and counting alone: whatever the limits, and with no tables
 
+-- a refusal of counting
 abbrev pub uncounted : Reason → ℕ → Count
 uncounted why at = count.Refused (record { reason = why; place = at })
 
+-- how many rows and attributes were read
 unfoldable pub counted : Walk → Count
 counted (walked rs xs at) = count.Counted (counts (length rs) (length xs))
 counted (refused why at) = uncounted why at
 
+-- 1, then 2, then what reading meets
 unfoldable pub countSection : Settings → List ℕ → List ℕ → List ℕ → Count
 countSection settings vendors sizes s =
     cond (settingsHold settings vendors sizes) (cond (ltb (length s) sectionLimit) (counted (wholeWalk settings vendors s)) (uncounted reason.Long 0))

@@ -58,9 +58,11 @@ pub record Attribute (vendors : List ℕ) (e : Endian) : Type 0 where
   pub written : Written e (formOf kind) value body
 
 module _ (vendors : List ℕ) (e : Endian) where
+  -- an attribute: two bytes of number, then the bytes of its value
   unfoldable pub writtenAttribute : Attribute vendors e → List ℕ
   writtenAttribute a = bytesOf e 2 (a .kind) ++ a .body
 
+  -- attributes, and below entries, one after the other
   unfoldable pub writtenAttributes : List (Attribute vendors e) → List ℕ
   writtenAttributes [] = []
   writtenAttributes (a ∷ rest) = writtenAttribute a ++ writtenAttributes rest
@@ -86,6 +88,7 @@ module _ (vendors : List ℕ) (e : Endian) where
 
   -- ---- what a reader must find: the attributes with the places of their values, the rows with their keys
 
+  -- of attributes from `at` on: a value stands two bytes behind its number
   unfoldable pub attrsFrom : ℕ → List (Attribute vendors e) → List Attr
   attrsFrom at [] = []
   attrsFrom at (a ∷ rest) = record { number = a .kind; value = at + 2 } ∷ attrsFrom (at + length (writtenAttribute a)) rest

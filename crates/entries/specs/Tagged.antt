@@ -9,6 +9,7 @@ use Rattle.numbers.specs.Written.{bytesOf}
 use Rattle.numbers.specs.Stands.{Stands, front-stands, back-stands, both-stand}
 use Rattle.numbers.specs.WrittenLaws.{bytes-length}
 
+-- they stand at `at`
 pub record Tagged (e : Endian) (s : List ℕ) (at size kind : ℕ) (body : List ℕ) : Type 0 where
   pub size-stands : Stands s at (bytesOf e 4 size)
   pub tag-stands : Stands s (at + 4) (bytesOf e 2 kind)

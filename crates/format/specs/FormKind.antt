@@ -7,6 +7,7 @@ use Rattle.format.specs.Lookup.{Line, _means_, lookup}
 use Rattle.format.specs.declared.form_kind.FormKind.{FormKind}
 use Rattle.format.specs.declared.form_kind.FormKind.the-variants.{Addr, Ref, Block2, Block4, Data2, Data4, Data8, String, Undefined}
 
+-- the form that each number says; any other has none, `Undefined`
 unfoldable pub forms : List (Line FormKind)
 forms =
     0x1 means Addr ∷

@@ -19,6 +19,7 @@ pub record Line (A : Type 0) : Type 0 where
   pub number : ℕ
   pub meaning : A
 
+-- a line, as the tables write it
 infix 80 _means_
 abbrev pub _means_ : {A : Type 0} → ℕ → A → Line A
 n means a = record { number = n; meaning = a }

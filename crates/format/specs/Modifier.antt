@@ -5,6 +5,7 @@ use Rattle.format.specs.Lookup.{Line, _means_, lookup}
 use Rattle.format.specs.declared.modifier.Modifier.{Modifier}
 use Rattle.format.specs.declared.modifier.Modifier.the-variants.{MwPointerTo, PointerTo, ReferenceTo, Const, Volatile, Unknown}
 
+-- the number of each; 0 is Metrowerks' own
 unfoldable pub modifiers : List (Line Modifier)
 modifiers =
     0x00 means MwPointerTo ∷

@@ -36,6 +36,8 @@ plays role number = not (eqb role 0) && eqb number role
 unfoldable pub rolesDiffer : ℕ → ℕ → Bool
 rolesDiffer a b = eqb a 0 || not (eqb a b)
 
+-- the four roles: each absent or on the list; of those that are there, the two names are texts (form 8) and the overlay's number has four bytes (form 6); no two
+-- are the same number
 unfoldable pub rolesHold : List ℕ → Roles → Bool
 rolesHold vendors r =
     (roleHolds vendors (r .«global_ref») && roleHolds vendors (r .mangled) && roleHolds vendors (r .«overlay_name») && roleHolds vendors (r .«overlay_id»))

@@ -5,6 +5,7 @@ use Rattle.format.specs.Lookup.{Line, _means_, lookup}
 use Rattle.format.specs.declared.subscript_format.SubscriptFormat.{SubscriptFormat}
 use Rattle.format.specs.declared.subscript_format.SubscriptFormat.the-variants.{FundTypeConstConst, FundTypeConstLocation, FundTypeLocationConst, FundTypeLocationLocation, UserTypeConstConst, UserTypeConstLocation, UserTypeLocationConst, UserTypeLocationLocation, ElementType, Unknown}
 
+-- the number of each; 8 is the element type
 unfoldable pub subscriptFormats : List (Line SubscriptFormat)
 subscriptFormats =
     0x0 means FundTypeConstConst ∷

@@ -39,6 +39,7 @@ unfoldable pub asReference : Read32 → Reference
 asReference (read32.Value key) = reference.To key
 asReference read32.Short = reference.Nothing
 
+-- the reference that an attribute of the table says
 unfoldable pub referenceBy : Endian → List ℕ → List ℕ → Found → Reference
 referenceBy e s attrs (At k) = asReference (readAt read32.Value read32.Short e 4 s (attrAt attrs k .value))
 referenceBy e s attrs Nothing = reference.Nothing

@@ -34,10 +34,12 @@ given rows key room (ends cs) =
     (outcome (Room (length (nonNull rows cs))) room)
 given rows key room endless = outcome (Refused (refusedAt key reason.Link)) room
 
+-- of the row that was found; 11 at the key where there is none
 unfoldable pub childrenBy : Endian → List ℕ → List ℕ → List ℕ → ℕ → ℕ → List ℕ → Found → Outcome
 childrenBy e s rows attrs n key room (At i) = given rows key room (childWalk e s rows attrs n i)
 childrenBy e s rows attrs n key room Nothing = outcome (Refused (refusedAt key reason.Entry)) room
 
+-- `children`: the tests, then the row of the key
 unfoldable pub childrenOf : Settings → List ℕ → List ℕ → List ℕ → List ℕ → List ℕ → Counts → ℕ → List ℕ → Outcome
 childrenOf settings vendors sizes s rows attrs counts key room =
     tested settings vendors sizes s rows attrs counts (λ why. outcome (Refused why) room)

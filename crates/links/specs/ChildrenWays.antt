@@ -15,6 +15,7 @@ pub record Filled : Type 0 where
   pub answer : Kids
   pub room : List ℕ
 
+-- of an endless walk there is nothing to count
 unfoldable pub filled : List ℕ → ℕ → List ℕ → Walk → Filled
 filled rows k room (ends cs) = record { answer = Count (k + length (nonNull rows cs)); room = sets room k (nonNull rows cs) }
 filled rows k room endless = record { answer = Endless; room = [] }

@@ -12,6 +12,7 @@ unfoldable pub rowsMet : Walk → List ℕ
 rowsMet (ends cs) = cs
 rowsMet endless = []
 
+-- the walk ends
 unfoldable pub isEnding : Walk → Bool
 isEnding (ends cs) = true
 isEnding endless = false

@@ -7,7 +7,7 @@ pub mod Children
 pub mod Kids
 pub mod Neighbour
 pub mod Typed
--- Laws.
+-- Laws, and how the code gathers children (`ChildrenWays`).
 pub mod AttributeLaws
 pub mod LinkLaws
 pub mod ChildrenWays

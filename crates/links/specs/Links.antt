@@ -25,6 +25,7 @@ nextFrom rows asking i (suc k) = cond (asking || not (erasedRow (rowAt rows i .f
 unfoldable pub nextRow : List ℕ → ℕ → ℕ → ℕ
 nextRow rows n i = nextFrom rows (erasedRow (rowAt rows i .flags)) (suc i) (n - suc i)
 
+-- a row that was looked for, n where there is none
 unfoldable pub rowNumber : ℕ → Found → ℕ
 rowNumber n (At j) = j
 rowNumber n Nothing = n

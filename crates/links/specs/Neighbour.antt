@@ -31,11 +31,13 @@ unfoldable pub neighbourBy : (ℕ → ℕ) → ℕ → ℕ → Found → Neighbo
 neighbourBy to n key (At i) = answerOf n (to i)
 neighbourBy to n key Nothing = Refused (refusedAt key reason.Entry)
 
+-- the next row of the row of a key
 unfoldable pub nextOf : Settings → List ℕ → List ℕ → List ℕ → List ℕ → List ℕ → Counts → ℕ → Neighbour
 nextOf settings vendors sizes s rows attrs counts key =
     tested settings vendors sizes s rows attrs counts Refused
     (neighbourBy (λ i. nextRow rows (counts .rows) i) (counts .rows) key (rowOfKey rows (counts .rows) key))
 
+-- its sibling
 unfoldable pub siblingOf : Settings → List ℕ → List ℕ → List ℕ → List ℕ → List ℕ → Counts → ℕ → Neighbour
 siblingOf settings vendors sizes s rows attrs counts key =
     tested settings vendors sizes s rows attrs counts Refused

@@ -9,6 +9,7 @@ pub data Walk : Type 0 where
   ends : List ℕ → Walk
   endless : Walk
 
+-- a walk that first meets row c
 unfoldable pub meets : ℕ → Walk → Walk
 meets c (ends cs) = ends (c ∷ cs)
 meets c endless = endless

@@ -1,4 +1,6 @@
-// Links between the rows of a table: attribute lookup, next row, sibling, children. It stands for the Rust's `impl Tag`.
+// Links between the rows of a table: attribute lookup, next row, sibling, children. It stands for the Rust's `impl Tag`. Read `lookup` (in a row), `link` (from a row to
+// another), `children` and `kids` (all of a row's, and one at a time); `neighbour`, `typed` and `children` have the public calls, which take a key. What it means: specs/Links.antt
+// and the files that specs/Lib.antt names.
 pub mod children;
 pub mod kids;
 pub mod link;

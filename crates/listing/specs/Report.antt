@@ -18,11 +18,12 @@ use Rattle.tree.specs.declared.listing.Listing.{Listing}
 use Rattle.tree.specs.declared.listing.Listing.the-variants as listing
 use Rattle.listing.specs.Text.{refusalText, listingText}
 
--- big-endian, erased entries out, no vendor numbers, each size 4
+-- big-endian, erased entries out, no vendor numbers
 abbrev pub listingSettings : Settings
 listingSettings =
     record { endian = Big; erased = false; producer = Other; roles = record { «global_ref» = 0; mangled = 0; «overlay_name» = 0; «overlay_id» = 0 } }
 
+-- the sizes of the 28 fundamental types
 unfoldable pub listingSizes : List ℕ
 listingSizes = replicate 28 4
 
@@ -79,5 +80,6 @@ inputText longer s = cond longer roomText (reportText s)
 pub record FewRead (answer : Section) : Type 0 where
   pub few : (counts : Counts) → answer ≡ Read counts → counts .rows ≤ 1024
 
+-- and no more places
 pub record FewListed (answer : Listing) : Type 0 where
   pub few : (n : ℕ) → answer ≡ listing.Listed n → n ≤ 1024

@@ -20,6 +20,7 @@ unfoldable pub widthFrom : ℕ → ℕ → ℕ
 widthFrom zero v = 1
 widthFrom (suc f) v = cond (ltb v 10) 1 (suc (widthFrom f (v / 10)))
 
+-- v turns are enough
 unfoldable pub decimalWidth : ℕ → ℕ
 decimalWidth v = widthFrom v v
 

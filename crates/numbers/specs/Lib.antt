@@ -1,6 +1,7 @@
--- Numbers and endianness: what the bytes at a place say. Read `Value` first: it is what must be believed. `Prefix` is the comparison with
--- fixed bytes, `Written` how the standard writes a number. `ValueLaws` holds what follows, `Stands` what it is that bytes stand at a place, `WrittenLaws` that
--- what is written is read and the other way round, and `Only` that no second answer fits.
+-- Numbers and endianness: what the bytes at a place say. What must be believed: `Value` (read it first), `Prefix` (the comparison with fixed bytes) and
+-- `Written` (how the standard writes a number). The rest are laws: `ValueLaws`, `SignedLaws`, `ReadLaws` and `PrefixLaws` (what the code computes), `Append` (bytes
+-- behind and in front of a section), `Stands` (what it is that bytes stand at a place), `WrittenLaws` (what is written is read, and the other way round), `Tests`
+-- (truth values, for every crate), `Only` (no second answer fits).
 pub mod Value
 pub mod Prefix
 pub mod PrefixLaws

@@ -8,6 +8,7 @@ use mathlib.Core.List.{List, [], _∷_, _++_}
 use lib.ListN.{length, getD, take, drop, length-append, length-drop, List·getD-append}
 use lib.Seq.{length-take-le, getD-append-add, getD-take, getD-drop, ext-getD}
 
+-- the bytes xs stand in s from `at` on
 pub record Stands (s : List ℕ) (at : ℕ) (xs : List ℕ) : Type 0 where
   pub fits : at + length xs ≤ length s
   pub same : (i : ℕ) → i < length xs → getD s (at + i) 0 ≡ getD xs i 0

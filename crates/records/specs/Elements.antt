@@ -39,10 +39,12 @@ namedFrom block at value =
 unfoldable pub nameFrom : List ℕ → ℕ → Element
 nameFrom block at = cond (ltb (zeroFrom block at) (length block)) (element.Name (zeroFrom block at + 1)) element.Missing
 
+-- a value that was read, and its name behind it
 unfoldable pub valued : ℕ → List ℕ → ℕ → ReadSigned → Element
 valued width block at (signed.Value value) = namedFrom block (at + width) value
 valued width block at signed.Short = element.Missing
 
+-- the element at a place of the block
 unfoldable pub elementAt : ℕ → Endian → List ℕ → ℕ → Element
 elementAt width e block at = cond (eqb width 0) (nameFrom block at) (valued width block at (valueAt width e block at))
 
@@ -59,6 +61,7 @@ pub data Elements : Type 0 where
   are : List Listed → Elements
   missing : Elements
 
+-- one element more, before the others
 unfoldable pub andThen : Listed → Elements → Elements
 andThen x (are xs) = are (x ∷ xs)
 andThen x missing = missing
@@ -84,6 +87,7 @@ elementsIn width e base block = elementsFrom width e base block (length block) 0
 
 -- ---- in the rooms
 
+-- the value of each
 unfoldable pub valuesOf : List Listed → List ℤ
 valuesOf [] = []
 valuesOf (x ∷ xs) = x .value ∷ valuesOf xs

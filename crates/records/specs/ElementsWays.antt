@@ -27,6 +27,7 @@ valueWords x = x .value ∷ []
 abbrev pub nameWords : Listed → List ℕ
 nameWords x = x .place ∷ x .length ∷ []
 
+-- an element that is listed
 abbrev pub listedAs : ℤ → ℕ → ℕ → Listed
 listedAs value place len = record { value = value; place = place; length = len }
 
@@ -42,6 +43,7 @@ unfoldable pub storeAll : {A : Type 0} → (Listed → List A) → ℕ → Slots
 storeAll words width slots k [] room = room
 storeAll words width slots k (x ∷ xs) room = storeAll words width slots (suc k) xs (sets room (slotOf slots k * width) (words x))
 
+-- the values: a word each; the names: two
 abbrev pub storeValues : Slots → ℕ → List Listed → List ℤ → List ℤ
 storeValues slots k xs room = storeAll valueWords 1 slots k xs room
 

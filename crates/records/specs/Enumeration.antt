@@ -74,10 +74,12 @@ isGcc Mwcc = false
 isGcc Gcc = true
 isGcc Other = false
 
+-- the last first
 unfoldable pub reversed : List Listed → List Listed
 reversed [] = []
 reversed (x ∷ xs) = reversed xs ++ (x ∷ [])
 
+-- the members in the order in which they are handed out
 unfoldable pub inOrder : Producer → List Listed → List Listed
 inOrder producer xs = cond (isGcc producer) (reversed xs) xs
 
@@ -92,9 +94,11 @@ unfoldable pub sizedBy : List ℕ → List ℕ → Run → ℕ → EnumerationWh
 sizedBy s attrs run members = byteSized whole.Refused (enumerationIs members) s attrs run
 
 module _ (settings : Settings) (s rows attrs : List ℕ) (n i : ℕ) where
+  -- the row's attributes
   abbrev theRun : Run
   theRun = runOf (settings .endian) rows i
 
+  -- what they list
   unfoldable pub rowLists : Lists
   rowLists = listsFrom settings s attrs theRun 0 (theRun .count)
 
@@ -104,6 +108,7 @@ module _ (settings : Settings) (s rows attrs : List ℕ) (n i : ℕ) where
       unless (childlessFault rows i (childWalk (settings .endian) s rows attrs n i)) whole.Refused
       (sizedBy s attrs theRun members)
 
+  -- the enumeration with what was listed
   unfoldable pub listedBy : Lists → EnumerationWhole
   listedBy (listed xs) = enumerationEnd (length xs)
   listedBy (refused why) = whole.Refused why
@@ -114,6 +119,7 @@ module _ (settings : Settings) (s rows attrs : List ℕ) (n i : ℕ) where
 
 -- ---- into lent room: 8 last, with the count
 
+-- an outcome: the answer, and what the two lent rooms then hold
 pub record Outcome : Type 0 where
   pub answer : EnumerationRead
   pub values : List ℤ
@@ -128,6 +134,7 @@ listInto producer values names (listed xs) answer =
     outcome answer (sets values 0 (valuesOf (inOrder producer xs))) (sets names 0 (namesOf (inOrder producer xs)))
 listInto producer values names (refused why) answer = outcome answer values names
 
+-- a member is one value, and two words of names
 unfoldable pub intoRooms : Producer → List ℤ → List ℕ → Lists → EnumerationWhole → Outcome
 intoRooms producer values names lists (whole.Is e) =
     cond (leb (e .members) (length values) && leb (e .members) (length names / 2)) (listInto producer values names lists (Is e)) (outcome (Room (e .members)) values names)

@@ -58,6 +58,7 @@ module _ (settings : Settings) (s attrs : List ℕ) (run : Run) where
     pub values-are : values′ ≡ storeValues slots count added values
     pub names-are : names′ ≡ storeNames slots count added names
 
+  -- what a step answers: it goes on, or the refusal is that of the whole
   abbrev pub Steps : Slots → ℕ → ℕ → Step → List ℤ → List ℤ → List ℕ → List ℕ → Type 0
   Steps slots j count (step.Next at more) values values′ names names′ = Advanced slots j count at more values values′ names names′
   Steps slots j count (step.Refused why) values values′ names names′ = restFrom j ≡ refused why

@@ -57,6 +57,7 @@ lastOf what attrs run = lastFrom what attrs (run .first) (run .count)
 unfoldable pub textOf : List ℕ → ℕ → Text
 textOf s at = record { place = at; length = zeroFrom s at - at }
 
+-- the text of an attribute of the table
 unfoldable pub nameBy : List ℕ → List ℕ → Found → Name
 nameBy s attrs (found.At k) = name.Is (textOf s (attributeAt attrs k .value))
 nameBy s attrs found.Nothing = name.Nothing
@@ -78,15 +79,18 @@ typeBy s attrs run (found.At k) =
     replaced (run .key) (typeAt (run .ends) s (attributeAt attrs k .number) (attributeAt attrs k .value))
 typeBy s attrs run found.Nothing = typed.Refused (refusedAt (run .key) reason.Missing)
 
+-- the type that the last type attribute says
 unfoldable pub typeOf : List ℕ → List ℕ → Run → Typed
 typeOf s attrs run = typeBy s attrs run (lastOf sought.Type attrs run)
 
 -- ---- locations
 
+-- a refusal is placed at the row
 unfoldable pub asOffset : ℕ → Located → Needed
 asOffset key (located.Is x) = need.Is x
 asOffset key (located.Refused why) = need.Refused (refusedAt key (why .reason))
 
+-- the offset that a location says
 unfoldable pub offsetIn : Run → List ℕ → Needed
 offsetIn run block = asOffset (run .key) (offsetOf (run .ends .section) block)
 
@@ -95,6 +99,7 @@ unfoldable pub offsetBy : List ℕ → List ℕ → Run → Found → Needed
 offsetBy s attrs run (found.At k) = offsetIn run (blockAt (run .ends .«data») 2 s (attributeAt attrs k .value))
 offsetBy s attrs run found.Nothing = need.Refused (refusedAt (run .key) reason.Missing)
 
+-- the offset of the row's last location
 unfoldable pub offsetField : List ℕ → List ℕ → Run → Needed
 offsetField s attrs run = offsetBy s attrs run (lastOf (sought.Number attribute.Location) attrs run)
 
@@ -103,9 +108,11 @@ unfoldable pub asAddress : Located → Word
 asAddress (located.Is x) = word.Is x
 asAddress (located.Refused why) = word.Nothing
 
+-- the address that a location says
 unfoldable pub addressIn : Run → List ℕ → Word
 addressIn run block = asAddress (addressOf (run .ends .section) block)
 
+-- the address of an attribute of the table
 unfoldable pub addressBy : List ℕ → List ℕ → Run → Found → Word
 addressBy s attrs run (found.At k) = addressIn run (blockAt (run .ends .«data») 2 s (attributeAt attrs k .value))
 addressBy s attrs run found.Nothing = word.Nothing
@@ -116,6 +123,7 @@ addressField s attrs run = addressBy s attrs run (lastOf (sought.Number attribut
 
 -- ---- numbers
 
+-- a number that is there, or none
 unfoldable pub asWord : Value → Word
 asWord (value.Is x) = word.Is x
 asWord value.Nothing = word.Nothing
@@ -125,6 +133,7 @@ asWord (value.Refused why) = word.Nothing
 unfoldable pub wordIn : List ℕ → Run → Attribute → Word
 wordIn s run a = asWord (wordAt (formOf (a .number)) s (record { at = a .value; ends = run .ends }))
 
+-- the number of an attribute of the table
 unfoldable pub wordBy : List ℕ → List ℕ → Run → Found → Word
 wordBy s attrs run (found.At k) = wordIn s run (attributeAt attrs k)
 wordBy s attrs run found.Nothing = word.Nothing
@@ -147,6 +156,7 @@ needed key word.Nothing = need.Refused (refusedAt key reason.Missing)
 
 -- ---- visibility
 
+-- what one of the three attributes says; nothing but their numbers is looked at
 unfoldable pub visibilityBy : ℕ → Visibility
 visibilityBy number = cond (eqb number attribute.Private) visibility.Private (cond (eqb number attribute.Protected) visibility.Protected visibility.Public)
 
@@ -155,12 +165,14 @@ unfoldable pub visibilityIn : List ℕ → Found → Visibility
 visibilityIn attrs (found.At k) = visibilityBy (attributeAt attrs k .number)
 visibilityIn attrs found.Nothing = visibility.Public
 
+-- the row's: the last of the three counts
 unfoldable pub visibilityOf : List ℕ → Run → Visibility
 visibilityOf attrs run = visibilityIn attrs (lastOf sought.Visibility attrs run)
 
 -- ---- a name, and a ByteSize that is needed: of unions and enumerations
 
 module _ {A : Type 0} (refused : Refusal → A) (answer : Name → ℕ → A) (s attrs : List ℕ) (run : Run) where
+  -- the answer of a name and a size
   unfoldable pub withByteSize : Needed → A
   withByteSize (need.Is size) = answer (nameOf s attrs run attribute.Name) size
   withByteSize (need.Refused why) = refused why

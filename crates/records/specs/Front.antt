@@ -22,6 +22,7 @@ use Rattle.records.specs.declared.taken.Record.the-variants.{Member, Uni
 use Rattle.records.specs.declared.scan.Fault.{Fault}
 use Rattle.records.specs.declared.scan.Fault.the-variants.{Clear, Refused}
 
+-- the producer is MWCC
 unfoldable pub isMwcc : Producer → Bool
 isMwcc Mwcc = true
 isMwcc Gcc = false
@@ -38,6 +39,7 @@ kindTaken producer Label kind = eqb kind tag.Label
 kindTaken producer PtrToMember kind = eqb kind tag.PtrToMemberType
 kindTaken producer OverlayBranch kind = eqb kind tag.MwOverlayBranch
 
+-- 12 where the record does not take the kind of row i
 unfoldable pub kindFault : Settings → List ℕ → Record → ℕ → Fault
 kindFault settings rows r i =
     cond (kindTaken (settings .producer) r (rowAt rows i .kind)) Clear (Refused (refusedAt (rowAt rows i .key) reason.Kind))

@@ -21,6 +21,7 @@ use Rattle.records.specs.declared.label.LabelRead.{LabelRead}
 use Rattle.records.specs.declared.label.LabelRead.the-variants.{Is, Refused}
 
 module _ (s attrs : List ℕ) (run : Run) where
+  -- in this order, each 15 where it is missing: name, address. From the last step to the first
   unfoldable pub labelPlaced : Text → Needed → LabelRead
   labelPlaced text (need.Is address) = Is (record { name = text; address = address })
   labelPlaced text (need.Refused why) = Refused why

@@ -33,6 +33,7 @@ bitsBy key word.Nothing (word.Is offset) = read.Refused (refusedAt key reason.Mi
 bitsBy key word.Nothing word.Nothing = read.Are bits.Nothing
 
 module _ (s attrs : List ℕ) (run : Run) where
+  -- in this order: type, offset, bits, then what may be missing. From the last step to the first
   unfoldable pub withBits : «Type» → ℕ → BitsRead → MemberRead
   withBits of offset (read.Are b) =
       Is (record {

@@ -16,9 +16,11 @@ use Rattle.records.specs.declared.member.Bits.{Bits}
 use Rattle.records.specs.declared.member.Bits.the-variants as bits
 use Rattle.records.specs.declared.member.Member.{Member}
 
+-- the words of a member
 abbrev pub memberWidth : ℕ
 memberWidth = 16
 
+-- what goes into each of them
 unfoldable pub boolWord : Bool → ℕ
 boolWord b = cond b 1 0
 
@@ -67,6 +69,7 @@ unfoldable pub wordNumber : Word → ℕ
 wordNumber (word.Is x) = x
 wordNumber word.Nothing = 0
 
+-- all of them
 unfoldable pub memberWords : ℕ → Member → List ℕ
 memberWords row m =
     row ∷

@@ -22,6 +22,7 @@ use Rattle.records.specs.declared.overlay_branch.OverlayBranchRead.{Over
 use Rattle.records.specs.declared.overlay_branch.OverlayBranchRead.the-variants.{Is, Refused}
 
 module _ (s attrs : List ℕ) (run : Run) where
+  -- in this order, each 15 where it is missing: name, number, first address, last address. From the last step to the first
   unfoldable pub endTaken : Text → ℕ → ℕ → Needed → OverlayBranchRead
   endTaken text id start (need.Is end) =
       Is (record {

@@ -19,6 +19,7 @@ use Rattle.records.specs.declared.ptr_to_member.PtrToMemberRead.{PtrToMe
 use Rattle.records.specs.declared.ptr_to_member.PtrToMemberRead.the-variants.{Is, Refused}
 
 module _ (s attrs : List ℕ) (run : Run) where
+  -- in this order: type, containing type. From the last step to the first
   unfoldable pub ptrContained : «Type» → Needed → PtrToMemberRead
   ptrContained of (need.Is key) = Is (record { of = of; containing = key })
   ptrContained of (need.Refused why) = Refused why

@@ -45,6 +45,7 @@ attributeAt attrs k = record { number = attrAt attrs k .number % 65536; value = 
 
 -- ---- 14: the form that the Rust tests a value for
 
+-- by number
 unfoldable pub expectedForms : List (Line FormKind)
 expectedForms =
     Location means Block2 ∷
@@ -72,9 +73,11 @@ expectedForm roles number =
 
 -- ---- 17 and 18: what a type or a location says
 
+-- one of the four type attributes
 unfoldable pub isType : ℕ → Bool
 isType number = eqb number FundType || (eqb number ModFundType || (eqb number UserDefType || eqb number ModUDType))
 
+-- a type's, and a location's fault, placed at the row
 unfoldable pub typedFault : ℕ → Typed → Fault
 typedFault key (typed.Is t) = Clear
 typedFault key (typed.Refused why) = Refused (refusedAt key (why .reason))
@@ -94,6 +97,7 @@ locationFault record′.Label key e block = locatedFault key (offsetOf e block)
 locationFault record′.PtrToMember key e block = locatedFault key (offsetOf e block)
 locationFault record′.OverlayBranch key e block = locatedFault key (offsetOf e block)
 
+-- what is wrong with the value of a type attribute or of a location; other values are not looked at here
 unfoldable pub contentFault : Record → Run → List ℕ → Attribute → Fault
 contentFault r run s a =
     cond (isType (a .number)) (typedFault (run .key) (typeAt (run .ends) s (a .number) (a .value)))
@@ -101,10 +105,12 @@ contentFault r run s a =
 
 -- ---- an attribute, and all of them
 
+-- 14 where the form is not the expected one, then what the value says
 unfoldable pub formFault : Roles → Record → Run → List ℕ → Attribute → Fault
 formFault roles r run s a =
     cond (isForm (expectedForm roles (a .number)) (a .number)) (contentFault r run s a) (Refused (refusedAt (run .key) reason.Form))
 
+-- 13 where the record does not take the attribute, then its form
 unfoldable pub attributeFault : Roles → Record → Run → List ℕ → Attribute → Fault
 attributeFault roles r run s a = cond (takes roles r (a .number)) (formFault roles r run s a) (Refused (refusedAt (run .key) reason.Extra))
 
@@ -127,6 +133,7 @@ module _ (roles : Roles) (r : Record) (run : Run) (s attrs : List ℕ) where
   unfoldable pub numberAt : ℕ → ℕ
   numberAt j = attributeAt attrs (run .first + j) .number
 
+  -- a fault ends the scan
   unfoldable pub passes : Fault → Scan → Scan
   passes Clear next = next
   passes (Refused why) next = scan.Refused why

@@ -15,6 +15,7 @@ use Rattle.records.specs.declared.taken.Record.the-variants.{Member, Uni
 abbrev typesAnd : List ℕ → List ℕ
 typesAnd rest = FundType ∷ ModFundType ∷ UserDefType ∷ ModUDType ∷ rest
 
+-- the numbers of document 01 that each takes
 unfoldable pub takenBy : Record → List ℕ
 -- `process_structure_member_tag`
 takenBy Member = Sibling ∷ Name ∷ typesAnd (Location ∷ ByteSize ∷ BitSize ∷ BitOffset ∷ Private ∷ Protected ∷ Public ∷ attribute.Member ∷ [])
@@ -44,6 +45,7 @@ roleTaken roles Label number = false
 roleTaken roles PtrToMember number = false
 roleTaken roles OverlayBranch number = plays (roles .«overlay_name») number || plays (roles .«overlay_id») number
 
+-- the record takes an attribute of this number
 unfoldable pub takes : Roles → Record → ℕ → Bool
 takes roles r number = member number (takenBy r) || roleTaken roles r number
 

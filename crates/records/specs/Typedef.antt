@@ -62,6 +62,7 @@ module _ (s attrs : List ℕ) (run : Run) where
   typedefType found.Nothing (filling.Is first) = typed.Is (first .of)
   typedefType found.Nothing filling.Nothing = typed.Refused (refusedAt (run .key) reason.Missing)
 
+  -- name first, then type: 15 where either is missing. From the last step to the first
   unfoldable pub withType : Text → Typed → TypedefRead
   withType text (typed.Is of) = Is (record { name = text; of = of })
   withType text (typed.Refused why) = Refused why
@@ -110,10 +111,12 @@ module _ (settings : Settings) (s rows attrs : List ℕ) (n : ℕ) (run : Run) (
   pauseAt j (specified′.Row r) = pause.At j r
   pauseAt j (specified′.Refused why) = pause.Refused why
 
+  -- where the scan stopped: after the last attribute, or at a specification
   unfoldable pub pauseBy : Scan → Pause
   pauseBy (scan.Stop j) = cond (leb (run .count) j) pause.End (pauseAt j (specified j))
   pauseBy (scan.Refused why) = pause.Refused why
 
+  -- from attribute j on
   unfoldable pub pauseFrom : ℕ → Pause
   pauseFrom j = pauseBy (scanFrom (settings .roles) record′.Typedef run s attrs j (run .count - j))
 

@@ -40,6 +40,7 @@ unfoldable pub ignoredKinds : List ℕ
 ignoredKinds =
     tag.ArrayType ∷ tag.ClassType ∷ tag.EnumerationType ∷ tag.StructureType ∷ tag.SubroutineType ∷ tag.Typedef ∷ tag.UnionType ∷ tag.PtrToMemberType ∷ []
 
+-- a child of this kind is passed over
 unfoldable pub ignored : ℕ → Bool
 unfolding ignoredKinds
 ignored kind = member kind ignoredKinds
@@ -54,10 +55,12 @@ pub data Members : Type 0 where
   members : List Placed → Members
   refused : Refusal → Members
 
+-- one member more, before the others
 unfoldable pub andMember : ℕ → Member → Members → Members
 andMember c m (members ms) = members (record { row = c; member = m } ∷ ms)
 andMember c m (refused why) = refused why
 
+-- a child that was read as a member, and those after it
 unfoldable pub memberThen : ℕ → MemberRead → Members → Members
 memberThen c (read.Is m) rest = andMember c m rest
 memberThen c (read.Refused why) rest = refused why
@@ -69,6 +72,7 @@ module _ (settings : Settings) (s rows attrs : List ℕ) (n : ℕ) where
       cond (eqb (rowAt rows c .kind) tag.Member) (memberThen c (memberAt settings s rows attrs n c) rest)
       (cond (ignored (rowAt rows c .kind)) rest (refused (refusedAt key reason.Child)))
 
+  -- children one after the other
   unfoldable pub membersFrom : ℕ → List ℕ → Members
   membersFrom key [] = members []
   membersFrom key (c ∷ cs) = childThen key c (membersFrom key cs)
@@ -78,6 +82,7 @@ module _ (settings : Settings) (s rows attrs : List ℕ) (n : ℕ) where
   membersBy key (ends cs) = membersFrom key (nonNull rows cs)
   membersBy key endless = refused (refusedAt key reason.Link)
 
+  -- the members of row i
   unfoldable pub rowMembers : ℕ → Members
   rowMembers i = membersBy (rowAt rows i .key) (childWalk (settings .endian) s rows attrs n i)
 
@@ -90,6 +95,7 @@ unfoldable pub sizedBy : List ℕ → List ℕ → Run → ℕ → UnionWhole
 sizedBy s attrs run many = byteSized whole.Refused (unionIs many) s attrs run
 
 module _ (settings : Settings) (s rows attrs : List ℕ) (n i : ℕ) where
+  -- the union with these members
   unfoldable pub membersTaken : Members → UnionWhole
   membersTaken (members ms) = sizedBy s attrs (runOf (settings .endian) rows i) (length ms)
   membersTaken (refused why) = whole.Refused why
@@ -105,6 +111,7 @@ unfoldable pub membersWords : List Placed → List ℕ
 membersWords [] = []
 membersWords (m ∷ ms) = memberWords (m .row) (m .member) ++ membersWords ms
 
+-- an outcome: the answer, and what the lent room then holds
 pub record Outcome : Type 0 where
   pub answer : UnionRead
   pub room : List ℕ
@@ -112,10 +119,12 @@ pub record Outcome : Type 0 where
 abbrev outcome : UnionRead → List ℕ → Outcome
 outcome answer room = record { answer = answer; room = room }
 
+-- the members into the room; nothing is written on a refusal
 unfoldable pub membersInto : List ℕ → Members → UnionRead → Outcome
 membersInto room (members ms) answer = outcome answer (sets room 0 (membersWords ms))
 membersInto room (refused why) answer = outcome answer room
 
+-- if they fit
 unfoldable pub intoRoom : List ℕ → Members → UnionWhole → Outcome
 intoRoom room ms (whole.Is u) = cond (leb (u .members) (length room / memberWidth)) (membersInto room ms (Is u)) (outcome (Room (u .members)) room)
 intoRoom room ms (whole.Refused why) = outcome (Refused why) room

@@ -37,6 +37,7 @@ pub record Stored : Type 0 where
   pub answer : Counted
   pub room : List ℕ
 
+-- a member is `memberWidth` words
 unfoldable pub stored : ℕ → List ℕ → Members → Stored
 stored k room (members ms) = record { answer = counted.Count (k + length ms); room = sets room (k * memberWidth) (membersWords ms) }
 stored k room (refused why) = record { answer = counted.Refused why; room = [] }

@@ -20,6 +20,7 @@ use Rattle.records.specs.declared.variable.VariableRead.{VariableRead}
 use Rattle.records.specs.declared.variable.VariableRead.the-variants.{Is, Refused}
 
 module _ (s attrs : List ℕ) (run : Run) where
+  -- once its type is known, all else may be missing
   unfoldable pub variableTyped : ℕ → Bool → Typed → VariableRead
   variableTyped role local (typed.Is of) =
       Is (record {

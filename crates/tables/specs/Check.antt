@@ -16,6 +16,7 @@ use Rattle.tables.specs.declared.row.Counts.{Counts}
 use Rattle.tables.specs.declared.check.Check.{Check}
 use Rattle.tables.specs.declared.check.Check.the-variants.{Passed, Refused}
 
+-- a refusal with its place
 abbrev pub refusedAt : ℕ → Reason → Refusal
 refusedAt place why = record { reason = why; place = place }
 
@@ -24,6 +25,7 @@ unfoldable pub afterTests : {A : Type 0} → Bool → Bool → Bool → (Refusal
 afterTests settings short table refused answer =
     cond settings (cond short (cond table answer (refused (refusedAt 0 reason.Table))) (refused (refusedAt 0 reason.Long))) (refused (refusedAt 0 reason.Settings))
 
+-- the same, the tests being those of settings, section and table
 unfoldable pub tested : {A : Type 0} → Settings → List ℕ → List ℕ → List ℕ → List ℕ → List ℕ → Counts → (Refusal → A) → A → A
 tested settings vendors sizes s rows attrs counts refused answer =
     afterTests (settingsHold settings vendors sizes) (ltb (length s) sectionLimit) (tableHolds s vendors rows attrs counts) refused answer

@@ -77,6 +77,7 @@ pub record Kind (A : Type 0) : Type 0 where
   pub one-is : (t : List ℕ) (i : ℕ) (x : A) → ((k : ℕ) → k < width → getD t (i * width + k) 0 ≡ getD (words x) k 0) → one t i ≡ x
 
 module _ {A : Type 0} (kind : Kind A) where
+  -- a table with thing i stored
   abbrev put : List ℕ → ℕ → A → List ℕ
   put t i x = sets t (i * kind .width) (kind .words x)
 

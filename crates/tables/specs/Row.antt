@@ -17,6 +17,7 @@ rowWidth = 5
 abbrev pub attrWidth : ℕ
 attrWidth = 2
 
+-- a row, and an attribute, as words
 unfoldable pub rowWords : Row → List ℕ
 rowWords r = r .key ∷ r .kind ∷ r .flags ∷ r .first ∷ r .count ∷ []
 

@@ -19,7 +19,7 @@ use Rattle.tables.specs.declared.row.Row.{Row}
 use Rattle.tables.specs.declared.row.Attr.{Attr}
 use Rattle.tables.specs.declared.row.Counts.{Counts}
 
--- the end is told
+-- the value ends in the section
 unfoldable pub isAt : End → Bool
 isAt (At next) = true
 isAt (Short field) = false

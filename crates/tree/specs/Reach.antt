@@ -23,5 +23,6 @@ unfoldable pub reachBy : List ℕ → List ℕ → ℕ → ℕ → Reference →
 reachBy s rows n i (reference.To key) = cond (eqb key (length s)) n (laterRow i (rowOfKey rows n key))
 reachBy s rows n i reference.Nothing = suc i
 
+-- the end of row i's reach, by its sibling reference
 unfoldable pub reachEnd : Endian → List ℕ → List ℕ → List ℕ → ℕ → ℕ → ℕ
 reachEnd e s rows attrs n i = reachBy s rows n i (referenceOf e s rows attrs i siblingNumber)

@@ -44,6 +44,7 @@ outcome answer room = record { answer = answer; room = room }
 abbrev pub faultAtRow : List ℕ → List ℕ → ℕ → Reason → Outcome
 faultAtRow rows room i why = outcome (Refused (refusedAt (rowAt rows i .key) why)) room
 
+-- the listing of n rows with these reaches, into lent room; nothing is written on a refusal
 unfoldable pub listed : List ℕ → ℕ → (ℕ → ℕ) → List ℕ → Outcome
 listed rows n reach room =
     cond (ltb (firstErased rows n) n) (faultAtRow rows room (firstErased rows n) reason.Kind)
@@ -51,6 +52,7 @@ listed rows n reach room =
     (cond (ltb (firstDeep n reach) n) (faultAtRow rows room (firstDeep n reach) reason.Depth)
     (cond (leb (n * placeWidth) (length room)) (outcome (Listed n) (sets room 0 (placesFrom n reach 0 n))) (outcome (Room n) room))))
 
+-- `list_tree`: the tests, then the listing
 unfoldable pub treeOf : Settings → List ℕ → List ℕ → List ℕ → List ℕ → List ℕ → Counts → List ℕ → Outcome
 treeOf settings vendors sizes s rows attrs counts room =
     tested settings vendors sizes s rows attrs counts (λ why. outcome (Refused why) room)
