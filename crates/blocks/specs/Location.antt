@@ -62,15 +62,18 @@ operandAt e block at = readAt (λ (n : ℕ). n) 0 e 4 block at
 
 -- ---- the shapes that are taken
 
--- `process_offset`: CONST n, ADD
-unfoldable pub offsetOf : Endian → List ℕ → Located
+-- the first operand of a block that is made of these atoms; any other block is 17
+unfoldable pub shapeOperand : List LocationOp → Endian → List ℕ → Located
 unfolding madeOf
-offsetOf e block = cond (madeOf (Const ∷ Add ∷ []) block 0) (located.Is (operandAt e block 1)) (located.Refused (refusedBlock reason.Block))
+shapeOperand ops e block = cond (madeOf ops block 0) (located.Is (operandAt e block 1)) (located.Refused (refusedBlock reason.Block))
+
+-- `process_offset`: CONST n, ADD
+abbrev pub offsetOf : Endian → List ℕ → Located
+offsetOf e block = shapeOperand (Const ∷ Add ∷ []) e block
 
 -- `process_address`: ADDR a
-unfoldable pub addressOf : Endian → List ℕ → Located
-unfolding madeOf
-addressOf e block = cond (madeOf (Address ∷ []) block 0) (located.Is (operandAt e block 1)) (located.Refused (refusedBlock reason.Block))
+abbrev pub addressOf : Endian → List ℕ → Located
+addressOf e block = shapeOperand (Address ∷ []) e block
 
 -- a register alone: REG r, BASEREG r, or Metrowerks' floating one
 unfoldable pub isRegister : List ℕ → Bool

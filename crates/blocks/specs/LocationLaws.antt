@@ -10,10 +10,11 @@ use Rattle.numbers.specs.ValueLaws.{read-map}
 use Rattle.numbers.specs.declared.Endian.{Endian}
 use Rattle.numbers.specs.declared.unsigned.Read32.{Read32}
 use Rattle.numbers.specs.declared.unsigned.Read32.the-variants.{Value, Short}
+use Rattle.format.specs.declared.location_op.LocationOp.{LocationOp}
 use Rattle.format.specs.declared.location_op.LocationOp.the-variants.{Address, Const, Add}
 use Rattle.format.specs.declared.refusal.Refusal.{Refusal}
 use Rattle.format.specs.declared.refusal.Reason.the-variants as reason
-use Rattle.blocks.specs.Location.{refusedBlock, atomNumber, operandWidth, madeOf, operandAt, isRegister, isRegisterPlus, offsetOf, addressOf, variableLocation}
+use Rattle.blocks.specs.Location.{refusedBlock, atomNumber, operandWidth, madeOf, operandAt, isRegister, isRegisterPlus, variableLocation, shapeOperand}
 use Rattle.blocks.specs.declared.location.Located.the-variants as located
 use Rattle.blocks.specs.declared.location.VariableLocation.the-variants as variable
 
@@ -66,23 +67,14 @@ module _ (block : List ℕ) {first : ℕ} (is : first ≡ getD block 0 0) where
 
 -- ---- what a test that was made decides
 
-module _ (e : Endian) (block : List ℕ) {made : Bool} (is : made ≡ madeOf (Const ∷ Add ∷ []) block 0) where
-  pub offset-taken : made ≡ true → {n : ℕ} → n ≡ operandAt e block 1 → located.Is n ≡ offsetOf e block
-  unfolding offsetOf
-  offset-taken h p = rw (← is, h) (ap located.Is p)
+module _ (ops : List LocationOp) (e : Endian) (block : List ℕ) {made : Bool} (is : made ≡ madeOf ops block 0) where
+  pub operand-taken : made ≡ true → {n : ℕ} → n ≡ operandAt e block 1 → located.Is n ≡ shapeOperand ops e block
+  unfolding shapeOperand
+  operand-taken h p = rw (← is, h) (ap located.Is p)
 
-  pub offset-refused : made ≡ false → {why : Refusal} → why ≡ refusedBlock reason.Block → located.Refused why ≡ offsetOf e block
-  unfolding offsetOf
-  offset-refused h p = rw (← is, h) (ap located.Refused p)
-
-module _ (e : Endian) (block : List ℕ) {made : Bool} (is : made ≡ madeOf (Address ∷ []) block 0) where
-  pub address-taken : made ≡ true → {n : ℕ} → n ≡ operandAt e block 1 → located.Is n ≡ addressOf e block
-  unfolding addressOf
-  address-taken h p = rw (← is, h) (ap located.Is p)
-
-  pub address-refused : made ≡ false → {why : Refusal} → why ≡ refusedBlock reason.Block → located.Refused why ≡ addressOf e block
-  unfolding addressOf
-  address-refused h p = rw (← is, h) (ap located.Refused p)
+  pub operand-refused : made ≡ false → {why : Refusal} → why ≡ refusedBlock reason.Block → located.Refused why ≡ shapeOperand ops e block
+  unfolding shapeOperand
+  operand-refused h p = rw (← is, h) (ap located.Refused p)
 
 module _ (e : Endian) (block : List ℕ) {register : Bool} (is : register ≡ isRegister block) where
   pub in-register : register ≡ true → {n : ℕ} → n ≡ operandAt e block 1 → variable.Register n ≡ variableLocation e block

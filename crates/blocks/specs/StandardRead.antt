@@ -17,7 +17,7 @@ use Rattle.format.specs.LocationOp.{locationOps, locationOpOf}
 use Rattle.format.specs.declared.location_op.LocationOp.{LocationOp}
 use Rattle.format.specs.declared.location_op.LocationOp.the-variants.{Register, BaseRegister, Address, Const, Deref2, Deref4, Add, MwFpReg, MwFpDReg, MwDRef8, Unknown}
 use Rattle.blocks.specs.Location.{atomNumber, operandWidth, madeOf, operandAt, isRegister, isRegisterPlus, offsetOf, addressOf, variableLocation}
-use Rattle.blocks.specs.LocationLaws.{offset-taken, address-taken, in-register, at-address, at-register-plus}
+use Rattle.blocks.specs.LocationLaws.{operand-taken, in-register, at-address, at-register-plus}
 use Rattle.blocks.specs.Standard.{Atom, atom, writtenAtom, written, alone, plus, registerPlus}
 use Rattle.blocks.specs.declared.location.Located.the-variants as located
 use Rattle.blocks.specs.declared.location.VariableLocation.the-variants as variable
@@ -118,11 +118,11 @@ other e r n = refl
 module _ (e : Endian) {n : ℕ} (small : n < 256 ^ 4) where
   pub offset-read : offsetOf e (written e (plus n)) ≡ located.Is n
   unfolding operandWidth ops
-  offset-read = sym (offset-taken e (written e (plus n)) refl (made-of e (plus n)) (sym (first-operand e (atom Const n) refl (atom Add 0 ∷ []) small)))
+  offset-read = sym (operand-taken (Const ∷ Add ∷ []) e (written e (plus n)) refl (made-of e (plus n)) (sym (first-operand e (atom Const n) refl (atom Add 0 ∷ []) small)))
 
   pub address-read : addressOf e (written e (alone Address n)) ≡ located.Is n
   unfolding operandWidth ops
-  address-read = sym (address-taken e (written e (alone Address n)) refl (made-of e (alone Address n)) (sym (first-operand e (atom Address n) refl [] small)))
+  address-read = sym (operand-taken (Address ∷ []) e (written e (alone Address n)) refl (made-of e (alone Address n)) (sym (first-operand e (atom Address n) refl [] small)))
 
   -- an atom that is a register
   alone-read : (op : LocationOp) → operandWidth op ≡ 4 → isRegister (written e (alone op n)) ≡ true

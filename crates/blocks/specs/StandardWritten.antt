@@ -19,7 +19,7 @@ use Rattle.numbers.specs.declared.Endian.{Endian}
 use Rattle.numbers.specs.declared.Endian.the-variants.{Big, Little}
 use Rattle.format.specs.declared.location_op.LocationOp.{LocationOp}
 use Rattle.format.specs.declared.location_op.LocationOp.the-variants.{Register, BaseRegister, Address, Const, Add, MwFpReg}
-use Rattle.blocks.specs.Location.{atomNumber, operandWidth, madeOf, operandAt, isRegister, isRegisterPlus, offsetOf, addressOf, variableLocation}
+use Rattle.blocks.specs.Location.{shapeOperand, atomNumber, operandWidth, madeOf, operandAt, isRegister, isRegisterPlus, offsetOf, addressOf, variableLocation}
 use Rattle.blocks.specs.Standard.{Atom, atom, writtenAtom, written, alone, plus, registerPlus}
 use Rattle.blocks.specs.StandardRead.{atom-length}
 use Rattle.blocks.specs.declared.location.Located.{Located}
@@ -132,13 +132,13 @@ VariableIn e block (variable.Refused why) = Unit
 
 module _ (e : Endian) {block : List ℕ} (small : Bytes block) where
   pub offset-only : {n : ℕ} → offsetOf e block ≡ located.Is n → block ≡ written e (plus n)
-  unfolding offsetOf
+  unfolding shapeOperand
   offset-only p =
       subst (LocatedIn e plus block) p
       (cond-all (LocatedIn e plus block) (madeOf (Const ∷ Add ∷ []) block 0) (λ h. plus-written e block small h) (λ h. tt))
 
   pub address-only : {n : ℕ} → addressOf e block ≡ located.Is n → block ≡ written e (alone Address n)
-  unfolding addressOf operandWidth
+  unfolding shapeOperand operandWidth
   address-only p =
       subst (LocatedIn e (alone Address) block) p
       (cond-all (LocatedIn e (alone Address) block) (madeOf (Address ∷ []) block 0) (λ h. alone-written e block small Address refl h) (λ h. tt))

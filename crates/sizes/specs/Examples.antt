@@ -16,7 +16,7 @@ use Rattle.format.specs.Settings.{plays, vendorsHold, roleHolds, roleForm, role
 use Rattle.format.specs.TagKind.{tags}
 use Rattle.attributes.specs.End.{fixedEnd, blockEnd, valueEnd}
 use Rattle.attributes.specs.Parts.{partAt, blockAt}
-use Rattle.blocks.specs.Location.{operandAt, offsetOf}
+use Rattle.blocks.specs.Location.{operandAt, shapeOperand}
 use Rattle.blocks.specs.Modifiers.{allKnown, anyPointer, modifiersOf}
 use Rattle.blocks.specs.Types.{withModifiers, modified, knownType, fundamental, fundType, typeAt}
 use Rattle.tables.specs.Check.{afterTests, tested}
@@ -57,5 +57,5 @@ countsA = record { rows = 3; attrs = 4 }
 pub input-a : (sizeOfKey settingsA [] sizesA inputA rowsA attrsA countsA 0 ≡ sized.Is 4)
     × (layoutOf settingsA [] sizesA inputA rowsA attrsA countsA 0 (7 ∷ 7 ∷ 7 ∷ 7 ∷ 7 ∷ [])
     ≡ record { answer = layout.Is (record { row = 0; size = 4; members = 1 }); room = 0 ∷ 4 ∷ 0 ∷ 0 ∷ 7 ∷ [] })
-unfolding sizeOfKey tested entrySize afterTests settingsHold vendorsHold rolesHold roleHolds roleForm rolesDiffer fundTypes tableHolds rowsHold rowHolds rowAt member tags runHolds attrHolds known attributeKinds attrAt valueEnd formOf lookup fixedEnd there blockEnd readAt valueOf endianOf foundSize rowOfKey rowFrom entryAt shapeSize shapeOf membersSize membersOf membersBy childWalk walkFrom stops nextRow nextFrom erasedRow siblingRow siblingBy referenceOf referenceBy attributeOf attrFrom wants asReference rowNumber meets membersFrom nonNull nullRow childThen memberThen memberAt unless frontOf orElse headOf kindFault kindTaken faultsFrom runOf faultAt attributeFault takes takenBy attributeAt formFault isForm formNumber expectedForm plays expected contentFault isType typedFault typeAt fundType fundamental knownType parseInt fundTypeOf endsOf modified withModifiers modifiersOf allKnown locationFault locatedFault offsetOf blockAt partAt childlessFault memberFields typedBy typeOf typeBy fields.lastOf lastFrom isSought replaced memberPlaced placedBy offsetField offsetBy offsetIn asOffset memberWith withBits bitsBy wordOf wordBy andMember sizeOrEnds wordIn asWord wordAt asValue layoutOf inRow rowBy rowLay layoutAt shapeLaid membersLaid layoutBy laidFrom layThen endOr andLaid laidMember memberSize sizeOr isBounded ownSize sizeOrLargest intoRoom layInto laidWords namePlace nameLength nameOf nameBy typeSize typeSizeBy kindSize indexOf anyPointer operandAt
+unfolding sizeOfKey tested entrySize afterTests settingsHold vendorsHold rolesHold roleHolds roleForm rolesDiffer fundTypes tableHolds rowsHold rowHolds rowAt member tags runHolds attrHolds known attributeKinds attrAt valueEnd formOf lookup fixedEnd there blockEnd readAt valueOf endianOf foundSize rowOfKey rowFrom entryAt shapeSize shapeOf membersSize membersOf membersBy childWalk walkFrom stops nextRow nextFrom erasedRow siblingRow siblingBy referenceOf referenceBy attributeOf attrFrom wants asReference rowNumber meets membersFrom nonNull nullRow childThen memberThen memberAt unless frontOf orElse headOf kindFault kindTaken faultsFrom runOf faultAt attributeFault takes takenBy attributeAt formFault isForm formNumber expectedForm plays expected contentFault isType typedFault typeAt fundType fundamental knownType parseInt fundTypeOf endsOf modified withModifiers modifiersOf allKnown locationFault locatedFault shapeOperand blockAt partAt childlessFault memberFields typedBy typeOf typeBy fields.lastOf lastFrom isSought replaced memberPlaced placedBy offsetField offsetBy offsetIn asOffset memberWith withBits bitsBy wordOf wordBy andMember sizeOrEnds wordIn asWord wordAt asValue layoutOf inRow rowBy rowLay layoutAt shapeLaid membersLaid layoutBy laidFrom layThen endOr andLaid laidMember memberSize sizeOr isBounded ownSize sizeOrLargest intoRoom layInto laidWords namePlace nameLength nameOf nameBy typeSize typeSizeBy kindSize indexOf anyPointer operandAt
 input-a = (refl, refl)

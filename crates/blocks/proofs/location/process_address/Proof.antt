@@ -1,4 +1,4 @@
-use Rattle.blocks.specs.LocationLaws.{address-taken, address-refused}
+use Rattle.blocks.specs.LocationLaws.{operand-taken, operand-refused}
 use borrow.Author.Needs.{needs}
 use Prim.Native.Nat.{_-_}
 use Rattle.blocks.proofs.location.process_address.Statement.{statement}
@@ -14,10 +14,10 @@ refused-block-requires : tie.Need-refused-block-requires
 refused-block-requires c κs = search needs
 
 returns : tie.Need-returns
-returns c = address-taken _ _ (c .before .before .is-address .ensures) (c .before .if1 .taken) (c .operand-at .ensures)
+returns c = operand-taken _ _ _ (c .before .before .is-address .ensures) (c .before .if1 .taken) (c .operand-at .ensures)
 
 returns-2 : tie.Need-returns-2
-returns-2 c = address-refused _ _ (c .before .before .is-address .ensures) (c .before .if1 .left) (c .refused-block .ensures)
+returns-2 c = operand-refused _ _ _ (c .before .before .is-address .ensures) (c .before .if1 .left) (c .refused-block .ensures)
 
 pub process-address-spec : {M : Type 1} → statement M
 process-address-spec =
