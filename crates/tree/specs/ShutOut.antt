@@ -114,7 +114,7 @@ twoRows = rowOf 0 tag.StructureType 0 1 ∷ rowOf 9 tag.Subroutine 1 1 ∷ []
 abbrev twoAttrs : List Attr
 twoAttrs = attr number.Name 8 ∷ attr number.Name 17 ∷ []
 
--- document 01's input A
+-- the rows and the attributes of document 01's input A
 abbrev rowsA : List Row
 rowsA = rowOf 0x00 tag.StructureType 0 2 ∷ rowOf 0x12 tag.Member 2 2 ∷ rowOf 0x26 tag.Padding 4 0 ∷ []
 
