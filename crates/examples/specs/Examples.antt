@@ -44,7 +44,6 @@ use Rattle.tables.specs.declared.row.Row.{Row}
 use Rattle.tables.specs.declared.row.Attr.{Attr}
 use Rattle.links.specs.Typed.{asValue, wordAt}
 use Rattle.records.specs.Taken.{takenBy, roleTaken, takes, special}
-use Rattle.records.specs.Taken as taken
 use Rattle.records.specs.Scan.{attributeAt, expectedForms, expected, expectedForm, isType, contentFault, formFault, attributeFault, faultAt, numberAt}
 use Rattle.records.specs.Fields.{isSought, lastFrom, asWord, wordIn, wordBy}
 use Rattle.records.specs.Front.{unless}
@@ -220,5 +219,5 @@ examples =
     lists list-first (number.ElementList ∷ 8 ∷ number.ByteSize ∷ 17 ∷ []) says members-are [] ∷ []
 
 pub examples-hold : map (λ e. answer (e .asked)) examples ≡ map (λ e. e .said) examples
-unfolding answer examples numberOf parseInt fundTypeOf fundTypes modifierOf modifiers valueOf there readAt member indexOf lookup tags used alsoKnown attributeKinds known forms formOf zeroFrom fixedEnd blockEnd textEnd valueEnd ending numbered readAttribute textAt nullEnd tagHead sizeHead headAt first plays runEnds readOn runFrom flip littleFlag flagOf flagsOf kindOf ordinary rooted attributes rootEndian rootIn entryFrom entryAt join andThen onward walkFrom walkAt wholeWalk subscriptFormats subscriptFormatOf partAt blockAt isKnown isPointer allKnown anyPointer modifiersOf withModifiers modified knownType fundamental fundType lastOf modFundType typeAt lowBound knownIndex indexAt indexed oneMore highBound constBound elementOf elementAs elementAt subscriptAs subscriptOf dimensionWords elementOr before step subscriptsFrom wholeBlock countSubscripts asValue wordAt takenBy roleTaken takes special taken.plays attributeAt attrAt expectedForms expected expectedForm isType contentFault formFault attributeFault faultAt numberAt formNumber isForm isSought lastFrom asWord wordIn wordBy unless listWidth valueAt namedFrom nameFrom valued element.elementAt element.andThen elementThen elementsFrom elementsIn signedOf signedBelow joined sizeBefore listAt listsFrom
+unfolding answer examples numberOf parseInt fundTypeOf fundTypes modifierOf modifiers valueOf there readAt member indexOf lookup tags used alsoKnown attributeKinds known forms formOf zeroFrom fixedEnd blockEnd textEnd valueEnd ending numbered readAttribute textAt nullEnd tagHead sizeHead headAt first plays runEnds readOn runFrom flip littleFlag flagOf flagsOf kindOf ordinary rooted attributes rootEndian rootIn entryFrom entryAt join andThen onward walkFrom walkAt wholeWalk subscriptFormats subscriptFormatOf partAt blockAt isKnown isPointer allKnown anyPointer modifiersOf withModifiers modified knownType fundamental fundType lastOf modFundType typeAt lowBound knownIndex indexAt indexed oneMore highBound constBound elementOf elementAs elementAt subscriptAs subscriptOf dimensionWords elementOr before step subscriptsFrom wholeBlock countSubscripts asValue wordAt takenBy roleTaken takes special attributeAt attrAt expectedForms expected expectedForm isType contentFault formFault attributeFault faultAt numberAt formNumber isForm isSought lastFrom asWord wordIn wordBy unless listWidth valueAt namedFrom nameFrom valued element.elementAt element.andThen elementThen elementsFrom elementsIn signedOf signedBelow joined sizeBefore listAt listsFrom
 examples-hold = refl
