@@ -40,11 +40,6 @@ abbrev pub Settled : Sized → Type 0
 Settled (Is size) = Unit
 Settled (Refused why) = numberOf (why .reason) ≡ 10 → ⊥
 
-settled-then : (next : ℕ → Sized) (x : Sized) → Settled (sizeThen next x) → Settled x
-unfolding sizeThen
-settled-then next (Is size) s = tt
-settled-then next (Refused why) s = s
-
 -- what follows a size stays where the size does
 then-stays : (next next′ : ℕ → Sized) (x x′ : Sized) → (Settled x → x′ ≡ x) → ((size : ℕ) → Settled (next size) → next′ size ≡ next size)
     → Settled (sizeThen next x) → sizeThen next′ x′ ≡ sizeThen next x
