@@ -4,29 +4,29 @@ use Prim.Native.Nat.{ℕ, suc, _+_, _*_, _≤_}
 use native.Mathlib.Nat.{add-zero}
 use native.Mathlib.Omega.{arith}
 use mathlib.Core.Path.{_≡_, refl, sym, subst, ap, _∙_}
-use mathlib.Core.Bool.{Bool, true, false, _&&_}
+use mathlib.Core.Bool.{Bool, true, false}
 use mathlib.Core.List.{List, [], _∷_, _++_}
 use lib.ListN.{length, length-append}
 use lib.Seq.{sets, length-sets}
-use lib.Dec.{leb, ltb}
-use borrow.Author.Tests.{leb-true, eq-eqb}
+use lib.Dec.{ltb}
+use borrow.Author.Tests.{eq-eqb}
 use Rattle.numbers.specs.Tests.{cond-all}
 use Rattle.numbers.specs.declared.Endian.{Endian}
-use Rattle.format.specs.Limits.{sectionLimit, entryLimit, attributeLimit, erasedLimit}
+use Rattle.format.specs.Limits.{sectionLimit, erasedLimit}
 use Rattle.format.specs.Settings.{settingsHold}
 use Rattle.format.specs.declared.settings.Settings.{Settings}
 use Rattle.format.specs.declared.refusal.Reason.{Reason}
 use Rattle.format.specs.declared.refusal.Reason.the-variants as reason
-use Rattle.tables.specs.Row.{rowWidth, attrWidth, rowsWords, attrsWords, rowAt, attrAt, rowsFrom, attrsFrom, endianOf}
+use Rattle.tables.specs.Row.{rowsWords, attrsWords, rowAt, attrAt, rowsFrom, attrsFrom, endianOf}
 use Rattle.tables.specs.RowLaws.{rows-back, attrs-back}
-use Rattle.tables.specs.Test.{runHolds, rowHolds, rowsHold, tableHolds}
-use Rattle.tables.specs.TestLaws.{both, row-passes, table-rows}
+use Rattle.tables.specs.Test.{fitting, runHolds, rowHolds, rowsHold, tableHolds}
+use Rattle.tables.specs.TestLaws.{row-passes, table-rows, Fits, fits-all}
 use Rattle.tables.specs.CheckedLaws.{attr-passes}
 use Rattle.tables.specs.declared.row.Row.{Row}
 use Rattle.tables.specs.declared.row.Attr.{Attr}
 use Rattle.tables.specs.declared.row.Counts.{Counts}
 use Rattle.entries.specs.Walk.{Walk, walked, refused, walkAt}
-use Rattle.entries.specs.Section.{wholeWalk, refusal, counts, fitting, Outcome, untouched, stored, readSection}
+use Rattle.entries.specs.Section.{wholeWalk, refusal, counts, Outcome, untouched, stored, readSection}
 use Rattle.entries.specs.KnownRun.{AllKnown, none-known, more-known}
 use Rattle.entries.specs.RowsRead.{RowRead, RowsRead, no-rows, more-rows, WalkRows, walk-rows}
 use Rattle.entries.specs.declared.section.Section.the-variants.{Read, Room}
@@ -133,29 +133,6 @@ pub record Filled (settings : Settings) (vendors s rows attrs : List ℕ) (c : C
   pub attrs-stored : o .attrs ≡ sets attrs 0 (attrsWords xs)
   pub rows-held : rowsFrom (o .rows) 0 (length rs) ≡ rs
   pub attrs-held : attrsFrom (o .attrs) 0 (length xs) ≡ xs
-
--- the four tests of what fits
-record Fits (c : Counts) (lentRows lentAttrs : ℕ) : Type 0 where
-  rows-few : c .rows ≤ entryLimit
-  rows-lent : c .rows * rowWidth ≤ lentRows
-  attrs-few : c .attrs ≤ attributeLimit
-  attrs-lent : c .attrs * attrWidth ≤ lentAttrs
-
-fits-all : (c : Counts) (lentRows lentAttrs : ℕ) → fitting c lentRows lentAttrs ≡ true → Fits c lentRows lentAttrs
-unfolding fitting
-fits-all c lentRows lentAttrs h =
-    let a : Bool = leb (c .rows) entryLimit in
-    let b : Bool = leb (c .rows * rowWidth) lentRows in
-    let d : Bool = leb (c .attrs) attributeLimit in
-    let third = both (a && b && d) (leb (c .attrs * attrWidth) lentAttrs) h in
-    let second = both (a && b) d (third .0) in
-    let first = both a b (second .0) in
-    record {
-      rows-few = leb-true (c .rows) entryLimit (first .0);
-      rows-lent = leb-true (c .rows * rowWidth) lentRows (first .1);
-      attrs-few = leb-true (c .attrs) attributeLimit (second .1);
-      attrs-lent = leb-true (c .attrs * attrWidth) lentAttrs (third .1);
-    }
 
 module _ (settings : Settings) (vendors s rows attrs : List ℕ) (c : Counts) where
   -- an outcome that answers with these counts filled the tables

@@ -1,17 +1,18 @@
 -- The public calls: settings, a section, lent tables.
-use Prim.Native.Nat.{ℕ, _*_}
+use Prim.Native.Nat.{ℕ}
 use mathlib.Core.Path.{_≡_}
-use mathlib.Core.Bool.{Bool, false, cond, _&&_}
+use mathlib.Core.Bool.{false, cond}
 use mathlib.Core.List.{List}
 use lib.ListN.{length}
 use lib.Seq.{sets}
-use lib.Dec.{leb, ltb}
-use Rattle.format.specs.Limits.{sectionLimit, entryLimit, attributeLimit, erasedLimit}
+use lib.Dec.{ltb}
+use Rattle.format.specs.Limits.{sectionLimit, erasedLimit}
 use Rattle.format.specs.Settings.{settingsHold}
 use Rattle.format.specs.declared.settings.Settings.{Settings}
 use Rattle.format.specs.declared.refusal.Reason.{Reason}
 use Rattle.format.specs.declared.refusal.Reason.the-variants as reason
-use Rattle.tables.specs.Row.{rowWidth, attrWidth, rowsWords, attrsWords}
+use Rattle.tables.specs.Test.{fitting}
+use Rattle.tables.specs.Row.{rowsWords, attrsWords}
 use Rattle.tables.specs.declared.row.Counts.{Counts}
 use Rattle.entries.specs.Walk.{Walk, walked, refused, walkAt}
 use Rattle.entries.specs.declared.section.Count.{Count}
@@ -30,11 +31,6 @@ refusal why at = Refused (record { reason = why; place = at })
 
 abbrev pub counts : ℕ → ℕ → Counts
 counts n m = record { rows = n; attrs = m }
-
--- so many rows and attributes are allowed, and fit tables of so many words
-unfoldable pub fitting : Counts → ℕ → ℕ → Bool
-fitting c lentRows lentAttrs =
-    leb (c .rows) entryLimit && leb (c .rows * rowWidth) lentRows && leb (c .attrs) attributeLimit && leb (c .attrs * attrWidth) lentAttrs
 
 -- an outcome: the answer, and what the two lent tables then hold
 pub record Outcome : Type 0 where

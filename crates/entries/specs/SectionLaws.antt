@@ -21,7 +21,8 @@ use Rattle.tables.specs.declared.row.Counts.{Counts}
 use Rattle.entries.specs.Walk.{Walk, walked, refused}
 use Rattle.entries.specs.Promise.{start, Stored, walkAnswer, WalkStores, WalkRead}
 use Rattle.entries.specs.WalkLaws.{told-walked, told-refused}
-use Rattle.entries.specs.Section.{wholeWalk, counts, refusal, fitting, Outcome, untouched, stored, readSection, SectionRead, uncounted, counted, countSection}
+use Rattle.tables.specs.Test.{fitting}
+use Rattle.entries.specs.Section.{wholeWalk, counts, refusal, Outcome, untouched, stored, readSection, SectionRead, uncounted, counted, countSection}
 use Rattle.entries.specs.declared.entry.State.{State}
 use Rattle.entries.specs.declared.walk.Walk.the-variants as walk
 use Rattle.entries.specs.declared.section.Count.{Count}

@@ -20,7 +20,8 @@ ghost use Prim.Native.Nat.{_<_};
 ghost use lib.ListN.{length};
 ghost use Rattle.format.specs.Limits.{sectionLimit};
 ghost use Rattle.entries.specs.Promise.{start, walkAnswer, WalkRead};
-ghost use Rattle.entries.specs.Section.{wholeWalk, fitting, countSection, readSection, SectionRead};
+ghost use Rattle.tables.specs.Test.{fitting};
+ghost use Rattle.entries.specs.Section.{wholeWalk, countSection, readSection, SectionRead};
 
 // What counting answers.
 pub enum Count {

@@ -18,13 +18,13 @@ use Rattle.attributes.specs.End.{fixedEnd, blockEnd, textEnd, valueEnd}
 use Rattle.attributes.specs.Read.{ending, numbered, readAttribute}
 use Rattle.tables.specs.Row.{rowWords, attrWords, rowsWords, attrsWords, rowAt, attrAt, erasedRow, endianOf}
 use Rattle.tables.specs.Find.{rowFrom, rowOfKey}
-use Rattle.tables.specs.Test.{isAt, attrHolds, runHolds, rowHolds, rowsHold, tableHolds}
+use Rattle.tables.specs.Test.{fitting, isAt, attrHolds, runHolds, rowHolds, rowsHold, tableHolds}
 use Rattle.tables.specs.Check.{afterTests, tested}
 use Rattle.entries.specs.Head.{nullEnd, tagHead, sizeHead, headAt}
 use Rattle.entries.specs.Run.{first, runEnds, readOn, runFrom}
 use Rattle.entries.specs.Entry.{flip, littleFlag, flagOf, flagsOf, kindOf, ordinary, rooted, attributes, rootEndian, rootIn, entryFrom, entryAt}
 use Rattle.entries.specs.Walk.{join, andThen, onward, walkFrom, walkAt}
-use Rattle.entries.specs.Section.{wholeWalk, fitting, stored, readSection}
+use Rattle.entries.specs.Section.{wholeWalk, stored, readSection}
 use Rattle.links.specs.Attribute.{wants, attrFrom, attributeOf, asReference, referenceBy, referenceOf}
 use Rattle.tree.specs.Pick.{countBelow, nearestBelow, firstFrom}
 use Rattle.tree.specs.Reach.{laterRow, reachBy, reachEnd}

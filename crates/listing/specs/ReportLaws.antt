@@ -1,20 +1,19 @@
 -- What follows from `Report`, for each way that the code takes.
 use Prim.Native.Nat.{ℕ, _*_, _^_, _≤_, _<_}
 use mathlib.Core.Path.{_≡_, sym, subst, _∙_}
-use mathlib.Core.Bool.{Bool, true, false, _&&_}
+use mathlib.Core.Bool.{Bool, true, false}
 use mathlib.Core.List.{List, []}
 use lib.ListN.{length}
 use lib.Dec.{leb, ltb}
 use native.Mathlib.Omega.{arith}
-use borrow.Author.Tests.{leb-true}
 use Rattle.numbers.specs.Tests.{cond-all}
-use Rattle.format.specs.Limits.{sectionLimit, entryLimit, attributeLimit}
+use Rattle.format.specs.Limits.{sectionLimit}
 use Rattle.format.specs.Settings.{settingsHold}
 use Rattle.tables.specs.Test.{tableHolds}
 use Rattle.tables.specs.Check.{tested, afterTests}
-use Rattle.tables.specs.Row.{rowWidth, attrWidth}
-use Rattle.tables.specs.TestLaws.{both}
-use Rattle.entries.specs.Section.{fitting, SectionRead}
+use Rattle.tables.specs.Row.{rowWidth}
+use Rattle.tables.specs.TestLaws.{fits-all}
+use Rattle.entries.specs.Section.{SectionRead}
 use Rattle.entries.specs.Filled.{answer-read}
 use Rattle.format.specs.Refusal.{numberOf}
 use Rattle.format.specs.declared.refusal.Refusal.{Refusal}
@@ -96,20 +95,10 @@ module _ (longer : Bool) (s : List ℕ) {r : ℕ} {a b : List ℕ} where
 
 -- ---- no more rows are read than the tables have room for
 
-few : (c : Counts) (lentRows lentAttrs : ℕ) → fitting c lentRows lentAttrs ≡ true → c .rows * rowWidth ≤ lentRows
-unfolding fitting
-few c lentRows lentAttrs h =
-    let a : Bool = leb (c .rows) entryLimit in
-    let b : Bool = leb (c .rows * rowWidth) lentRows in
-    let d : Bool = leb (c .attrs) attributeLimit in
-    let third = both (a && b && d) (leb (c .attrs * attrWidth) lentAttrs) h in
-    let second = both (a && b) d (third .0) in
-    leb-true (c .rows * rowWidth) lentRows (both a b (second .0) .1)
-
 pub read-few : (s rows attrs : List ℕ) (c : Counts) → length rows ≡ 5120 → listingRead s rows attrs .answer ≡ Read c → c .rows ≤ 1024
 read-few s rows attrs c long h =
     let lent : c .rows * rowWidth ≤ length rows =
-    few c (length rows) (length attrs) (answer-read listingSettings [] listingSizes s rows attrs c h .fits)
+    fits-all c (length rows) (length attrs) (answer-read listingSettings [] listingSizes s rows attrs c h .fits) .rows-lent
     in
     omega arith
 

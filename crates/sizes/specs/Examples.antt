@@ -22,7 +22,7 @@ use Rattle.blocks.specs.Types.{withModifiers, modified, knownType, fundamental,
 use Rattle.tables.specs.Check.{afterTests, tested}
 use Rattle.tables.specs.Find.{rowFrom, rowOfKey}
 use Rattle.tables.specs.Row.{rowAt, attrAt, erasedRow, endianOf}
-use Rattle.tables.specs.Test.{attrHolds, runHolds, rowHolds, rowsHold, tableHolds}
+use Rattle.tables.specs.Test.{fitting, attrHolds, runHolds, rowHolds, rowsHold, tableHolds}
 use Rattle.links.specs.Attribute.{wants, attrFrom, attributeOf, asReference, referenceBy, referenceOf}
 use Rattle.links.specs.Links.{nextFrom, nextRow, rowNumber, siblingBy, siblingRow, childWalk, nullRow, nonNull}
 use Rattle.links.specs.Typed.{rowBy, inRow, endsOf, asValue, wordAt}
@@ -57,5 +57,5 @@ countsA = record { rows = 3; attrs = 4 }
 pub input-a : (sizeOfKey settingsA [] sizesA inputA rowsA attrsA countsA 0 ≡ sized.Is 4)
     × (layoutOf settingsA [] sizesA inputA rowsA attrsA countsA 0 (7 ∷ 7 ∷ 7 ∷ 7 ∷ 7 ∷ [])
     ≡ record { answer = layout.Is (record { row = 0; size = 4; members = 1 }); room = 0 ∷ 4 ∷ 0 ∷ 0 ∷ 7 ∷ [] })
-unfolding sizeOfKey tested entrySize afterTests settingsHold vendorsHold rolesHold roleHolds roleForm rolesDiffer fundTypes tableHolds rowsHold rowHolds rowAt member tags runHolds attrHolds known attributeKinds attrAt valueEnd formOf lookup fixedEnd there blockEnd readAt valueOf endianOf foundSize rowOfKey rowFrom entryAt shapeSize shapeOf membersSize membersOf membersBy childWalk walkFrom stops nextRow nextFrom erasedRow siblingRow siblingBy referenceOf referenceBy attributeOf attrFrom wants asReference rowNumber meets membersFrom nonNull nullRow childThen memberThen memberAt unless frontOf orElse headOf kindFault kindTaken faultsFrom runOf faultAt attributeFault takes takenBy attributeAt formFault isForm formNumber expectedForm plays expected contentFault isType typedFault typeAt fundType fundamental knownType parseInt fundTypeOf endsOf modified withModifiers modifiersOf allKnown locationFault locatedFault shapeOperand blockAt partAt childlessFault memberFields typedBy typeOf typeBy fields.lastOf lastFrom isSought replaced memberPlaced placedBy offsetField offsetBy offsetIn asOffset memberWith withBits bitsBy wordOf wordBy andMember sizeOrEnds wordIn asWord wordAt asValue layoutOf inRow rowBy rowLay layoutAt shapeLaid membersLaid layoutBy laidFrom layThen endOr andLaid laidMember memberSize sizeOr isBounded ownSize sizeOrLargest intoRoom layInto laidWords namePlace nameLength nameOf nameBy typeSize typeSizeBy kindSize indexOf anyPointer operandAt
+unfolding sizeOfKey tested entrySize afterTests settingsHold vendorsHold rolesHold roleHolds roleForm rolesDiffer fundTypes tableHolds fitting rowsHold rowHolds rowAt member tags runHolds attrHolds known attributeKinds attrAt valueEnd formOf lookup fixedEnd there blockEnd readAt valueOf endianOf foundSize rowOfKey rowFrom entryAt shapeSize shapeOf membersSize membersOf membersBy childWalk walkFrom stops nextRow nextFrom erasedRow siblingRow siblingBy referenceOf referenceBy attributeOf attrFrom wants asReference rowNumber meets membersFrom nonNull nullRow childThen memberThen memberAt unless frontOf orElse headOf kindFault kindTaken faultsFrom runOf faultAt attributeFault takes takenBy attributeAt formFault isForm formNumber expectedForm plays expected contentFault isType typedFault typeAt fundType fundamental knownType parseInt fundTypeOf endsOf modified withModifiers modifiersOf allKnown locationFault locatedFault shapeOperand blockAt partAt childlessFault memberFields typedBy typeOf typeBy fields.lastOf lastFrom isSought replaced memberPlaced placedBy offsetField offsetBy offsetIn asOffset memberWith withBits bitsBy wordOf wordBy andMember sizeOrEnds wordIn asWord wordAt asValue layoutOf inRow rowBy rowLay layoutAt shapeLaid membersLaid layoutBy laidFrom layThen endOr andLaid laidMember memberSize sizeOr isBounded ownSize sizeOrLargest intoRoom layInto laidWords namePlace nameLength nameOf nameBy typeSize typeSizeBy kindSize indexOf anyPointer operandAt
 input-a = (refl, refl)

@@ -4,20 +4,18 @@ use native.Mathlib.Nat.{sub-zero}
 use native.Mathlib.Numerals.{add-one}
 use native.Mathlib.Omega.{arith}
 use mathlib.Core.Path.{_≡_, sym, _∙_}
-use mathlib.Core.Bool.{Bool, true, _&&_}
+use mathlib.Core.Bool.{true}
 use mathlib.Core.List.{List}
 use lib.ListN.{length}
-use lib.Dec.{leb}
-use borrow.Author.Tests.{leb-true}
 use Rattle.numbers.specs.declared.Endian.{Endian}
 use Rattle.format.specs.Known.{known}
 use Rattle.format.specs.FormKind.{formOf}
-use Rattle.format.specs.Limits.{entryLimit, attributeLimit}
+use Rattle.format.specs.Limits.{entryLimit}
 use Rattle.attributes.specs.End.{valueEnd}
 use Rattle.attributes.specs.declared.value.End.the-variants.{At}
-use Rattle.tables.specs.Row.{rowWidth, attrWidth, rowAt}
-use Rattle.tables.specs.Test.{isAt, attrHolds, rowHolds, rowsHold, tableHolds, Checked}
-use Rattle.tables.specs.TestLaws.{both, RowPassed, row-passed, rows-step}
+use Rattle.tables.specs.Row.{rowWidth, rowAt}
+use Rattle.tables.specs.Test.{fitting, isAt, attrHolds, rowHolds, rowsHold, tableHolds, Checked}
+use Rattle.tables.specs.TestLaws.{both, RowPassed, row-passed, rows-step, Fits, fits-all}
 use Rattle.tables.specs.Find.{Rising}
 use Rattle.tables.specs.declared.row.Attr.{Attr}
 use Rattle.tables.specs.declared.row.Counts.{Counts}
@@ -82,40 +80,26 @@ module _ (s vendors rows attrs : List ℕ) (total n : ℕ) where
 -- ---- the table
 
 module _ {s vendors rows attrs : List ℕ} {counts : Counts} (checked : Checked s vendors rows attrs counts) where
-  -- the rows are within the limit and the lent words, and hold
-  record Parts : Type 0 where
-    rows-few : counts .rows ≤ entryLimit
-    rows-lent : counts .rows * rowWidth ≤ length rows
-    rows-hold : rowsHold s vendors rows attrs (counts .attrs) 0 (counts .rows) 0 0 ≡ true
-
-  parts : Parts
+  parts : (fitting counts (length rows) (length attrs) ≡ true) × (rowsHold s vendors rows attrs (counts .attrs) 0 (counts .rows) 0 0 ≡ true)
   unfolding tableHolds
-  parts =
-      let a : Bool = leb (counts .rows) entryLimit in
-      let b : Bool = leb (counts .rows * rowWidth) (length rows) in
-      let c : Bool = leb (counts .attrs) attributeLimit in
-      let d : Bool = leb (counts .attrs * attrWidth) (length attrs) in
-      let last = both (a && b && c && d) (rowsHold s vendors rows attrs (counts .attrs) 0 (counts .rows) 0 0) (checked .holds) in
-      let second = both a b (both (a && b) c (both (a && b && c) d (last .0) .0) .0) in
-      record {
-        rows-few = leb-true (counts .rows) entryLimit (second .0);
-        rows-lent = leb-true (counts .rows * rowWidth) (length rows) (second .1);
-        rows-hold = last .1;
-      }
+  parts = both (fitting counts (length rows) (length attrs)) (rowsHold s vendors rows attrs (counts .attrs) 0 (counts .rows) 0 0) (checked .holds)
 
-  -- there are at most as many rows as the limit says
+  -- the counts are allowed, and fit the lent words
+  pub checked-fits : Fits counts (length rows) (length attrs)
+  checked-fits = fits-all counts (length rows) (length attrs) (parts .0)
+
   pub checked-rows-few : counts .rows ≤ entryLimit
-  checked-rows-few = parts .rows-few
+  checked-rows-few = checked-fits .rows-few
 
   -- each row's key lies in the section
   pub checked-inside : (i : ℕ) → i < counts .rows → rowAt rows i .key < length s
-  checked-inside i h = inside-at s vendors rows attrs (counts .attrs) (counts .rows) (parts .rows-hold) i h
+  checked-inside i h = inside-at s vendors rows attrs (counts .attrs) (counts .rows) (parts .1) i h
 
   -- keys rise, so that the row of a key is found by bisection
   pub checked-rising : Rising rows (counts .rows)
   checked-rising =
-      let lent : counts .rows * rowWidth ≤ length rows = parts .rows-lent in
+      let lent : counts .rows * rowWidth ≤ length rows = checked-fits .rows-lent in
       record {
         few = omega arith;
-        rise = λ i h. (let up : rowAt rows i .key + 4 ≤ rowAt rows (i + 1) .key = above-at s vendors rows attrs (counts .attrs) (counts .rows) (parts .rows-hold) i h in omega arith);
+        rise = λ i h. (let up : rowAt rows i .key + 4 ≤ rowAt rows (i + 1) .key = above-at s vendors rows attrs (counts .attrs) (counts .rows) (parts .1) i h in omega arith);
       }

@@ -24,6 +24,11 @@ unfoldable pub isAt : End → Bool
 isAt (At next) = true
 isAt (Short field) = false
 
+-- so many rows and attributes are allowed, and fit tables of so many words
+unfoldable pub fitting : Counts → ℕ → ℕ → Bool
+fitting c lentRows lentAttrs =
+    leb (c .rows) entryLimit && leb (c .rows * rowWidth) lentRows && leb (c .attrs) attributeLimit && leb (c .attrs * attrWidth) lentAttrs
+
 module _ (s vendors : List ℕ) where
   -- a known number, and a value wholly inside the section, in the row's data endianness
   unfoldable pub attrHolds : Endian → Attr → Bool
@@ -49,9 +54,7 @@ module _ (s vendors : List ℕ) where
 
   -- no more rows and attributes than allowed and lent, and each row holds
   unfoldable pub tableHolds : List ℕ → List ℕ → Counts → Bool
-  tableHolds rows attrs counts =
-      leb (counts .rows) entryLimit && leb (counts .rows * rowWidth) (length rows) && leb (counts .attrs) attributeLimit
-      && leb (counts .attrs * attrWidth) (length attrs) && rowsHold rows attrs (counts .attrs) 0 (counts .rows) 0 0
+  tableHolds rows attrs counts = fitting counts (length rows) (length attrs) && rowsHold rows attrs (counts .attrs) 0 (counts .rows) 0 0
 
   -- what passes: the crates above take this as what they require
   pub record Checked (rows attrs : List ℕ) (counts : Counts) : Type 0 where

@@ -20,7 +20,7 @@ use Rattle.format.specs.declared.form_kind.FormKind.{FormKind}
 use Rattle.attributes.specs.End.{valueEnd}
 use Rattle.attributes.specs.declared.value.End.{End}
 use Rattle.tables.specs.Row.{rowWidth, attrWidth, rowAt, attrAt, endianOf}
-use Rattle.tables.specs.Test.{isAt, attrHolds, runHolds, rowHolds, rowsHold, tableHolds}
+use Rattle.tables.specs.Test.{fitting, isAt, attrHolds, runHolds, rowHolds, rowsHold, tableHolds}
 use Rattle.tables.specs.declared.row.Row.{Row}
 use Rattle.tables.specs.declared.row.Attr.{Attr}
 use Rattle.tables.specs.declared.row.Counts.{Counts}
@@ -156,26 +156,26 @@ module _ (s vendors rows attrs : List ℕ) (total n i least run : ℕ) where
 
 module _ (s vendors rows attrs : List ℕ) (counts : Counts) where
   pub table-many-rows : entryLimit < counts .rows → false ≡ tableHolds s vendors rows attrs counts
-  unfolding tableHolds
+  unfolding tableHolds fitting
   table-many-rows h = rw (lt-leb (counts .rows) entryLimit h)
 
   pub table-short-rows : length rows < counts .rows * rowWidth → false ≡ tableHolds s vendors rows attrs counts
-  unfolding tableHolds
+  unfolding tableHolds fitting
   table-short-rows h = rw (lt-leb (counts .rows * rowWidth) (length rows) h, and-false)
 
   pub table-many-attrs : attributeLimit < counts .attrs → false ≡ tableHolds s vendors rows attrs counts
-  unfolding tableHolds
+  unfolding tableHolds fitting
   table-many-attrs h = rw (lt-leb (counts .attrs) attributeLimit h, and-false)
 
   pub table-short-attrs : length attrs < counts .attrs * attrWidth → false ≡ tableHolds s vendors rows attrs counts
-  unfolding tableHolds
+  unfolding tableHolds fitting
   table-short-attrs h = rw (lt-leb (counts .attrs * attrWidth) (length attrs) h, and-false)
 
   -- what is left are the rows
   pub table-rows : counts .rows ≤ entryLimit → counts .rows * rowWidth ≤ length rows → counts .attrs ≤ attributeLimit
       → counts .attrs * attrWidth ≤ length attrs
       → rowsHold s vendors rows attrs (counts .attrs) 0 (counts .rows) 0 0 ≡ tableHolds s vendors rows attrs counts
-  unfolding tableHolds
+  unfolding tableHolds fitting
   table-rows h₁ h₂ h₃ h₄ =
       rw (
         le-leb (counts .rows) entryLimit h₁,
@@ -189,6 +189,29 @@ module _ (s vendors rows attrs : List ℕ) (counts : Counts) where
 -- both of two tests that pass together
 pub both : (a b : Bool) → (a && b) ≡ true → (a ≡ true) × (b ≡ true)
 both a b = and-eq-true-iff a b .0
+
+-- counts that are allowed and fit
+pub record Fits (c : Counts) (lentRows lentAttrs : ℕ) : Type 0 where
+  pub rows-few : c .rows ≤ entryLimit
+  pub rows-lent : c .rows * rowWidth ≤ lentRows
+  pub attrs-few : c .attrs ≤ attributeLimit
+  pub attrs-lent : c .attrs * attrWidth ≤ lentAttrs
+
+pub fits-all : (c : Counts) (lentRows lentAttrs : ℕ) → fitting c lentRows lentAttrs ≡ true → Fits c lentRows lentAttrs
+unfolding fitting
+fits-all c lentRows lentAttrs h =
+    let a : Bool = leb (c .rows) entryLimit in
+    let b : Bool = leb (c .rows * rowWidth) lentRows in
+    let d : Bool = leb (c .attrs) attributeLimit in
+    let third = both (a && b && d) (leb (c .attrs * attrWidth) lentAttrs) h in
+    let second = both (a && b) d (third .0) in
+    let first = both a b (second .0) in
+    record {
+      rows-few = leb-true (c .rows) entryLimit (first .0);
+      rows-lent = leb-true (c .rows * rowWidth) lentRows (first .1);
+      attrs-few = leb-true (c .attrs) attributeLimit (second .1);
+      attrs-lent = leb-true (c .attrs * attrWidth) lentAttrs (third .1);
+    }
 
 -- a row that passed
 pub record RowPassed (s vendors attrs : List ℕ) (total least run : ℕ) (r : Row) : Type 0 where

@@ -36,7 +36,8 @@ use Rattle.entries.specs.Head.{nullEnd, tagHead, sizeHead, headAt}
 use Rattle.entries.specs.Run.{attr, first, runEnds, readOn, runFrom}
 use Rattle.entries.specs.Entry.{littleFlag, flagOf, flagsOf, kindOf, ordinary, attributes, entryFrom, entryAt}
 use Rattle.entries.specs.Walk.{walked, join, andThen, onward, walkFrom, walkAt}
-use Rattle.entries.specs.Section.{Outcome, counts, fitting, stored, wholeWalk, readSection, SectionRead}
+use Rattle.tables.specs.Test.{fitting}
+use Rattle.entries.specs.Section.{Outcome, counts, stored, wholeWalk, readSection, SectionRead}
 use Rattle.entries.specs.SectionLaws.{attrs-decide}
 use Rattle.entries.specs.Only.{only-read}
 use Rattle.entries.specs.declared.section.Section.{Section}
