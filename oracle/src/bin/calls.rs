@@ -50,15 +50,16 @@ fn user(key: usize, pointer: bool) -> Vec<u8> {
     if pointer { [&[0, 0x83, 0, 5, 1][..], &key].concat() } else { [&[0, 0x72][..], &key].concat() }
 }
 
-/// So many structures of five members, each of which holds the one before it, `depth` deep, and an array.
-fn structures(count: usize, depth: usize) -> Vec<u8> {
+/// So many structures of five members, each of which holds the one before it, `depth` deep, and an array; with a ByteSize if `sized`.
+fn structures(count: usize, depth: usize, sized: bool) -> Vec<u8> {
     let (mut bytes, mut last) = (Vec::new(), 0);
     for k in 0..count {
         let array = [&[0, 0xa3, 0, 16, 0, 0, 7, 0, 0, 0, 0, 0, 0, 0, 3, 8][..], &[0, 0x55, 0, 5]].concat();
         let array_key = entry(&mut bytes, 0x01, true, &array);
         let start = bytes.len();
         set_sibling(&mut bytes, array_key, start);
-        let start = entry(&mut bytes, 0x13, true, format!("\0\x38record{k}\0").as_bytes());
+        let own: &[u8] = if sized { &[0, 0xb6, 0, 0, 0, 24] } else { &[] };
+        let start = entry(&mut bytes, 0x13, true, &[format!("\0\x38record{k}\0").as_bytes(), own].concat());
         member(&mut bytes, "id", &[0, 0x55, 0, 7], 0);
         member(&mut bytes, "kind", &[0, 0x55, 0, 1], 4);
         member(&mut bytes, "next", &user(start, true), 8);
@@ -126,17 +127,19 @@ fn agree(section: &Section, info: &DwarfInfo) {
 
 fn main() {
     let rounds = env::args().nth(1).map_or(101, |word| word.parse().expect("a number"));
-    println!("section               rows  call             ours us   Rust us  ours/Rust  ours, twice the section");
-    for (name, count, depth) in [("flat", 580, 1), ("nested 4 deep", 512, 4), ("nested 16 deep", 512, 16)] {
+    println!("section                   rows  call             ours us   Rust us  ours/Rust  ours, twice the section");
+    let shapes = [("flat", 580, 1), ("nested 4 deep", 512, 4), ("nested 16 deep", 512, 16)];
+    for ((shape, count, depth), sized) in shapes.into_iter().flat_map(|shape| [(shape, false), (shape, true)]) {
+        let name = if sized { format!("{shape}, ByteSize") } else { shape.to_string() };
         let [whole, half] = [count, count / 2].map(|n| {
-            let bytes = structures(n, depth);
+            let bytes = structures(n, depth, sized);
             let info = read_debug_section(&mut Cursor::new(&bytes), reader::Endian::Big, false).unwrap();
             (Section::read(bytes, Settings::mw(Endian::Big)).unwrap(), info)
         });
         agree(&whole.0, &whole.1);
         let rows = whole.0.entries().count();
         let line = |call: &str, [us, rust]: [f64; 2], [twice, once]: [f64; 2]| {
-            println!("{name:20} {rows:5}  {call:14} {us:9.1} {rust:9.1} {:10.3} {:24.2}", us / rust, twice / once);
+            println!("{name:24} {rows:5}  {call:14} {us:9.1} {rust:9.1} {:10.3} {:24.2}", us / rust, twice / once);
         };
         let tree = |s: &Section| timed(|| s.tree().unwrap());
         let ratio = in_turns(rounds, || tree(&whole.0), || timed(|| all_children(&whole.1)));
@@ -152,6 +155,6 @@ fn main() {
         // No row has this key, so that nothing but the test of the table is done.
         let test = |s: &Section| timed(|| s.size(1));
         let ratio = in_turns(rounds, || test(&whole.0), || tree(&whole.0));
-        println!("{name:20} {rows:5}  {:14} {:9.1}", "table test", ratio[0]);
+        println!("{name:24} {rows:5}  {:14} {:9.1}", "table test", ratio[0]);
     }
 }
