@@ -1,18 +1,18 @@
-use Rattle.tables.specs.FindLaws.{Between, between-all, between-upper, between-lower, between-one}
+use Rattle.tables.specs.FindLaws.{Between, between-upper, between-lower, between-one}
 use borrow.Author.Needs.{needs}
 use native.Mathlib.Omega.{arith}
 use Prim.Native.Nat.{_-_}
-use Rattle.tables.proofs.find.first_from.Statement.{statement}
-use Rattle.tables.proofs.find.first_from.Tie as tie
+use Rattle.tables.proofs.find.first_between.Statement.{statement}
+use Rattle.tables.proofs.find.first_between.Tie as tie
 
 abbrev Inv-loop : tie.InvT-loop
-Inv-loop rows n key low₀ high₀ low high = Between rows n key low high
+Inv-loop rows n low high key from₀ to₀ from to = Between rows n key from to
 
 abbrev μ-loop : tie.MeasureT-loop
-μ-loop rows n key low₀ high₀ low high = high - low
+μ-loop rows n low high key from₀ to₀ from to = to - from
 
 loop-holds : tie.Need-loop-holds Inv-loop μ-loop
-loop-holds c = between-all _ _ _
+loop-holds c = c .before .pre .1
 
 sub-middle : tie.Need-sub-middle Inv-loop μ-loop
 sub-middle c = search needs
@@ -26,26 +26,26 @@ mul-cell c = search needs
 cell-requires : tie.Need-cell-requires Inv-loop μ-loop
 cell-requires c κs = search needs
 
-add-low : tie.Need-add-low Inv-loop μ-loop
-add-low c = search needs
+add-from : tie.Need-add-from Inv-loop μ-loop
+add-from c = search needs
 
 loop-less : tie.Need-loop-less Inv-loop μ-loop
 loop-less c = search needs
 
 loop-again : tie.Need-loop-again Inv-loop μ-loop
-loop-again c = between-upper (c .before .before .before .before .before .pre) (c .before .before .before .loop .inv) _ (omega arith) (omega arith) (c .before .cell .ensures) (c .if1 .taken)
+loop-again c = between-upper (c .before .before .before .before .before .pre .0) (c .before .before .before .loop .inv) _ (omega arith) (omega arith) (c .before .cell .ensures) (c .if1 .taken)
 
 loop-less-2 : tie.Need-loop-less-2 Inv-loop μ-loop
 loop-less-2 c = search needs
 
 loop-again-2 : tie.Need-loop-again-2 Inv-loop μ-loop
-loop-again-2 c = between-lower (c .before .before .before .before .before .pre) (c .before .before .before .loop .inv) _ (omega arith) (omega arith) (c .before .cell .ensures) (c .if1 .left)
+loop-again-2 c = between-lower (c .before .before .before .before .before .pre .0) (c .before .before .before .loop .inv) _ (omega arith) (omega arith) (c .before .cell .ensures) (c .if1 .left)
 
 returns : tie.Need-returns Inv-loop μ-loop
 returns c = between-one (c .before .loop .inv) (c .loop-test .left)
 
-pub first-from-spec : {M : Type 1} → statement M
-first-from-spec =
+pub first-between-spec : {M : Type 1} → statement M
+first-between-spec =
     tie.close
     (tie.spec
     Inv-loop
@@ -55,7 +55,7 @@ first-from-spec =
     add-middle
     mul-cell
     cell-requires
-    add-low
+    add-from
     loop-less
     loop-again
     loop-less-2
