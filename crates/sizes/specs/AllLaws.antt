@@ -1,9 +1,10 @@
 -- What follows from `All` and its ways, for each way that the code comes to an answer.
 use Prim.Native.Nat.{ℕ, suc, _+_, _-_, _*_, _/_, _≤_, _<_}
 use native.Mathlib.Nat.{add-zero, zero-add, add-assoc, le-trans}
+use native.Mathlib.Decide.{decLe}
 use native.Mathlib.Omega.{arith}
 use mathlib.Core.Path.{_≡_, refl, sym, ap, ap₂, _∙_, subst}
-use mathlib.Core.Bool.{Bool, true, false}
+use mathlib.Core.Bool.{Bool, true, false, true≢false}
 use mathlib.Core.List.{List, [], _∷_, _++_, append-nil, append-assoc}
 use lib.ListN.{length, take, drop, set, length-append}
 use lib.Seq.{sets, length-sets}
@@ -41,6 +42,7 @@ use Rattle.records.specs.declared.member.MemberRead.{MemberRead}
 use Rattle.records.specs.declared.member.MemberRead.the-variants as read
 use Rattle.sizes.specs.Size.{shapeOf, typeSize, memberSize, childThen, membersFrom, membersBy, membersOf}
 use Rattle.sizes.specs.SizeWays.{Ready, typeFrom}
+use Rattle.sizes.specs.Known.{knownWidth, knownAt, PutKnown}
 use Rattle.sizes.specs.LevelsWays.{deepest, sizeLeft, Filled}
 use Rattle.sizes.specs.LevelsLaws.{known-types}
 use Rattle.sizes.specs.Layout.{Laid, Lay, laid, nowhere, laidMember, andLaid, layThen, endOr, laidFrom, isStructure, isBounded, ownSize, membersLaid, shapeLaid, rowLay, layoutBy, layoutAt, laidWords, laidWidth}
@@ -48,7 +50,7 @@ use Rattle.sizes.specs.LayoutWays.{WholeLaid}
 use Rattle.sizes.specs.KeptLaws.{structure-test}
 use Rattle.sizes.specs.LayoutLaws.{words-long, AllLaid, answer-laid, isNone}
 use Rattle.sizes.specs.All.{Structure, laidOf, keptIf, structureAt, structuresFrom, answerWords, structureWidth, structureWords, memberWords, memberCount, countsOf, Outcome, outcome, intoRooms, allOf, AllGiven}
-use Rattle.sizes.specs.AllWays.{rowStructures, eightWords, countedOn, countedWith, OneMore, CountAsked, PutAsked, Puts, PutsAsked, PutAll}
+use Rattle.sizes.specs.AllWays.{rowStructures, eightWords, countedOn, countedWith, OneMore, CountAsked, sizeTold, Told, RowCounted, PutAsked, Puts, PutsAsked, PutAll}
 use Rattle.sizes.specs.declared.prepare.Shape.{Shape}
 use Rattle.sizes.specs.declared.prepare.Shape.the-variants as shape
 use Rattle.sizes.specs.declared.sized.Sized.{Sized}
@@ -225,6 +227,14 @@ abbrev membersIn : LayoutWhole → ℕ
 membersIn (whole.Is x) = x .members
 membersIn (whole.Refused why) = 0
 
+abbrev isSize : Sized → Type 0
+isSize (Is size) = Unit
+isSize (Refused why) = ⊥
+
+abbrev reasonIn : Refusal → Sized → Refusal
+reasonIn other (Is size) = other
+reasonIn other (Refused why) = why
+
 abbrev isGiven : LayoutWhole → Type 0
 isGiven (whole.Is x) = Unit
 isGiven (whole.Refused why) = ⊥
@@ -250,15 +260,24 @@ module _ (settings : Settings) (s rows attrs : List ℕ) (n : ℕ) (sizeOf : «T
     row-one t = rw (structure-test rows i at is t)
 
     -- a row that is no structure adds nothing
-    pub count-other : (counts : LayoutCounts) → b ≡ false → counts ≡ countedWith counts (rowStructures settings s rows attrs n sizeOf i)
-    count-other counts t = counted-none counts ∙ ap (countedWith counts) (sym (row-other t))
+    none-counted : (counts : LayoutCounts) → b ≡ false → counts ≡ countedWith counts (rowStructures settings s rows attrs n sizeOf i)
+    none-counted counts t = counted-none counts ∙ ap (countedWith counts) (sym (row-other t))
+
+    pub count-other : (counts : LayoutCounts) {table : List ℕ} → b ≡ false → RowCounted settings s rows attrs n sizeOf i counts counts table table
+    count-other counts t =
+        record {
+          counts-are = none-counted counts t;
+          told-is = λ u. absurd (true≢false (sym u ∙ structure-test rows i at is t));
+          others = λ j h. refl;
+          same-long = refl;
+        }
 
     pub puts-other : (counts : LayoutCounts) {structures members : List ℕ} → b ≡ false
         → Puts (rowStructures settings s rows attrs n sizeOf i) counts counts structures structures members members
     unfolding structureWords memberWords
     puts-other counts {structures} {members} t =
         record {
-          counts-are = count-other counts t;
+          counts-are = none-counted counts t;
           structures-are = ap (λ (xs : List Structure). sets structures (counts .structures * structureWidth) (structureWords (counts .members) xs)) (sym (row-other t));
           members-are = ap (λ (xs : List Structure). sets members (counts .members * laidWidth) (memberWords xs)) (sym (row-other t));
         }
@@ -274,6 +293,11 @@ module _ (settings : Settings) (s rows attrs : List ℕ) (n : ℕ) (sizeOf : «T
       counted-one {many} p q =
           let same : counts .members + many ≡ counts .members + (length (laidOf (rowLay settings s rows attrs n sizeOf i)) + 0) = omega arith in
           q ∙ ap (counting (counts .structures + 1)) same ∙ ap (countedWith counts) (sym (row-one t))
+
+      -- what the layout tells is kept
+      counted-told : {size : Sized} {table table′ : List ℕ} {r : LayoutCounts} → r ≡ countedWith counts (rowStructures settings s rows attrs n sizeOf i) → size ≡ sizeTold told
+          → PutKnown i size table table′ → RowCounted settings s rows attrs n sizeOf i counts r table table′
+      counted-told q z g = record { counts-are = q; told-is = λ u. g .here ∙ z ∙ ap sizeTold answer; others = g .others; same-long = g .same-long }
 
       put-one : (structures : List ℕ) {words structures′ : List ℕ} → words ≡ answerWords i (nameOf s attrs (runOf (settings .endian) rows i) attribute.Name) (counts .members) (layoutAt settings s rows attrs n sizeOf i)
           → structures′ ≡ sets structures (counts .structures * structureWidth) words
@@ -306,8 +330,12 @@ module _ (settings : Settings) (s rows attrs : List ℕ) (n : ℕ) (sizeOf : «T
             let fewer : counts .members ≤ i * entryLimit = w .few-members in
             record { structures-small = omega arith; members-small = omega arith }
 
-        pub count-given : {r : LayoutCounts} → r ≡ countedOn counts (x .members) → r ≡ countedWith counts (rowStructures settings s rows attrs n sizeOf i)
-        count-given q = counted-one many-given q
+        given-counted : {r : LayoutCounts} → r ≡ countedOn counts (x .members) → r ≡ countedWith counts (rowStructures settings s rows attrs n sizeOf i)
+        given-counted q = counted-one many-given q
+
+        pub count-given : {size : Sized} {table table′ : List ℕ} {r : LayoutCounts} → size ≡ sizeTold told → PutKnown i size table table′ → r ≡ countedOn counts (x .members)
+            → RowCounted settings s rows attrs n sizeOf i counts r table table′
+        count-given z g q = counted-told (given-counted q) z g
 
         pub puts-given : {run : Run} {name : Name} {r : LayoutCounts} {structures structures′ room part′ : List ℕ} {again : LayoutWhole}
             → run ≡ runOf (settings .endian) rows i → name ≡ nameOf s attrs run attribute.Name → WholeLaid (layoutAt settings s rows attrs n sizeOf i) (rowLay settings s rows attrs n sizeOf i) again
@@ -320,7 +348,7 @@ module _ (settings : Settings) (s rows attrs : List ℕ) (n : ℕ) (sizeOf : «T
         puts-given {name = name} {structures = structures} {room = room} at′ is′ g e q =
             let these : AllLaid (rowLay settings s rows attrs n sizeOf i) = answer-laid settings s rows attrs n sizeOf i (rowLay settings s rows attrs n sizeOf i) (sym answer ∙ p) in
             record {
-              counts-are = count-given q;
+              counts-are = given-counted q;
               structures-are = put-one structures (ap₂ (λ (y : Name) (w : LayoutWhole). answerWords i y (counts .members) w) (name-is at′ is′) (sym p ∙ answer)) e;
               members-are =
                   members-one room (ap laidOf (these .are)) (sets-rest room (counts .members * laidWidth) (laidWords (these .list)) (g .room-is (these .list) (these .most) (these .are)));
@@ -331,8 +359,12 @@ module _ (settings : Settings) (s rows attrs : List ℕ) (n : ℕ) (sizeOf : «T
         unfolding layoutAt
         none-given = refused-none (rowLay settings s rows attrs n sizeOf i) (sym answer ∙ p)
 
-        pub count-refused : {r : LayoutCounts} → r ≡ countedOn counts 0 → r ≡ countedWith counts (rowStructures settings s rows attrs n sizeOf i)
-        count-refused q = counted-one (ap length none-given) q
+        refused-counted : {r : LayoutCounts} → r ≡ countedOn counts 0 → r ≡ countedWith counts (rowStructures settings s rows attrs n sizeOf i)
+        refused-counted q = counted-one (ap length none-given) q
+
+        pub count-refused : {size : Sized} {table table′ : List ℕ} {r : LayoutCounts} → size ≡ sizeTold told → PutKnown i size table table′ → r ≡ countedOn counts 0
+            → RowCounted settings s rows attrs n sizeOf i counts r table table′
+        count-refused z g q = counted-told (refused-counted q) z g
 
         pub puts-refused : {run : Run} {name : Name} {r : LayoutCounts} {structures structures′ room : List ℕ} {number : ℕ}
             → run ≡ runOf (settings .endian) rows i → name ≡ nameOf s attrs run attribute.Name → number ≡ numberOf (why .reason)
@@ -341,13 +373,47 @@ module _ (settings : Settings) (s rows attrs : List ℕ) (n : ℕ) (sizeOf : «T
         unfolding answerWords eightWords laidWords
         puts-refused {name = name} {structures = structures} {room = room} {number = number} at′ is′ m e q =
             record {
-              counts-are = count-refused q;
+              counts-are = refused-counted q;
               structures-are =
                   put-one structures
                   (ap (λ (k : ℕ). eightWords i k 0 (why .place) (counts .members) 0 name) m
                   ∙ ap₂ (λ (y : Name) (w : LayoutWhole). answerWords i y (counts .members) w) (name-is at′ is′) (sym p ∙ answer)) e;
               members-are = members-one room none-given refl;
             }
+
+-- ---- what was told of a row
+
+module _ {answer : LayoutWhole} where
+  pub told-is : {x : Layout} → answer ≡ whole.Is x → Is (x .size) ≡ sizeTold answer
+  unfolding sizeTold
+  told-is p = ap sizeTold (sym p)
+
+  pub told-refused : {why : Refusal} → answer ≡ whole.Refused why → Refused why ≡ sizeTold answer
+  unfolding sizeTold
+  told-refused p = ap sizeTold (sym p)
+
+-- a refusal that was told is the layout's
+refusal-told : (answer : LayoutWhole) {why : Refusal} → sizeTold answer ≡ Refused why → answer ≡ whole.Refused why
+unfolding sizeTold
+refusal-told (whole.Is x) p = absurd (subst isSize p tt)
+refusal-told (whole.Refused why) p = ap (λ (x : Sized). whole.Refused (reasonIn why x)) p
+
+-- and a layout of which a size was told is not refused
+size-given : {answer : LayoutWhole} {size : ℕ} {why : Refusal} → sizeTold answer ≡ Is size → answer ≡ whole.Refused why → ⊥
+unfolding sizeTold
+size-given p q = subst isSize (sym p ∙ ap sizeTold q) tt
+
+module _ {settings : Settings} {s rows attrs : List ℕ} {n : ℕ} {sizeOf : «Type» → Sized} {table : List ℕ} (w : Told settings s rows attrs n sizeOf n table)
+    {i : ℕ} (l : i < n) {row : Row} {b : Bool} (at : row ≡ rowAt rows i) (is : b ≡ isStructure (shapeOf (row .kind))) (t : b ≡ true)
+    {told : Sized} (p : told ≡ knownAt table i) where
+  layout-told : sizeTold (layoutAt settings s rows attrs n sizeOf i) ≡ told
+  layout-told = sym (w .each i l (structure-test rows i at is t)) ∙ sym p
+
+  pub layout-refused : {why : Refusal} → told ≡ Refused why → layoutAt settings s rows attrs n sizeOf i ≡ whole.Refused why
+  layout-refused q = refusal-told (layoutAt settings s rows attrs n sizeOf i) (layout-told ∙ q)
+
+  pub layout-given : {size : ℕ} {answer : LayoutWhole} {why : Refusal} → told ≡ Is size → answer ≡ layoutAt settings s rows attrs n sizeOf i → answer ≡ whole.Refused why → ⊥
+  layout-given q a r = size-given (layout-told ∙ q) (sym a ∙ r)
 
 pub refused-asked : {s rows : List ℕ} {n i : ℕ} {counts : LayoutCounts} → CountAsked s rows n i counts → OneMore counts 0
 refused-asked {s} {rows} {n} {i} {counts} w =
@@ -452,6 +518,27 @@ module _ {settings : Settings} {s rows attrs : List ℕ} {n : ℕ} {sizeOf : «T
 
   pub counting-ends : n ≤ i → counts ≡ countsOf (structuresFrom settings s rows attrs n sizeOf 0 n)
   counting-ends h = counted-none counts ∙ ap (countedWith counts) (sym (left-none settings s rows attrs n sizeOf i h)) ∙ w .on
+
+-- ---- what was told, row after row
+
+module _ (settings : Settings) (s rows attrs : List ℕ) (n : ℕ) (sizeOf : «Type» → Sized) where
+  pub told-none : {told : List ℕ} → n * knownWidth ≤ length told → Told settings s rows attrs n sizeOf 0 told
+  told-none h = record { fits = h; each = λ i l t. absurd (omega (arith, l)) }
+
+  pub told-more : {told told′ : List ℕ} {counts counts′ : LayoutCounts} {k : ℕ} → Told settings s rows attrs n sizeOf k told
+      → RowCounted settings s rows attrs n sizeOf k counts counts′ told told′ → Told settings s rows attrs n sizeOf (k + 1) told′
+  told-more {told} {told′} {k = k} w g =
+      record {
+        fits = omega (arith, w .fits, g .same-long);
+        each = λ i l. elim (decLe k i) [
+          | yes h ↦ let same : k ≡ i = omega arith in
+              subst (λ (j : ℕ). isStructure (shapeOf (rowAt rows j .kind)) ≡ true → knownAt told′ j ≡ sizeTold (layoutAt settings s rows attrs n sizeOf j)) same (g .told-is)
+          | no h ↦ λ t. g .others i (λ z. omega (arith, z)) ∙ w .each i (omega arith) t
+        ];
+      }
+
+  pub told-all : {told : List ℕ} {k : ℕ} → Told settings s rows attrs n sizeOf k told → n ≤ k → Told settings s rows attrs n sizeOf n told
+  told-all w h = record { fits = w .fits; each = λ i l. w .each i (omega arith) }
 
 -- what was given before row i, and what is left, come to the whole
 pub record Putting (settings : Settings) (s rows attrs : List ℕ) (n : ℕ) (sizeOf : «Type» → Sized) (structures₀ members₀ structures room : List ℕ)

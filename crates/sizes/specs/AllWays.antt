@@ -1,6 +1,7 @@
 -- How the layouts of all structures are given: row by row, counted first.
 use Prim.Native.Nat.{ℕ, _+_, _*_, _^_, _≤_, _<_}
 use mathlib.Core.Path.{_≡_}
+use mathlib.Core.Bool.{true}
 use mathlib.Core.List.{List, [], _∷_}
 use lib.ListN.{length}
 use lib.Seq.{sets}
@@ -13,9 +14,13 @@ use Rattle.records.specs.MemberWords.{namePlace, nameLength}
 use Rattle.records.specs.declared.fields.Name.{Name}
 use Rattle.sizes.specs.Size.{shapeOf}
 use Rattle.sizes.specs.SizeWays.{Ready}
-use Rattle.sizes.specs.Layout.{isStructure, laidWidth}
-use Rattle.sizes.specs.All.{Structure, keptIf, structureAt, structureWords, structureWidth, memberWords, memberCount}
+use Rattle.sizes.specs.Known.{knownWidth, knownAt}
+use Rattle.sizes.specs.Layout.{isStructure, layoutAt, laidWidth}
+use Rattle.sizes.specs.All.{Structure, keptIf, structureAt, structuresFrom, countsOf, structureWords, structureWidth, memberWords, memberCount}
 use Rattle.sizes.specs.declared.sized.Sized.{Sized}
+use Rattle.sizes.specs.declared.sized.Sized.the-variants.{Is, Refused}
+use Rattle.sizes.specs.declared.layout.LayoutWhole.{LayoutWhole}
+use Rattle.sizes.specs.declared.layout.LayoutWhole.the-variants as whole
 use Rattle.sizes.specs.declared.all.LayoutCounts.{LayoutCounts}
 
 -- row i, if it is a structure
@@ -43,6 +48,28 @@ pub record CountAsked (s rows : List ℕ) (n i : ℕ) (counts : LayoutCounts) : 
   pub asked : AskedShort s rows n i
   pub few-structures : counts .structures ≤ i
   pub few-members : counts .members ≤ i * entryLimit
+
+-- what a layout tells: its size, or its refusal
+unfoldable pub sizeTold : LayoutWhole → Sized
+sizeTold (whole.Is x) = Is (x .size)
+sizeTold (whole.Refused why) = Refused why
+
+module _ (settings : Settings) (s rows attrs : List ℕ) (n : ℕ) (sizeOf : «Type» → Sized) where
+  -- the structures among the first k of n rows have told
+  pub record Told (k : ℕ) (told : List ℕ) : Type 0 where
+    pub fits : n * knownWidth ≤ length told
+    pub each : (i : ℕ) → i < k → isStructure (shapeOf (rowAt rows i .kind)) ≡ true → knownAt told i ≡ sizeTold (layoutAt settings s rows attrs n sizeOf i)
+
+  -- row i is counted and has told, what others told is as before
+  pub record RowCounted (i : ℕ) (counts counts′ : LayoutCounts) (told told′ : List ℕ) : Type 0 where
+    pub counts-are : counts′ ≡ countedWith counts (rowStructures settings s rows attrs n sizeOf i)
+    pub told-is : isStructure (shapeOf (rowAt rows i .kind)) ≡ true → knownAt told′ i ≡ sizeTold (layoutAt settings s rows attrs n sizeOf i)
+    pub others : (j : ℕ) → (j ≡ i → ⊥) → knownAt told′ j ≡ knownAt told j
+    pub same-long : length told′ ≡ length told
+
+  pub record AllCounted (counts : LayoutCounts) (told : List ℕ) : Type 0 where
+    pub counts-are : counts ≡ countsOf (structuresFrom settings s rows attrs n sizeOf 0 n)
+    pub all-told : Told n told
 
 -- ---- giving
 

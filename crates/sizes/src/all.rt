@@ -1,11 +1,14 @@
 // Every structure's and class's layout of a table, in file order, in one call that tests the table once. The sizes of all rows are taken first, so that the
 // row sizes taken are at most rows times depth.
 use crate::keep::keep_rows;
+use crate::known::known_at;
+use crate::known::put_known;
 use crate::layout::LAID_WIDTH;
 use crate::layout::LayoutWhole;
 use crate::layout::is_structure;
 use crate::layout::read_layout;
 use crate::levels::fill_known;
+use crate::sized::Sized;
 use format::attribute_kind::NAME;
 use format::refusal::Refusal;
 use format::refusal::number_of;
@@ -21,14 +24,16 @@ use tables::check::check_table;
 use tables::row::Counts;
 use tables::row::row_at;
 ghost use mathlib.Core.Path.{_≡_};
-ghost use Prim.Native.Nat.{_*_};
+ghost use Prim.Native.Nat.{_*_, _≤_};
+ghost use lib.ListN.{length};
 ghost use lib.Seq.{sets};
 ghost use Rattle.sizes.specs.Size.{typeSize};
 ghost use Rattle.sizes.specs.SizeWays.{Ready, typeFrom};
-ghost use Rattle.sizes.specs.LevelsWays.{deepest};
+ghost use Rattle.sizes.specs.Known.{knownWidth};
+ghost use Rattle.sizes.specs.LevelsWays.{deepest, FillAsked};
 ghost use Rattle.sizes.specs.KeptWays.{AllKept};
-ghost use Rattle.sizes.specs.All.{structureWidth, structuresFrom, countsOf, allOf, intoRooms, AllGiven};
-ghost use Rattle.sizes.specs.AllWays.{OneMore, CountAsked, PutAsked, PutsAsked, eightWords, rowStructures, countedOn, countedWith, Puts, PutAll};
+ghost use Rattle.sizes.specs.All.{structureWidth, structuresFrom, allOf, intoRooms, AllGiven};
+ghost use Rattle.sizes.specs.AllWays.{OneMore, CountAsked, PutAsked, PutsAsked, eightWords, sizeTold, countedOn, rowStructures, Told, RowCounted, AllCounted, Puts, PutAll};
 
 pub struct LayoutCounts {
     pub structures: usize,
@@ -62,7 +67,16 @@ fn one_more(counts: LayoutCounts, members: usize) -> LayoutCounts
     }
 }
 
-// Row i counted too, if it is a structure.
+fn size_told(answer: LayoutWhole) -> Sized
+    ensures { λ r. ⌜ r ≡ sizeTold answer ⌝ }
+{
+    match answer {
+        LayoutWhole::Is(found) => Sized::Is(found.size),
+        LayoutWhole::Refused(why) => Sized::Refused(why),
+    }
+}
+
+// Row i counted too, if it is a structure, and what its layout tells kept.
 fn count_row(
     s: &[u8],
     settings: Settings,
@@ -72,18 +86,19 @@ fn count_row(
     n: usize,
     known: &[u64],
     kept: &[u64],
+    told: &mut [u64],
     i: usize,
     counts: LayoutCounts,
 ) -> LayoutCounts
-    requires { ⌜ CountAsked (now s) (now rows) n i counts × AllKept settings (now sizes) (now s) (now rows) (now attrs) n (now known) (now kept) ⌝ }
-    ensures { λ r. ⌜ r ≡ countedWith counts (rowStructures settings (now (s .entry)) (now (rows .entry)) (now (attrs .entry)) n (typeFrom settings (now (sizes .entry)) (now (s .entry)) (now (rows .entry)) (now (attrs .entry)) n (now (known .entry)) 0) i) ⌝ }
+    requires { ⌜ CountAsked (now s) (now rows) n i counts × (n * knownWidth ≤ length (now told) × AllKept settings (now sizes) (now s) (now rows) (now attrs) n (now known) (now kept)) ⌝ }
+    ensures { λ r. ⌜ RowCounted settings (now (s .entry)) (now (rows .entry)) (now (attrs .entry)) n (typeFrom settings (now (sizes .entry)) (now (s .entry)) (now (rows .entry)) (now (attrs .entry)) n (now (known .entry)) 0) i counts r (now (told .entry)) (now (told .exit)) ⌝ }
 {
     let row = row_at(rows, i);
     if !is_structure(row.kind) {
         return counts;
     }
     let mut none = [0u64; 0];
-    match read_layout(
+    let answer = read_layout(
         s,
         settings,
         sizes,
@@ -95,7 +110,9 @@ fn count_row(
         0,
         i,
         &mut none,
-    ) {
+    );
+    put_known(told, i, size_told(answer));
+    match answer {
         LayoutWhole::Is(found) => one_more(counts, found.members),
         LayoutWhole::Refused(_) => one_more(counts, 0),
     }
@@ -110,9 +127,10 @@ fn count_layouts(
     n: usize,
     known: &[u64],
     kept: &[u64],
+    told: &mut [u64],
 ) -> LayoutCounts
-    requires { ⌜ Ready (now s) (now rows) n × AllKept settings (now sizes) (now s) (now rows) (now attrs) n (now known) (now kept) ⌝ }
-    ensures { λ r. ⌜ r ≡ countsOf (structuresFrom settings (now (s .entry)) (now (rows .entry)) (now (attrs .entry)) n (typeFrom settings (now (sizes .entry)) (now (s .entry)) (now (rows .entry)) (now (attrs .entry)) n (now (known .entry)) 0) 0 n) ⌝ }
+    requires { ⌜ FillAsked (now s) (now rows) n (now told) × AllKept settings (now sizes) (now s) (now rows) (now attrs) n (now known) (now kept) ⌝ }
+    ensures { λ r. ⌜ AllCounted settings (now (s .entry)) (now (rows .entry)) (now (attrs .entry)) n (typeFrom settings (now (sizes .entry)) (now (s .entry)) (now (rows .entry)) (now (attrs .entry)) n (now (known .entry)) 0) r (now (told .exit)) ⌝ }
 {
     let mut counts = LayoutCounts {
         structures: 0,
@@ -120,7 +138,19 @@ fn count_layouts(
     };
     let mut i: usize = 0;
     while i < n {
-        counts = count_row(s, settings, sizes, rows, attrs, n, known, kept, i, counts);
+        counts = count_row(
+            s,
+            settings,
+            sizes,
+            rows,
+            attrs,
+            n,
+            known,
+            kept,
+            told,
+            i,
+            counts,
+        );
         i += 1;
     }
     counts
@@ -163,12 +193,13 @@ fn put_row(
     n: usize,
     known: &[u64],
     kept: &[u64],
+    told: &[u64],
     i: usize,
     counts: LayoutCounts,
     structures: &mut [u64],
     members: &mut [u64],
 ) -> LayoutCounts
-    requires { ⌜ PutAsked (now s) (now rows) n i counts (now members) × AllKept settings (now sizes) (now s) (now rows) (now attrs) n (now known) (now kept) ⌝ }
+    requires { ⌜ PutAsked (now s) (now rows) n i counts (now members) × (Told settings (now s) (now rows) (now attrs) n (typeFrom settings (now sizes) (now s) (now rows) (now attrs) n (now known) 0) n (now told) × AllKept settings (now sizes) (now s) (now rows) (now attrs) n (now known) (now kept)) ⌝ }
     ensures { λ r. ⌜ Puts (rowStructures settings (now (s .entry)) (now (rows .entry)) (now (attrs .entry)) n (typeFrom settings (now (sizes .entry)) (now (s .entry)) (now (rows .entry)) (now (attrs .entry)) n (now (known .entry)) 0) i) counts r (now (structures .entry)) (now (structures .exit)) (now (members .entry)) (now (members .exit)) ⌝ }
 {
     let row = row_at(rows, i);
@@ -179,23 +210,10 @@ fn put_row(
     let name = last_name(s, attrs, run_of(e, rows, i), NAME);
     let k = counts.structures;
     let first = counts.members;
-    let mut none = [0u64; 0];
-    match read_layout(
-        s,
-        settings,
-        sizes,
-        rows,
-        attrs,
-        n,
-        known,
-        kept,
-        0,
-        i,
-        &mut none,
-    ) {
-        LayoutWhole::Is(found) => {
+    match known_at(told, i) {
+        Sized::Is(_) => {
             let from = first * LAID_WIDTH;
-            read_layout(
+            match read_layout(
                 s,
                 settings,
                 sizes,
@@ -207,21 +225,26 @@ fn put_row(
                 0,
                 i,
                 &mut members[from..],
-            );
-            put_structure(
-                structures,
-                k,
-                i,
-                0,
-                found.size,
-                0,
-                first,
-                found.members,
-                name,
-            );
-            one_more(counts, found.members)
+            ) {
+                LayoutWhole::Is(found) => {
+                    put_structure(
+                        structures,
+                        k,
+                        i,
+                        0,
+                        found.size,
+                        0,
+                        first,
+                        found.members,
+                        name,
+                    );
+                    one_more(counts, found.members)
+                }
+                // What was told of it was a size.
+                LayoutWhole::Refused(_) => counts,
+            }
         }
-        LayoutWhole::Refused(why) => {
+        Sized::Refused(why) => {
             let reason = why.reason;
             put_structure(
                 structures,
@@ -248,10 +271,11 @@ fn put_layouts(
     n: usize,
     known: &[u64],
     kept: &[u64],
+    told: &[u64],
     structures: &mut [u64],
     members: &mut [u64],
 )
-    requires { ⌜ PutsAsked (now s) (now rows) n (structuresFrom settings (now s) (now rows) (now attrs) n (typeFrom settings (now sizes) (now s) (now rows) (now attrs) n (now known) 0) 0 n) (now members) × AllKept settings (now sizes) (now s) (now rows) (now attrs) n (now known) (now kept) ⌝ }
+    requires { ⌜ PutsAsked (now s) (now rows) n (structuresFrom settings (now s) (now rows) (now attrs) n (typeFrom settings (now sizes) (now s) (now rows) (now attrs) n (now known) 0) 0 n) (now members) × (Told settings (now s) (now rows) (now attrs) n (typeFrom settings (now sizes) (now s) (now rows) (now attrs) n (now known) 0) n (now told) × AllKept settings (now sizes) (now s) (now rows) (now attrs) n (now known) (now kept)) ⌝ }
     ensures { λ _. ⌜ PutAll (structuresFrom settings (now (s .entry)) (now (rows .entry)) (now (attrs .entry)) n (typeFrom settings (now (sizes .entry)) (now (s .entry)) (now (rows .entry)) (now (attrs .entry)) n (now (known .entry)) 0) 0 n) (now (structures .entry)) (now (structures .exit)) (now (members .entry)) (now (members .exit)) ⌝ }
 {
     let mut counts = LayoutCounts {
@@ -269,6 +293,7 @@ fn put_layouts(
             n,
             known,
             kept,
+            told,
             i,
             counts,
             structures,
@@ -278,7 +303,7 @@ fn put_layouts(
     }
 }
 
-// Counted first, so that with too little room nothing is written.
+// Counted first, so that with too little room nothing is written; what each layout tells is kept meanwhile, so that none is laid in vain.
 fn give_layouts(
     s: &[u8],
     settings: Settings,
@@ -288,13 +313,14 @@ fn give_layouts(
     n: usize,
     known: &[u64],
     kept: &[u64],
+    told: &mut [u64],
     structures: &mut [u64],
     members: &mut [u64],
 ) -> AllLayouts
-    requires { ⌜ Ready (now s) (now rows) n × AllKept settings (now sizes) (now s) (now rows) (now attrs) n (now known) (now kept) ⌝ }
+    requires { ⌜ FillAsked (now s) (now rows) n (now told) × AllKept settings (now sizes) (now s) (now rows) (now attrs) n (now known) (now kept) ⌝ }
     ensures { λ r. ⌜ AllGiven (intoRooms (now (structures .entry)) (now (members .entry)) (structuresFrom settings (now (s .entry)) (now (rows .entry)) (now (attrs .entry)) n (typeFrom settings (now (sizes .entry)) (now (s .entry)) (now (rows .entry)) (now (attrs .entry)) n (now (known .entry)) 0) 0 n)) r (now (structures .exit)) (now (members .exit)) ⌝ }
 {
-    let needed = count_layouts(s, settings, sizes, rows, attrs, n, known, kept);
+    let needed = count_layouts(s, settings, sizes, rows, attrs, n, known, kept, told);
     if needed.structures > structures.len() / STRUCTURE_WIDTH {
         return AllLayouts::Room(needed);
     }
@@ -310,6 +336,7 @@ fn give_layouts(
         n,
         known,
         kept,
+        told,
         structures,
         members,
     );
@@ -354,6 +381,7 @@ fn lay_all(
         n,
         &known,
         &kept,
+        &mut next,
         structures,
         members,
     )

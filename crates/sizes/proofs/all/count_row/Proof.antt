@@ -1,5 +1,7 @@
 use borrow.Author.Tests.{not-true, not-false}
 use Rattle.sizes.specs.AllLaws.{count-other, count-given, count-refused, given-asked, refused-asked}
+use native.Mathlib.Omega.{arith}
+use Prim.Native.Nat.{_<_}
 use borrow.Author.Needs.{needs}
 use Rattle.sizes.proofs.all.count_row.Statement.{statement}
 use Rattle.sizes.proofs.all.count_row.Tie as tie
@@ -11,31 +13,43 @@ is-structure-requires : tie.Need-is-structure-requires
 is-structure-requires c κs = search needs
 
 returns : tie.Need-returns
-returns c = count-other _ _ _ _ _ _ _ (c .before .before .row-at .ensures) (c .before .is-structure .ensures) (c .before .before .before .before .before .before .before .before .before .args .counts) (not-true _ (c .if1 .taken))
+returns c = count-other _ _ _ _ _ _ _ (c .before .before .row-at .ensures) (c .before .is-structure .ensures) (c .before .before .before .before .before .before .before .before .before .before .args .counts) (not-true _ (c .if1 .taken))
 
 slice-aggregate-read-layout : tie.Need-slice-aggregate-read-layout
 slice-aggregate-read-layout c = search needs
 
 read-layout-requires : tie.Need-read-layout-requires
-read-layout-requires c κs = (c .before .before .before .before .before .before .before .before .before .before .pre .0 .asked, c .before .before .before .before .before .before .before .before .before .before .pre .1)
+read-layout-requires c κs = (c .before .before .before .before .before .before .before .before .before .before .before .pre .0 .asked, c .before .before .before .before .before .before .before .before .before .before .before .pre .1 .1)
 
-enum-known-found : tie.Need-enum-known-found
-enum-known-found c = search needs
+size-told-requires : tie.Need-size-told-requires
+size-told-requires c κs = search needs
+
+put-known-requires : tie.Need-put-known-requires
+put-known-requires c κs = let there : c .before .before .before .before .before .before .before .before .before .before .before .before .before .before .before .args .i < c .before .before .before .before .before .before .before .before .before .before .before .before .before .before .before .args .n = c .before .before .before .before .before .before .before .before .before .before .before .before .before .before .before .pre .0 .asked .asked .there in omega (arith, c .before .before .before .before .before .before .before .before .before .before .before .before .before .before .before .pre .1 .0)
+
+enum-known-answer : tie.Need-enum-known-answer
+enum-known-answer c = search needs
 
 one-more-requires : tie.Need-one-more-requires
-one-more-requires c κs = given-asked _ _ _ _ _ _ _ (c .before .before .before .before .before .before .before .before .row-at .ensures) (c .before .before .before .before .before .before .before .is-structure .ensures) (not-false _ (c .before .before .before .before .before .before .if1 .left)) (c .before .before .before .before .read-layout .ensures .answer-is) (c .before .before .before .before .before .before .before .before .before .before .before .before .before .before .before .args .counts) (c .before .found .given .1) (c .before .before .before .before .before .before .before .before .before .before .before .before .before .before .before .pre .0)
+one-more-requires c κs = given-asked _ _ _ _ _ _ _ (c .before .before .before .before .before .before .before .before .before .before .before .before .before .row-at .ensures) (c .before .before .before .before .before .before .before .before .before .before .before .before .is-structure .ensures) (not-false _ (c .before .before .before .before .before .before .before .before .before .before .before .if1 .left)) (c .before .before .before .before .before .before .before .before .before .read-layout .ensures .answer-is) (c .before .before .before .before .before .before .before .before .before .before .before .before .before .before .before .before .before .before .before .before .before .args .counts) (c .before .answer .given .1) (c .before .before .before .before .before .before .before .before .before .before .before .before .before .before .before .before .before .before .before .before .before .pre .0)
 
 enum-told : tie.Need-enum-told
 enum-told c = search needs
 
 one-more-requires-2 : tie.Need-one-more-requires-2
-one-more-requires-2 c κs = refused-asked (c .before .before .before .before .before .before .before .before .before .before .before .before .before .before .pre .0)
+one-more-requires-2 c κs = refused-asked (c .before .before .before .before .before .before .before .before .before .before .before .before .before .before .before .before .before .before .before .before .pre .0)
+
+same-length : tie.Need-same-length
+same-length c = c .before .before .before .before .before .before .put-known .ensures .same-long
 
 returns-2 : tie.Need-returns-2
-returns-2 c = count-given _ _ _ _ _ _ _ (c .before .before .before .before .before .before .before .before .before .row-at .ensures) (c .before .before .before .before .before .before .before .before .is-structure .ensures) (not-false _ (c .before .before .before .before .before .before .before .if1 .left)) (c .before .before .before .before .before .read-layout .ensures .answer-is) (c .before .before .before .before .before .before .before .before .before .before .before .before .before .before .before .before .args .counts) (c .before .before .found .given .1) (c .one-more .ensures)
+returns-2 c = count-given _ _ _ _ _ _ _ (c .before .before .before .before .before .before .before .before .before .before .before .before .before .before .row-at .ensures) (c .before .before .before .before .before .before .before .before .before .before .before .before .before .is-structure .ensures) (not-false _ (c .before .before .before .before .before .before .before .before .before .before .before .before .if1 .left)) (c .before .before .before .before .before .before .before .before .before .before .read-layout .ensures .answer-is) (c .before .before .before .before .before .before .before .before .before .before .before .before .before .before .before .before .before .before .before .before .before .before .args .counts) (c .before .before .answer .given .1) (c .before .before .before .before .before .before .before .size-told .ensures) (c .before .before .before .before .before .before .put-known .ensures) (c .one-more .ensures)
+
+same-length-2 : tie.Need-same-length-2
+same-length-2 c = c .before .before .before .before .before .put-known .ensures .same-long
 
 returns-3 : tie.Need-returns-3
-returns-3 c = count-refused _ _ _ _ _ _ _ (c .before .before .before .before .before .before .before .before .row-at .ensures) (c .before .before .before .before .before .before .before .is-structure .ensures) (not-false _ (c .before .before .before .before .before .before .if1 .left)) (c .before .before .before .before .read-layout .ensures .answer-is) (c .before .before .before .before .before .before .before .before .before .before .before .before .before .before .before .args .counts) (c .before .enum-told .given .1) (c .one-more2 .ensures)
+returns-3 c = count-refused _ _ _ _ _ _ _ (c .before .before .before .before .before .before .before .before .before .before .before .before .before .row-at .ensures) (c .before .before .before .before .before .before .before .before .before .before .before .before .is-structure .ensures) (not-false _ (c .before .before .before .before .before .before .before .before .before .before .before .if1 .left)) (c .before .before .before .before .before .before .before .before .before .read-layout .ensures .answer-is) (c .before .before .before .before .before .before .before .before .before .before .before .before .before .before .before .before .before .before .before .before .before .args .counts) (c .before .enum-told .given .1) (c .before .before .before .before .before .before .size-told .ensures) (c .before .before .before .before .before .put-known .ensures) (c .one-more2 .ensures)
 
 pub count-row-spec : {M : Type 1} → statement M
 count-row-spec =
@@ -46,9 +60,13 @@ count-row-spec =
     returns
     slice-aggregate-read-layout
     read-layout-requires
-    enum-known-found
+    size-told-requires
+    put-known-requires
+    enum-known-answer
     one-more-requires
     enum-told
     one-more-requires-2
+    same-length
     returns-2
+    same-length-2
     returns-3)

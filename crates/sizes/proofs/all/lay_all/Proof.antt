@@ -1,8 +1,8 @@
 use Rattle.sizes.specs.LevelsLaws.{known-kept}
 use Rattle.sizes.specs.AllLaws.{all-known}
-use borrow.Author.Needs.{needs}
 use native.Mathlib.Omega.{arith}
 use Prim.Native.Nat.{_*_, _≤_}
+use borrow.Author.Needs.{needs}
 use Rattle.sizes.proofs.all.lay_all.Statement.{statement}
 use Rattle.sizes.proofs.all.lay_all.Tie as tie
 
@@ -31,8 +31,12 @@ slice-aggregate-give-layouts c = search needs
 slice-aggregate-give-layouts-2 : tie.Need-slice-aggregate-give-layouts-2
 slice-aggregate-give-layouts-2 c = search needs
 
+slice-aggregate-give-layouts-3 : tie.Need-slice-aggregate-give-layouts-3
+slice-aggregate-give-layouts-3 c = search needs
+
 give-layouts-requires : tie.Need-give-layouts-requires
-give-layouts-requires c κs = (c .before .before .before .before .before .before .before .before .before .before .before .before .before .before .before .before .before .before .before .pre, known-kept (c .before .before .before .before .before .before .before .before .before .before .before .keep-rows .ensures) (c .before .before .before .before .before .before .fill-known .ensures .fits))
+give-layouts-requires c κs = let fits : c .before .before .before .before .before .before .before .before .before .before .before .before .before .before .before .before .before .before .before .before .args .n * 3 ≤ 12288 = omega (arith, c .before .before .before .before .before .before .before .before .before .before .before .before .before .before .before .before .before .before .before .before .pre .table .few) in
+    (record { ready = c .before .before .before .before .before .before .before .before .before .before .before .before .before .before .before .before .before .before .before .before .pre; fits = omega (arith, fits) }, known-kept (c .before .before .before .before .before .before .before .before .before .before .before .before .keep-rows .ensures) (c .before .before .before .before .before .before .before .fill-known .ensures .fits))
 
 same-length : tie.Need-same-length
 same-length c = search needs
@@ -41,7 +45,7 @@ same-length-2 : tie.Need-same-length-2
 same-length-2 c = search needs
 
 returns : tie.Need-returns
-returns c = all-known _ _ _ _ _ _ (c .before .before .before .before .before .before .before .before .before .before .before .before .before .before .before .before .before .before .before .before .before .before .before .before .pre) _ (c .before .before .before .before .before .before .before .before .before .before .before .fill-known .ensures) (search needs) _ _ (c .before .before .before .before .give-layouts .ensures)
+returns c = all-known _ _ _ _ _ _ (c .before .before .before .before .before .before .before .before .before .before .before .before .before .before .before .before .before .before .before .before .before .before .before .before .before .before .pre) _ (c .before .before .before .before .before .before .before .before .before .before .before .before .before .fill-known .ensures) (search needs) _ _ (c .before .before .before .before .before .give-layouts .ensures)
 
 pub lay-all-spec : {M : Type 1} → statement M
 lay-all-spec =
@@ -55,6 +59,7 @@ lay-all-spec =
     fill-known-requires
     slice-aggregate-give-layouts
     slice-aggregate-give-layouts-2
+    slice-aggregate-give-layouts-3
     give-layouts-requires
     same-length
     same-length-2

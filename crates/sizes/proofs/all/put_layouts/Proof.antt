@@ -1,22 +1,22 @@
 use Rattle.sizes.specs.SizeWays.{typeFrom}
 use Rattle.sizes.specs.AllLaws.{Putting, putting-begins, putting-asked, putting-on, putting-ends}
-use borrow.Author.Needs.{needs}
 use Prim.Native.Nat.{_-_}
+use borrow.Author.Needs.{needs}
 use Rattle.sizes.proofs.all.put_layouts.Statement.{statement}
 use Rattle.sizes.proofs.all.put_layouts.Tie as tie
 
 abbrev Inv-loop : tie.InvT-loop
-Inv-loop s settings sizes rows attrs n known kept structures₀ members₀ counts₀ i₀ structures members counts i =
+Inv-loop s settings sizes rows attrs n known kept told structures₀ members₀ counts₀ i₀ structures members counts i =
     Putting settings s rows attrs n (typeFrom settings sizes s rows attrs n known 0) structures₀ members₀ structures members counts i
 
 abbrev μ-loop : tie.MeasureT-loop
-μ-loop s settings sizes rows attrs n known kept structures₀ members₀ counts₀ i₀ structures members counts i = n - i
+μ-loop s settings sizes rows attrs n known kept told structures₀ members₀ counts₀ i₀ structures members counts i = n - i
 
 loop-holds : tie.Need-loop-holds Inv-loop μ-loop
-loop-holds c = putting-begins _ (c .before .before .before .before .before .before .before .before .pre .0) _
+loop-holds c = putting-begins _ (c .before .before .before .before .before .before .before .before .before .pre .0) _
 
 put-row-requires : tie.Need-put-row-requires Inv-loop μ-loop
-put-row-requires c κs = (putting-asked (c .before .before .before .loop .inv) (c .before .before .loop-test .taken), c .before .before .before .before .before .before .before .before .before .before .before .before .pre .1)
+put-row-requires c κs = (putting-asked (c .before .before .before .loop .inv) (c .before .before .loop-test .taken), c .before .before .before .before .before .before .before .before .before .before .before .before .before .pre .1)
 
 add-i : tie.Need-add-i Inv-loop μ-loop
 add-i c = search needs

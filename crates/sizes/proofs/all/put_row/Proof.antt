@@ -1,7 +1,8 @@
-use Rattle.sizes.specs.AllLaws.{given-asked, refused-asked, puts-other, puts-given, puts-refused}
+use Rattle.sizes.specs.AllLaws.{given-asked, refused-asked, layout-refused, layout-given, puts-other, puts-given, puts-refused}
 use borrow.Author.Tests.{not-true, not-false}
 use borrow.Author.Needs.{needs}
 use native.Mathlib.Omega.{arith}
+use mathlib.Core.Path.{refl}
 use Rattle.sizes.proofs.all.put_row.Statement.{statement}
 use Rattle.sizes.proofs.all.put_row.Tie as tie
 
@@ -12,7 +13,7 @@ is-structure-requires : tie.Need-is-structure-requires
 is-structure-requires c κs = search needs
 
 returns : tie.Need-returns
-returns c = puts-other _ _ _ _ _ _ _ (c .before .before .row-at .ensures) (c .before .is-structure .ensures) (c .before .before .before .before .before .before .before .before .before .before .before .args .counts) (not-true _ (c .if1 .taken))
+returns c = puts-other _ _ _ _ _ _ _ (c .before .before .row-at .ensures) (c .before .is-structure .ensures) (c .before .before .before .before .before .before .before .before .before .before .before .before .args .counts) (not-true _ (c .if1 .taken))
 
 run-of-requires : tie.Need-run-of-requires
 run-of-requires c κs = search needs
@@ -20,38 +21,41 @@ run-of-requires c κs = search needs
 last-name-requires : tie.Need-last-name-requires
 last-name-requires c κs = search needs
 
-slice-aggregate-read-layout : tie.Need-slice-aggregate-read-layout
-slice-aggregate-read-layout c = search needs
+known-at-requires : tie.Need-known-at-requires
+known-at-requires c κs = search needs
 
-read-layout-requires : tie.Need-read-layout-requires
-read-layout-requires c κs = (c .before .before .before .before .before .before .before .before .before .before .before .before .before .before .pre .0 .counted .asked, c .before .before .before .before .before .before .before .before .before .before .before .before .before .before .pre .1)
-
-enum-known-found : tie.Need-enum-known-found
-enum-known-found c = search needs
+enum-told : tie.Need-enum-told
+enum-told c = search needs
 
 mul-from : tie.Need-mul-from
-mul-from c = omega (arith, c .before .before .before .before .before .before .before .before .before .before .before .before .before .before .before .before .before .before .before .pre .0 .counted .few-members, c .before .before .before .before .before .before .before .before .before .before .before .before .before .before .before .before .before .before .before .pre .0 .counted .asked .asked .there, c .before .before .before .before .before .before .before .before .before .before .before .before .before .before .before .before .before .before .before .pre .0 .counted .asked .asked .table .few)
+mul-from c = omega (arith, c .before .before .before .before .before .before .before .before .before .before .before .before .before .before .before .before .before .pre .0 .counted .few-members, c .before .before .before .before .before .before .before .before .before .before .before .before .before .before .before .before .before .pre .0 .counted .asked .asked .there, c .before .before .before .before .before .before .before .before .before .before .before .before .before .before .before .before .before .pre .0 .counted .asked .asked .table .few)
 
 mul-read-layout : tie.Need-mul-read-layout
-mul-read-layout c = omega (arith, c .before .before .before .before .before .before .before .before .before .before .before .before .before .before .before .before .before .before .before .pre .0 .counted .few-members, c .before .before .before .before .before .before .before .before .before .before .before .before .before .before .before .before .before .before .before .pre .0 .counted .asked .asked .there, c .before .before .before .before .before .before .before .before .before .before .before .before .before .before .before .before .before .before .before .pre .0 .counted .asked .asked .table .few)
+mul-read-layout c = omega (arith, c .before .before .before .before .before .before .before .before .before .before .before .before .before .before .before .before .before .pre .0 .counted .few-members, c .before .before .before .before .before .before .before .before .before .before .before .before .before .before .before .before .before .pre .0 .counted .asked .asked .there, c .before .before .before .before .before .before .before .before .before .before .before .before .before .before .before .before .before .pre .0 .counted .asked .asked .table .few)
 
 sub-read-layout : tie.Need-sub-read-layout
-sub-read-layout c = c .before .before .before .before .before .before .before .before .before .before .before .before .before .before .before .before .before .before .before .pre .0 .begins
+sub-read-layout c = c .before .before .before .before .before .before .before .before .before .before .before .before .before .before .before .before .before .pre .0 .begins
 
 part-read-layout-start : tie.Need-part-read-layout-start
-part-read-layout-start c = c .before .before .before .before .before .before .before .before .before .before .before .before .before .before .before .before .before .before .before .pre .0 .begins
+part-read-layout-start c = c .before .before .before .before .before .before .before .before .before .before .before .before .before .before .before .before .before .pre .0 .begins
 
 part-read-layout-end : tie.Need-part-read-layout-end
 part-read-layout-end c = search needs
 
-read-layout-requires-2 : tie.Need-read-layout-requires-2
-read-layout-requires-2 c κs = (c .before .before .before .before .before .before .before .before .before .before .before .before .before .before .before .before .before .before .before .before .pre .0 .counted .asked, c .before .before .before .before .before .before .before .before .before .before .before .before .before .before .before .before .before .before .before .before .pre .1)
+read-layout-requires : tie.Need-read-layout-requires
+read-layout-requires c κs = (c .before .before .before .before .before .before .before .before .before .before .before .before .before .before .before .before .before .before .pre .0 .counted .asked, c .before .before .before .before .before .before .before .before .before .before .before .before .before .before .before .before .before .before .pre .1 .1)
+
+enum-known-found : tie.Need-enum-known-found
+enum-known-found c = search needs
 
 put-structure-requires : tie.Need-put-structure-requires
 put-structure-requires c κs = search needs
 
 one-more-requires : tie.Need-one-more-requires
-one-more-requires c κs = given-asked _ _ _ _ _ _ _ (c .before .before .before .before .before .before .before .before .before .before .before .before .before .before .before .before .before .before .row-at .ensures) (c .before .before .before .before .before .before .before .before .before .before .before .before .before .before .before .before .before .is-structure .ensures) (not-false _ (c .before .before .before .before .before .before .before .before .before .before .before .before .before .before .before .before .if1 .left)) (c .before .before .before .before .before .before .before .before .before .before .before .before .read-layout .ensures .answer-is) (c .before .before .before .before .before .before .before .before .before .before .before .before .before .before .before .before .before .before .before .before .before .before .before .before .before .before .before .args .counts) (c .before .before .before .before .before .before .before .before .before .found .given .1) (c .before .before .before .before .before .before .before .before .before .before .before .before .before .before .before .before .before .before .before .before .before .before .before .before .before .before .before .pre .0 .counted)
+one-more-requires c κs = given-asked _ _ _ _ _ _ _ (c .before .before .before .before .before .before .before .before .before .before .before .before .before .before .before .before .before .before .row-at .ensures) (c .before .before .before .before .before .before .before .before .before .before .before .before .before .before .before .before .before .is-structure .ensures) (not-false _ (c .before .before .before .before .before .before .before .before .before .before .before .before .before .before .before .before .if1 .left)) (c .before .before .before .before .before .before .before .before .before .read-layout .ensures .answer-is) (c .before .before .before .before .before .before .before .before .before .before .before .before .before .before .before .before .before .before .before .before .before .before .before .before .before .before .before .before .args .counts) (c .before .before .before .before .before .found .given .1) (c .before .before .before .before .before .before .before .before .before .before .before .before .before .before .before .before .before .before .before .before .before .before .before .before .before .before .before .before .pre .0 .counted)
+
+enum-told-2 : tie.Need-enum-told-2
+enum-told-2 c = search needs
 
 enum-known-why : tie.Need-enum-known-why
 enum-known-why c = search needs
@@ -63,7 +67,7 @@ put-structure-requires-2 : tie.Need-put-structure-requires-2
 put-structure-requires-2 c κs = search needs
 
 one-more-requires-2 : tie.Need-one-more-requires-2
-one-more-requires-2 c κs = refused-asked (c .before .before .before .before .before .before .before .before .before .before .before .before .before .before .before .before .before .before .before .before .before .before .before .before .pre .0 .counted)
+one-more-requires-2 c κs = refused-asked (c .before .before .before .before .before .before .before .before .before .before .before .before .before .before .before .before .before .before .before .before .before .before .before .pre .0 .counted)
 
 same-length : tie.Need-same-length
 same-length c = search needs
@@ -72,17 +76,23 @@ same-length-2 : tie.Need-same-length-2
 same-length-2 c = search needs
 
 returns-2 : tie.Need-returns-2
-returns-2 c =
-    puts-given _ _ _ _ _ _ _ (c .before .before .before .before .before .before .before .before .before .before .before .before .before .before .before .before .before .before .before .row-at .ensures) (c .before .before .before .before .before .before .before .before .before .before .before .before .before .before .before .before .before .before .is-structure .ensures) (not-false _ (c .before .before .before .before .before .before .before .before .before .before .before .before .before .before .before .before .before .if1 .left)) (c .before .before .before .before .before .before .before .before .before .before .before .before .before .read-layout .ensures .answer-is) (c .before .before .before .before .before .before .before .before .before .before .before .before .before .before .before .before .before .before .before .before .before .before .before .before .before .before .before .before .args .counts) (c .before .before .before .before .before .before .before .before .before .before .found .given .1)
-    (c .before .before .before .before .before .before .before .before .before .before .before .before .before .before .before .before .run-of .ensures) (c .before .before .before .before .before .before .before .before .before .before .before .before .before .before .before .last-name .ensures) (c .before .before .before .before .before .before .before .read-layout2 .ensures) (c .before .before .before .put-structure .ensures) (c .one-more .ensures)
+returns-2 c = puts-given _ _ _ _ _ _ _ (c .before .before .before .before .before .before .before .before .before .before .before .before .before .before .before .before .before .before .before .row-at .ensures) (c .before .before .before .before .before .before .before .before .before .before .before .before .before .before .before .before .before .before .is-structure .ensures) (not-false _ (c .before .before .before .before .before .before .before .before .before .before .before .before .before .before .before .before .before .if1 .left)) (c .before .before .before .before .before .before .before .before .before .before .read-layout .ensures .answer-is) (c .before .before .before .before .before .before .before .before .before .before .before .before .before .before .before .before .before .before .before .before .before .before .before .before .before .before .before .before .before .args .counts) (c .before .before .before .before .before .before .found .given .1)
+    (c .before .before .before .before .before .before .before .before .before .before .before .before .before .before .before .before .run-of .ensures) (c .before .before .before .before .before .before .before .before .before .before .before .before .before .before .before .last-name .ensures) (c .before .before .before .before .before .before .before .before .before .before .read-layout .ensures) (c .before .before .before .put-structure .ensures) (c .one-more .ensures)
 
 same-length-3 : tie.Need-same-length-3
 same-length-3 c = search needs
 
 returns-3 : tie.Need-returns-3
-returns-3 c =
-    puts-refused _ _ _ _ _ _ _ (c .before .before .before .before .before .before .before .before .before .before .before .before .before .before .before .before .row-at .ensures) (c .before .before .before .before .before .before .before .before .before .before .before .before .before .before .before .is-structure .ensures) (not-false _ (c .before .before .before .before .before .before .before .before .before .before .before .before .before .before .if1 .left)) (c .before .before .before .before .before .before .before .before .before .before .read-layout .ensures .answer-is) (c .before .before .before .before .before .before .before .before .before .before .before .before .before .before .before .before .before .before .before .before .before .before .before .before .before .args .counts) (c .before .before .before .before .before .before .before .why .given .1)
-    (c .before .before .before .before .before .before .before .before .before .before .before .before .before .run-of .ensures) (c .before .before .before .before .before .before .before .before .before .before .before .before .last-name .ensures) (c .before .before .before .before .number-of .ensures) (c .before .before .before .put-structure2 .ensures) (c .one-more2 .ensures)
+returns-3 c = absurd (layout-given (c .before .before .before .before .before .before .before .before .before .before .before .before .before .before .before .before .before .before .before .before .before .before .before .pre .1 .0) (c .before .before .before .before .before .before .before .before .before .before .before .before .before .before .before .before .before .before .before .before .before .before .before .pre .0 .counted .asked .asked .there) (c .before .before .before .before .before .before .before .before .before .before .before .before .before .row-at .ensures) (c .before .before .before .before .before .before .before .before .before .before .before .before .is-structure .ensures) (not-false _ (c .before .before .before .before .before .before .before .before .before .before .before .if1 .left)) (c .before .before .before .before .before .before .before .before .known-at .ensures)
+    (c .before .before .before .before .before .before .enum-told .given .1) (c .before .before .before .before .read-layout .ensures .answer-is) (c .enum-told2 .given .1))
+
+same-length-4 : tie.Need-same-length-4
+same-length-4 c = search needs
+
+returns-4 : tie.Need-returns-4
+returns-4 c = puts-refused _ _ _ _ _ _ _ (c .before .before .before .before .before .before .before .before .before .before .before .before .before .before .row-at .ensures) (c .before .before .before .before .before .before .before .before .before .before .before .before .before .is-structure .ensures) (not-false _ (c .before .before .before .before .before .before .before .before .before .before .before .before .if1 .left)) refl (c .before .before .before .before .before .before .before .before .before .before .before .before .before .before .before .before .before .before .before .before .before .before .before .before .args .counts)
+    (layout-refused (c .before .before .before .before .before .before .before .before .before .before .before .before .before .before .before .before .before .before .before .before .before .before .before .before .pre .1 .0) (c .before .before .before .before .before .before .before .before .before .before .before .before .before .before .before .before .before .before .before .before .before .before .before .before .pre .0 .counted .asked .asked .there) (c .before .before .before .before .before .before .before .before .before .before .before .before .before .before .row-at .ensures) (c .before .before .before .before .before .before .before .before .before .before .before .before .before .is-structure .ensures) (not-false _ (c .before .before .before .before .before .before .before .before .before .before .before .before .if1 .left)) (c .before .before .before .before .before .before .before .before .before .known-at .ensures) (c .before .before .before .before .before .before .before .why .given .1))
+    (c .before .before .before .before .before .before .before .before .before .before .before .run-of .ensures) (c .before .before .before .before .before .before .before .before .before .before .last-name .ensures) (c .before .before .before .before .number-of .ensures) (c .before .before .before .put-structure2 .ensures) (c .one-more2 .ensures)
 
 pub put-row-spec : {M : Type 1} → statement M
 put-row-spec =
@@ -93,17 +103,18 @@ put-row-spec =
     returns
     run-of-requires
     last-name-requires
-    slice-aggregate-read-layout
-    read-layout-requires
-    enum-known-found
+    known-at-requires
+    enum-told
     mul-from
     mul-read-layout
     sub-read-layout
     part-read-layout-start
     part-read-layout-end
-    read-layout-requires-2
+    read-layout-requires
+    enum-known-found
     put-structure-requires
     one-more-requires
+    enum-told-2
     enum-known-why
     number-of-requires
     put-structure-requires-2
@@ -112,4 +123,6 @@ put-row-spec =
     same-length-2
     returns-2
     same-length-3
-    returns-3)
+    returns-3
+    same-length-4
+    returns-4)
