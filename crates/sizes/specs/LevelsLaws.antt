@@ -1,10 +1,10 @@
--- What follows from the levels: the sizes of one level are known from those of the level below, and a level that changes nothing is the last.
+-- What follows from the levels: the sizes of one level are known from those of the level below, and a level where all are settled, or that changes nothing, is the last.
 use Prim.Native.Nat.{ℕ, zero, suc, _+_, _-_, _*_, _≤_, _<_}
 use native.Mathlib.Nat.{zero-add}
 use native.Mathlib.Decide.{decLe}
 use native.Mathlib.Omega.{arith}
 use mathlib.Core.Path.{_≡_, refl, sym, ap, _∙_, subst, fun-ext}
-use mathlib.Core.Bool.{Bool, true, false, not, true≢false}
+use mathlib.Core.Bool.{Bool, true, false, not, cond, true≢false}
 use mathlib.Core.List.{List}
 use lib.ListN.{length, getD, set, length-set}
 use lib.Seq.{getD-set-same, getD-set-other}
@@ -12,15 +12,17 @@ use lib.Dec.{eqb}
 use borrow.Author.Tests.{eq-eqb, ne-eqb}
 use Rattle.format.specs.Refusal.{numberOf}
 use Rattle.format.specs.declared.settings.Settings.{Settings}
+use Rattle.format.specs.declared.refusal.Refusal.{Refusal}
 use Rattle.format.specs.declared.refusal.Reason.the-variants as reason
 use Rattle.blocks.specs.declared.types.Type.{«Type»}
 use Rattle.tables.specs.Row.{rowAt}
+use Rattle.tables.specs.declared.row.Row.{Row}
 use Rattle.tables.specs.Find.{rowOfKey}
 use Rattle.tables.specs.FindLaws.{row-found, row-of-own-key}
 use Rattle.tables.specs.Check.{refusedAt}
 use Rattle.tables.specs.declared.find.Found.{Found}
 use Rattle.tables.specs.declared.find.Found.the-variants as found
-use Rattle.sizes.specs.Size.{typeSizeBy, entryAt, foundSize, entrySize, typeSize}
+use Rattle.sizes.specs.Size.{typeSizeBy, shapeOf, shapeSize, entryAt, foundSize, entrySize, typeSize}
 use Rattle.sizes.specs.Known.{knownWidth, knownAt, PutKnown}
 use Rattle.sizes.specs.KnownLaws.{known-same}
 use Rattle.sizes.specs.KeptWays.{PartsKept, AllKept}
@@ -28,7 +30,10 @@ use Rattle.sizes.specs.SizeWays.{Ready, knownFound, entryFrom, typeFrom}
 use Rattle.sizes.specs.SizeLaws.{entry-zero, entry-more, entry-none}
 use Rattle.sizes.specs.StayLaws.{Settled, size-stays}
 use Rattle.numbers.specs.Tests.{cond-all}
-use Rattle.sizes.specs.LevelsWays.{deepest, lastLevel, settled, nextLevel, sizeLeft, Filled, TakenOver}
+use Rattle.records.specs.FieldsLaws.{by-told}
+use Rattle.sizes.specs.LevelsWays.{deepest, lastLevel, settled, nextLevel, sizeLeft, Filled, LevelFilled, TakenOver}
+use Rattle.sizes.specs.declared.prepare.Shape.{Shape}
+use Rattle.sizes.specs.declared.prepare.Shape.the-variants as shape
 use Rattle.sizes.specs.declared.sized.Sized.{Sized}
 use Rattle.sizes.specs.declared.sized.Sized.the-variants.{Is, Refused}
 
@@ -51,6 +56,28 @@ module _ (sizeAt : ℕ → Sized) (n : ℕ) where
 
   pub filled-all : {known : List ℕ} {k : ℕ} → Filled sizeAt n k known → n ≤ k → Filled sizeAt n n known
   filled-all w h = record { fits = w .fits; each = λ i l. w .each i (omega arith) }
+
+  -- and whether all are settled
+  pub level-none : {known : List ℕ} {all : Bool} → n * knownWidth ≤ length known → LevelFilled sizeAt n 0 known all
+  level-none h = record { filled = filled-none h; stay = λ t i l. absurd (omega (arith, l)) }
+
+  pub level-row : {known known′ : List ℕ} {all all′ : Bool} {k : ℕ} {size : Sized} → LevelFilled sizeAt n k known all → PutKnown k size known known′
+      → size ≡ sizeAt k → all′ ≡ cond all (settled size) false → LevelFilled sizeAt n (k + 1) known′ all′
+  level-row {known} {known′} {all} {all′} {k} {size} w g p q =
+      record {
+        filled = filled-more (w .filled) g p;
+        stay = λ t i l. elim (decLe k i) [
+          | yes h ↦ let same : i ≡ k = omega arith in ap (λ (j : ℕ). settled (sizeAt j)) same ∙ ap settled (sym p) ∙ both all (sym q ∙ t) .1
+          | no h ↦ w .stay (both all (sym q ∙ t) .0) i (omega arith)
+        ];
+      }
+    where
+      both : (b : Bool) {c : Bool} → cond b c false ≡ true → (b ≡ true) × (c ≡ true)
+      both true t = (refl, t)
+      both false t = absurd (true≢false (sym t))
+
+  pub level-whole : {known : List ℕ} {all : Bool} {k : ℕ} → LevelFilled sizeAt n k known all → n ≤ k → LevelFilled sizeAt n n known all
+  level-whole w h = record { filled = filled-all (w .filled) h; stay = λ t i l. w .stay t i (omega arith) }
 
 -- what is kept of rows, with sizes that are known
 pub known-kept : {settings : Settings} {sizes s rows attrs : List ℕ} {n : ℕ} {known kept : List ℕ} → PartsKept settings sizes s rows attrs n kept
@@ -75,6 +102,15 @@ module _ (known : List ℕ) (i : ℕ) {size : Sized} {b : Bool} (at : size ≡ k
   pub next-taken : b ≡ false → {r : Sized} → r ≡ entryAt settings s rows attrs n (typeFrom settings sizes s rows attrs n known 0) i → r ≡ nextLevel settings sizes s rows attrs n known i
   unfolding nextLevel
   next-taken t p = p ∙ sym (rw (test-is t))
+
+  -- a row whose kind has no size
+  pub next-other : b ≡ false → {row : Row} {x : Shape} {why : Refusal} → row ≡ rowAt rows i → x ≡ shapeOf (row .kind) → x ≡ shape.Other
+      → why ≡ refusedAt (row .key) reason.Kind → Refused why ≡ nextLevel settings sizes s rows attrs n known i
+  unfolding entryAt shapeSize
+  next-other t p is o q =
+      next-taken t
+      (by-told (shapeSize settings s rows attrs n (typeFrom settings sizes s rows attrs n known 0) i) (is ∙ ap (λ (r : Row). shapeOf (r .kind)) p) o
+      (ap Refused (q ∙ ap (λ (r : Row). refusedAt (r .key) reason.Kind) p)))
 
 -- ---- the sizes of a level are those that the next asks for
 
@@ -146,6 +182,23 @@ module _ (settings : Settings) (sizes s rows attrs : List ℕ) (n : ℕ) (ready 
       let up : suc k + levels ≡ suc (k + levels) = omega arith in
       ap (entrySize settings sizes s rows attrs n) up ∙ ap oneMore (same-above levels p k) ∙ sym p
 
+  fixed-above : (levels most : ℕ) → entrySize settings sizes s rows attrs n levels ≡ entrySize settings sizes s rows attrs n (suc levels) → levels ≤ most
+      → entrySize settings sizes s rows attrs n levels ≡ entrySize settings sizes s rows attrs n most
+  fixed-above levels most p h =
+      let up : (most - levels) + levels ≡ most = omega arith in
+      sym (ap (entrySize settings sizes s rows attrs n) (sym up) ∙ same-above levels p (most - levels))
+
+  -- all are settled: so it is with every level above
+  pub level-final : {known : List ℕ} (levels most : ℕ) → Filled (sizeLeft settings sizes s rows attrs n levels) n n known
+      → ((i : ℕ) → i < n → settled (knownAt known i) ≡ true) → levels ≤ most → Filled (sizeLeft settings sizes s rows attrs n most) n n known
+  unfolding sizeLeft
+  level-final {known} levels most w all h =
+      let fixed : entrySize settings sizes s rows attrs n levels ≡ entrySize settings sizes s rows attrs n (suc levels) =
+      key-sizes (suc levels)
+      (λ i l. sym (size-stays settings sizes s rows attrs n levels (rowAt rows i .key) (subst Settled (w .each i l) (settled-is (knownAt known i) (all i l)))))
+      (λ key p. entry-none settings sizes s rows attrs n levels key p) in
+      record { fits = w .fits; each = λ i l. w .each i l ∙ ap (λ (f : ℕ → Sized). f (rowAt rows i .key)) (fixed-above levels most fixed h) }
+
   module _ {known next known′ : List ℕ} (levels : ℕ) {same : Bool} (w : Filled (sizeLeft settings sizes s rows attrs n levels) n n known)
       (g : TakenOver (n * knownWidth) known next same known′) where
     over-same : (i : ℕ) → i < n → knownAt known′ i ≡ knownAt next i
@@ -163,12 +216,9 @@ module _ (settings : Settings) (sizes s rows attrs : List ℕ) (n : ℕ) (ready 
         let fixed : entrySize settings sizes s rows attrs n levels ≡ entrySize settings sizes s rows attrs n (suc levels) =
         key-sizes (suc levels) (λ i l. sym (w .each i l) ∙ ap (λ (u : List ℕ). knownAt u i) (sym (g .kept t)) ∙ over-same i l ∙ v .each i l)
         (λ key p. entry-none settings sizes s rows attrs n levels key p) in
-        let up : (most - levels) + levels ≡ most = omega arith in
-        let top : entrySize settings sizes s rows attrs n most ≡ entrySize settings sizes s rows attrs n levels =
-        ap (entrySize settings sizes s rows attrs n) (sym up) ∙ same-above levels fixed (most - levels) in
         record {
           fits = omega (arith, w .fits, g .same-long);
-          each = λ i l. ap (λ (u : List ℕ). knownAt u i) (g .kept t) ∙ w .each i l ∙ ap (λ (f : ℕ → Sized). f (rowAt rows i .key)) (sym top);
+          each = λ i l. ap (λ (u : List ℕ). knownAt u i) (g .kept t) ∙ w .each i l ∙ ap (λ (f : ℕ → Sized). f (rowAt rows i .key)) (fixed-above levels most fixed h);
         }
 
 -- ---- level after level
@@ -194,10 +244,10 @@ levelling-begins settings sizes s rows attrs n ready fits w e =
     }
 
 module _ {settings : Settings} {sizes s rows attrs : List ℕ} {n : ℕ} {known₀ next₀ known next : List ℕ} {level : ℕ}
-    (w : Levelling settings sizes s rows attrs n known₀ next₀ known next level) {next′ known′ : List ℕ} {same : Bool}
-    (g : Filled (nextLevel settings sizes s rows attrs n known) n n next′) (over : TakenOver (n * knownWidth) known next′ same known′) where
+    (w : Levelling settings sizes s rows attrs n known₀ next₀ known next level) {next′ known′ : List ℕ} {all same : Bool}
+    (g : LevelFilled (nextLevel settings sizes s rows attrs n known) n n next′ all) (over : TakenOver (n * knownWidth) known next′ same known′) where
   above : Filled (sizeLeft settings sizes s rows attrs n (suc level)) n n next′
-  above = level-more settings sizes s rows attrs n (w .ready) level (w .filled) g
+  above = level-more settings sizes s rows attrs n (w .ready) level (w .filled) (g .filled)
 
   pub levelling-on : level < deepest → length next′ ≡ length next → Levelling settings sizes s rows attrs n known₀ next₀ known′ next′ (level + 1)
   levelling-on l e =
@@ -208,13 +258,19 @@ module _ {settings : Settings} {sizes s rows attrs : List ℕ} {n : ℕ} {known�
         filled =
             subst (λ (k : ℕ). Filled (sizeLeft settings sizes s rows attrs n k) n n known′) one
             (level-over settings sizes s rows attrs n (w .ready) level (w .filled) over above);
-        next-fits = g .fits;
+        next-fits = g .filled .fits;
         same-known = over .same-long ∙ w .same-known;
         same-next = e ∙ w .same-next;
       }
 
   pub levelling-settled : same ≡ true → Filled (sizeLeft settings sizes s rows attrs n deepest) n n known′
   levelling-settled t = level-settled settings sizes s rows attrs n (w .ready) level (w .filled) over deepest above t (w .within)
+
+  pub levelling-all : level < deepest → all ≡ true → Filled (sizeLeft settings sizes s rows attrs n deepest) n n known′
+  levelling-all l t =
+      let upper : suc level ≤ deepest = omega arith in
+      level-over settings sizes s rows attrs n (w .ready) level (w .filled) over
+      (level-final settings sizes s rows attrs n (w .ready) (suc level) deepest above (λ i h. ap settled (g .filled .each i h) ∙ g .stay t i h) upper)
 
 pub levelling-ends : {settings : Settings} {sizes s rows attrs : List ℕ} {n : ℕ} {known₀ next₀ known next : List ℕ} {level : ℕ}
     → Levelling settings sizes s rows attrs n known₀ next₀ known next level → deepest ≤ level → Filled (sizeLeft settings sizes s rows attrs n deepest) n n known

@@ -43,6 +43,11 @@ pub record Filled (sizeAt : ℕ → Sized) (n k : ℕ) (known : List ℕ) : Type
   pub fits : n * knownWidth ≤ length known
   pub each : (i : ℕ) → i < k → knownAt known i ≡ sizeAt i
 
+-- and all of them are settled, if that is told
+pub record LevelFilled (sizeAt : ℕ → Sized) (n k : ℕ) (known : List ℕ) (all : Bool) : Type 0 where
+  pub filled : Filled sizeAt n k known
+  pub stay : all ≡ true → (i : ℕ) → i < k → settled (sizeAt i) ≡ true
+
 -- a table that was tested, and room for a size of each row
 pub record FillAsked (s rows : List ℕ) (n : ℕ) (known : List ℕ) : Type 0 where
   pub ready : Ready s rows n

@@ -3,6 +3,8 @@ use crate::known::KNOWN_WIDTH;
 use crate::known::known_at;
 use crate::known::put_known;
 use crate::known::put_refusal;
+use crate::prepare::Shape;
+use crate::prepare::shape_of;
 use crate::size::row_size;
 use crate::sized::Sized;
 use format::limits::DEPTH_LIMIT;
@@ -12,12 +14,13 @@ use format::settings::Settings;
 use records::scan::refused;
 use tables::row::row_at;
 ghost use mathlib.Core.Path.{_≡_};
+ghost use mathlib.Core.Bool.{false, cond};
 ghost use Prim.Native.Nat.{_*_, _≤_};
 ghost use lib.ListN.{length};
 ghost use Rattle.records.specs.EnumerationWays.{AskedShort};
 ghost use Rattle.sizes.specs.Known.{knownWidth};
 ghost use Rattle.sizes.specs.KeptWays.{PartsKept, AllKept};
-ghost use Rattle.sizes.specs.LevelsWays.{deepest, lastLevel, settled, nextLevel, sizeLeft, Filled, FillAsked, TakenOver};
+ghost use Rattle.sizes.specs.LevelsWays.{deepest, lastLevel, settled, nextLevel, sizeLeft, Filled, LevelFilled, FillAsked, TakenOver};
 
 // Where no level is left every row is past the limit.
 fn last_level(rows: &[u32], n: usize, known: &mut [u64])
@@ -64,10 +67,21 @@ fn next_size(
     if is_settled(size) {
         return size;
     }
-    row_size(s, settings, sizes, rows, attrs, n, known, kept, 0, i)
+    let row = row_at(rows, i);
+    match shape_of(row.kind) {
+        Shape::Other => Sized::Refused(refused(Reason::Kind, row.key)),
+        _ => row_size(s, settings, sizes, rows, attrs, n, known, kept, 0, i),
+    }
 }
 
-// One level more.
+// Are all settled, if those before were?
+fn also_settled(were: bool, size: Sized) -> bool
+    ensures { λ r. ⌜ r ≡ cond were (settled size) false ⌝ }
+{
+    if were { is_settled(size) } else { false }
+}
+
+// One level more; are all rows settled?
 fn next_level(
     s: &[u8],
     settings: Settings,
@@ -78,16 +92,19 @@ fn next_level(
     known: &[u64],
     kept: &[u64],
     next: &mut [u64],
-)
+) -> bool
     requires { ⌜ FillAsked (now s) (now rows) n (now next) × AllKept settings (now sizes) (now s) (now rows) (now attrs) n (now known) (now kept) ⌝ }
-    ensures { λ _. ⌜ Filled (nextLevel settings (now (sizes .entry)) (now (s .entry)) (now (rows .entry)) (now (attrs .entry)) n (now (known .entry))) n n (now (next .exit)) ⌝ }
+    ensures { λ r. ⌜ LevelFilled (nextLevel settings (now (sizes .entry)) (now (s .entry)) (now (rows .entry)) (now (attrs .entry)) n (now (known .entry))) n n (now (next .exit)) r ⌝ }
 {
+    let mut all = true;
     let mut i: usize = 0;
     while i < n {
         let size = next_size(s, settings, sizes, rows, attrs, n, known, kept, i);
         put_known(next, i, size);
+        all = also_settled(all, size);
         i += 1;
     }
+    all
 }
 
 // The first words of `known` become those of `next`; were they the same already?
@@ -107,7 +124,7 @@ fn take_over(known: &mut [u64], next: &[u64], words: usize) -> bool
     same
 }
 
-// The sizes of all rows, the entry that is asked for being depth 2. Once a level changes nothing, none above it does.
+// The sizes of all rows, the entry that is asked for being depth 2. Once all are settled, or a level changes nothing, none above it does.
 pub fn fill_known(
     s: &[u8],
     settings: Settings,
@@ -125,8 +142,11 @@ pub fn fill_known(
     last_level(rows, n, known);
     let mut level: usize = 0;
     while level < DEPTH_LIMIT - 1 {
-        next_level(s, settings, sizes, rows, attrs, n, known, kept, next);
+        let all = next_level(s, settings, sizes, rows, attrs, n, known, kept, next);
         if take_over(known, next, n * KNOWN_WIDTH) {
+            return;
+        }
+        if all {
             return;
         }
         level += 1;

@@ -1,5 +1,5 @@
 use Rattle.sizes.specs.LevelsWays.{deepest}
-use Rattle.sizes.specs.LevelsLaws.{known-kept, Levelling, levelling-begins, levelling-on, levelling-settled, levelling-ends}
+use Rattle.sizes.specs.LevelsLaws.{known-kept, Levelling, levelling-begins, levelling-on, levelling-settled, levelling-all, levelling-ends}
 use borrow.Author.Needs.{needs}
 use Prim.Native.Nat.{_-_}
 use mathlib.Core.Path.{refl}
@@ -40,15 +40,6 @@ same-length-2 c = search needs
 returns : tie.Need-returns Inv-loop μ-loop
 returns c = levelling-settled (c .before .before .before .before .before .before .before .before .before .before .before .before .loop .inv) (c .before .before .before .before .before .before .before .before .next-level .ensures) (c .before .before .before .take-over .ensures) (c .if1 .taken)
 
-add-level : tie.Need-add-level Inv-loop μ-loop
-add-level c = search needs
-
-loop-less : tie.Need-loop-less Inv-loop μ-loop
-loop-less c = search needs
-
-loop-again : tie.Need-loop-again Inv-loop μ-loop
-loop-again c = levelling-on (c .before .before .before .before .before .before .before .before .before .before .before .before .loop .inv) (c .before .before .before .before .before .before .before .before .next-level .ensures) (c .before .before .before .take-over .ensures) (c .before .before .before .before .before .before .before .before .before .before .before .loop-test .taken) (search needs)
-
 same-length-3 : tie.Need-same-length-3 Inv-loop μ-loop
 same-length-3 c = search needs
 
@@ -56,7 +47,25 @@ same-length-4 : tie.Need-same-length-4 Inv-loop μ-loop
 same-length-4 c = search needs
 
 returns-2 : tie.Need-returns-2 Inv-loop μ-loop
-returns-2 c = levelling-ends (c .before .loop .inv) (c .loop-test .left)
+returns-2 c = levelling-all (c .before .before .before .before .before .before .before .before .before .before .before .before .before .loop .inv) (c .before .before .before .before .before .before .before .before .before .next-level .ensures) (c .before .before .before .before .take-over .ensures) (c .before .before .before .before .before .before .before .before .before .before .before .before .loop-test .taken) (c .if2 .taken)
+
+add-level : tie.Need-add-level Inv-loop μ-loop
+add-level c = search needs
+
+loop-less : tie.Need-loop-less Inv-loop μ-loop
+loop-less c = search needs
+
+loop-again : tie.Need-loop-again Inv-loop μ-loop
+loop-again c = levelling-on (c .before .before .before .before .before .before .before .before .before .before .before .before .before .loop .inv) (c .before .before .before .before .before .before .before .before .before .next-level .ensures) (c .before .before .before .before .take-over .ensures) (c .before .before .before .before .before .before .before .before .before .before .before .before .loop-test .taken) (search needs)
+
+same-length-5 : tie.Need-same-length-5 Inv-loop μ-loop
+same-length-5 c = search needs
+
+same-length-6 : tie.Need-same-length-6 Inv-loop μ-loop
+same-length-6 c = search needs
+
+returns-3 : tie.Need-returns-3 Inv-loop μ-loop
+returns-3 c = levelling-ends (c .before .loop .inv) (c .loop-test .left)
 
 pub fill-known-spec : {M : Type 1} → statement M
 fill-known-spec =
@@ -73,9 +82,12 @@ fill-known-spec =
     same-length
     same-length-2
     returns
+    same-length-3
+    same-length-4
+    returns-2
     add-level
     loop-less
     loop-again
-    same-length-3
-    same-length-4
-    returns-2)
+    same-length-5
+    same-length-6
+    returns-3)

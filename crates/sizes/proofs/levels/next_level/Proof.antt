@@ -1,5 +1,5 @@
-use Rattle.sizes.specs.LevelsWays.{nextLevel, Filled}
-use Rattle.sizes.specs.LevelsLaws.{filled-none, filled-more, filled-all}
+use Rattle.sizes.specs.LevelsWays.{nextLevel, LevelFilled}
+use Rattle.sizes.specs.LevelsLaws.{level-none, level-row, level-whole}
 use borrow.Author.Needs.{needs}
 use Prim.Native.Nat.{_-_}
 use mathlib.Core.Path.{_≡_, refl, _∙_}
@@ -8,20 +8,23 @@ use Rattle.sizes.proofs.levels.next_level.Statement.{statement}
 use Rattle.sizes.proofs.levels.next_level.Tie as tie
 
 abbrev Inv-loop : tie.InvT-loop
-Inv-loop s settings sizes rows attrs n known kept next₀ i₀ next i =
-    Filled (nextLevel settings sizes s rows attrs n known) n i next × (length next ≡ length next₀)
+Inv-loop s settings sizes rows attrs n known kept next₀ all₀ i₀ next all i =
+    LevelFilled (nextLevel settings sizes s rows attrs n known) n i next all × (length next ≡ length next₀)
 
 abbrev μ-loop : tie.MeasureT-loop
-μ-loop s settings sizes rows attrs n known kept next₀ i₀ next i = n - i
+μ-loop s settings sizes rows attrs n known kept next₀ all₀ i₀ next all i = n - i
 
 loop-holds : tie.Need-loop-holds Inv-loop μ-loop
-loop-holds c = (filled-none _ _ (c .before .before .before .before .before .before .before .pre .0 .fits), refl)
+loop-holds c = (level-none _ _ (c .before .before .before .before .before .before .before .pre .0 .fits), refl)
 
 next-size-requires : tie.Need-next-size-requires Inv-loop μ-loop
 next-size-requires c κs = (record { asked = record { table = c .before .before .before .before .before .before .before .before .before .pre .0 .ready .table; there = c .loop-test .taken }; short = c .before .before .before .before .before .before .before .before .before .pre .0 .ready .short }, c .before .before .before .before .before .before .before .before .before .pre .1)
 
 put-known-requires : tie.Need-put-known-requires Inv-loop μ-loop
 put-known-requires c κs = search needs
+
+also-settled-requires : tie.Need-also-settled-requires Inv-loop μ-loop
+also-settled-requires c κs = search needs
 
 add-i : tie.Need-add-i Inv-loop μ-loop
 add-i c = search needs
@@ -30,14 +33,13 @@ loop-less : tie.Need-loop-less Inv-loop μ-loop
 loop-less c = search needs
 
 loop-again : tie.Need-loop-again Inv-loop μ-loop
-loop-again c =
-    (filled-more _ _ (c .before .before .before .before .before .before .loop .inv .0) (c .before .before .put-known .ensures) (c .before .before .before .before .next-size .ensures), (c .before .before .put-known .ensures .same-long ∙ c .before .before .before .before .before .before .loop .inv .1))
+loop-again c = (level-row _ _ (c .before .before .before .before .before .before .before .loop .inv .0) (c .before .before .before .put-known .ensures) (c .before .before .before .before .before .next-size .ensures) (c .also-settled .ensures), (c .before .before .before .put-known .ensures .same-long ∙ c .before .before .before .before .before .before .before .loop .inv .1))
 
 same-length : tie.Need-same-length Inv-loop μ-loop
 same-length c = search needs
 
 returns : tie.Need-returns Inv-loop μ-loop
-returns c = filled-all _ _ (c .before .loop .inv .0) (c .loop-test .left)
+returns c = level-whole _ _ (c .before .loop .inv .0) (c .loop-test .left)
 
 pub next-level-spec : {M : Type 1} → statement M
 next-level-spec =
@@ -48,6 +50,7 @@ next-level-spec =
     loop-holds
     next-size-requires
     put-known-requires
+    also-settled-requires
     add-i
     loop-less
     loop-again
