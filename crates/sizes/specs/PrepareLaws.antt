@@ -32,7 +32,7 @@ use Rattle.links.specs.declared.children.Kids.the-variants as kids
 use Rattle.records.specs.TakenLaws.{by-case, test-passed, test-failed}
 use Rattle.records.specs.FieldsLaws.{by-told}
 use Rattle.records.specs.Scan.{attributeAt, runOf, faultsFrom, orElse}
-use Rattle.records.specs.Fields.{lastFrom, lastOf, wordOf}
+use Rattle.records.specs.Fields.{isSought, lastFrom, lastOf, wordOf}
 use Rattle.records.specs.Front.{unless}
 use Rattle.records.specs.FrontLaws.{or-else-clear, or-else-refused, unless-clear, unless-refused}
 use Rattle.records.specs.Member.{memberAt}
@@ -69,11 +69,11 @@ use Rattle.sizes.specs.declared.sized.Sized.the-variants.{Is, Refused}
 
 -- ---- the subscripts of an array
 
-pub counted-clear : (key : ℕ) {told : Counted} {t : «Type»} {n : ℕ} → told ≡ counted.Are t n → fault.Clear ≡ countedFault key told
+counted-clear : (key : ℕ) {told : Counted} {t : «Type»} {n : ℕ} → told ≡ counted.Are t n → fault.Clear ≡ countedFault key told
 unfolding countedFault
 counted-clear key p = by-case (countedFault key) p refl
 
-pub counted-refused : (key : ℕ) {told : Counted} {why why′ : Refusal} → told ≡ counted.Refused why → why′ ≡ refusedAt key (why .reason)
+counted-refused : (key : ℕ) {told : Counted} {why why′ : Refusal} → told ≡ counted.Refused why → why′ ≡ refusedAt key (why .reason)
     → fault.Refused why′ ≡ countedFault key told
 unfolding countedFault
 counted-refused key p q = by-case (countedFault key) p (ap fault.Refused q)
@@ -85,14 +85,14 @@ module _ (s attrs : List ℕ) (run : Run) where
   block-is k p q = q ∙ ap (λ (x : Attribute). blockAt (run .ends .«data») 2 s (x .value)) p
 
   module _ (j : ℕ) {a : Attribute} (p : a ≡ attributeAt attrs (run .first + j)) where
-    pub subscript-read : {block : List ℕ} {told : Counted} {r : Fault} → a .number ≡ attribute.SubscrData → block ≡ subscriptBlock s attrs run (run .first + j)
+    subscript-read : {block : List ℕ} {told : Counted} {r : Fault} → a .number ≡ attribute.SubscrData → block ≡ subscriptBlock s attrs run (run .first + j)
         → told ≡ countSubscripts (run .ends .section) block → r ≡ countedFault (run .key) told → r ≡ subscriptFault s attrs run j
     unfolding subscriptFault
     subscript-read h b is g =
         test-passed (ap (λ (x : Attribute). eqb (x .number) attribute.SubscrData) p) _ (eq-eqb (a .number) attribute.SubscrData h)
         (g ∙ ap (countedFault (run .key)) (is ∙ ap (countSubscripts (run .ends .section)) b))
 
-    pub subscript-other : (a .number ≡ attribute.SubscrData → ⊥) → fault.Clear ≡ subscriptFault s attrs run j
+    subscript-other : (a .number ≡ attribute.SubscrData → ⊥) → fault.Clear ≡ subscriptFault s attrs run j
     unfolding subscriptFault
     subscript-other h =
         test-failed (ap (λ (x : Attribute). eqb (x .number) attribute.SubscrData) p) _ (ne-eqb (a .number) attribute.SubscrData h) refl
@@ -101,28 +101,9 @@ module _ (s attrs : List ℕ) (run : Run) where
     counted-is : told ≡ countSubscripts (run .ends .section) (subscriptBlock s attrs run k)
     counted-is = is ∙ ap (countSubscripts (run .ends .section)) b
 
-    pub last-element : {t : «Type»} {n : ℕ} → told ≡ counted.Are t n → prepared.Element t k ≡ preparedLast s attrs run k
+    last-element : {t : «Type»} {n : ℕ} → told ≡ counted.Are t n → prepared.Element t k ≡ preparedLast s attrs run k
     unfolding preparedLast countedPrepared
     last-element p = by-told (countedPrepared s attrs run k) counted-is p refl
-
-    pub last-refused : {why why′ : Refusal} → told ≡ counted.Refused why → why′ ≡ refusedAt (run .key) (why .reason)
-        → prepared.Refused why′ ≡ preparedLast s attrs run k
-    unfolding preparedLast countedPrepared
-    last-refused p q = by-told (countedPrepared s attrs run k) counted-is p (ap prepared.Refused q)
-
-  module _ {told : Fault} (is : told ≡ faultsFrom (subscriptFault s attrs run) 0 (run .count)) where
-    module _ (clear : told ≡ fault.Clear) {last : Found} (at : last ≡ lastFrom (sought.Number attribute.SubscrData) attrs (run .first) (run .count)) where
-      pub array-last : {k : ℕ} {r : Prepared} → last ≡ found.At k → r ≡ preparedLast s attrs run k → r ≡ preparedArray s attrs run
-      unfolding preparedArray lastPrepared lastOf
-      array-last p h = unless-clear is prepared.Refused clear (by-told (lastPrepared s attrs run) at p h)
-
-      pub array-none : {why : Refusal} → last ≡ found.Nothing → why ≡ refusedAt (run .key) reason.Missing → prepared.Refused why ≡ preparedArray s attrs run
-      unfolding preparedArray lastPrepared lastOf
-      array-none p q = unless-clear is prepared.Refused clear (by-told (lastPrepared s attrs run) at p (ap prepared.Refused q))
-
-    pub array-refused : {why : Refusal} → told ≡ fault.Refused why → prepared.Refused why ≡ preparedArray s attrs run
-    unfolding preparedArray
-    array-refused p = unless-refused is prepared.Refused _ p
 
 -- ---- faults one after the other: from number j on, what is left comes to the whole
 
@@ -150,6 +131,60 @@ module _ {f : ℕ → Fault} {count j : ℕ} (w : Judging f count j) where
 
     pub judging-refused : {why : Refusal} → told ≡ fault.Refused why → fault.Refused why ≡ faultsFrom f 0 count
     judging-refused p = or-else-refused is _ p ∙ one
+
+-- attribute after attribute: the faults of all come to what those from number j on do; what was last among those before it
+pub record Preparing (s attrs : List ℕ) (run : Run) (j : ℕ) (last : Prepared) : Type 0 where
+  pub within : j ≤ run .count
+  pub judging : Judging (subscriptFault s attrs run) (run .count) j
+  pub last-is : last ≡ lastPrepared s attrs run (lastFrom (sought.Number attribute.SubscrData) attrs (run .first) j)
+
+pub preparing-begins : (s attrs : List ℕ) (run : Run) {why : Refusal} → why ≡ refusedAt (run .key) reason.Missing → Preparing s attrs run 0 (prepared.Refused why)
+unfolding lastPrepared lastFrom
+preparing-begins s attrs run q = record { within = omega arith; judging = judging-begins _ _; last-is = ap prepared.Refused q }
+
+module _ {s attrs : List ℕ} {run : Run} {j : ℕ} {last : Prepared} (w : Preparing s attrs run j last) where
+  pub preparing-ends : run .count ≤ j → last ≡ preparedArray s attrs run
+  unfolding preparedArray lastOf
+  preparing-ends h =
+      let all : j ≡ run .count = omega (arith, w .within) in
+      unless-clear (judging-ends (w .judging) h) prepared.Refused refl
+      (w .last-is ∙ ap (λ (k : ℕ). lastPrepared s attrs run (lastFrom (sought.Number attribute.SubscrData) attrs (run .first) k)) all)
+
+  module _ (l : j < run .count) {a : Attribute} (at : a ≡ attributeAt attrs (run .first + j)) where
+    last-with : {b : Bool} → eqb (a .number) attribute.SubscrData ≡ b
+        → cond b (found.At (run .first + j)) (lastFrom (sought.Number attribute.SubscrData) attrs (run .first) j)
+        ≡ lastFrom (sought.Number attribute.SubscrData) attrs (run .first) (j + 1)
+    unfolding lastFrom isSought
+    last-with t =
+        let more : suc j ≡ j + 1 = omega arith in
+        ap (λ (c : Bool). cond c (found.At (run .first + j)) (lastFrom (sought.Number attribute.SubscrData) attrs (run .first) j))
+        (sym t ∙ ap (λ (x : Attribute). eqb (x .number) attribute.SubscrData) at)
+        ∙ ap (lastFrom (sought.Number attribute.SubscrData) attrs (run .first)) more
+
+    pub preparing-past : (a .number ≡ attribute.SubscrData → ⊥) → Preparing s attrs run (j + 1) last
+    preparing-past h =
+        record {
+          within = omega arith;
+          judging = judging-on (w .judging) l (subscript-other s attrs run j at h) refl;
+          last-is = w .last-is ∙ ap (lastPrepared s attrs run) (last-with (ne-eqb (a .number) attribute.SubscrData h));
+        }
+
+    module _ (h : a .number ≡ attribute.SubscrData) {block : List ℕ} {told : Counted} (b : block ≡ subscriptBlock s attrs run (run .first + j))
+        (is : told ≡ countSubscripts (run .ends .section) block) where
+      pub preparing-on : {t : «Type»} {n : ℕ} → told ≡ counted.Are t n → Preparing s attrs run (j + 1) (prepared.Element t (run .first + j))
+      unfolding lastPrepared
+      preparing-on p =
+          record {
+            within = omega arith;
+            judging = judging-on (w .judging) l (subscript-read s attrs run j at h b is (counted-clear (run .key) p)) refl;
+            last-is = last-element s attrs run (run .first + j) b is p ∙ ap (lastPrepared s attrs run) (last-with (eq-eqb (a .number) attribute.SubscrData h));
+          }
+
+      pub preparing-refused : {why why′ : Refusal} → told ≡ counted.Refused why → why′ ≡ refusedAt (run .key) (why .reason)
+          → prepared.Refused why′ ≡ preparedArray s attrs run
+      unfolding preparedArray
+      preparing-refused p q =
+          unless-refused (judging-refused (w .judging) l (subscript-read s attrs run j at h b is (counted-refused (run .key) p q)) refl) prepared.Refused _ refl
 
 -- ---- the members of a structure
 

@@ -18,9 +18,7 @@ use links::kids::child_from;
 use links::link::next_row;
 use records::enumeration::EnumerationWhole;
 use records::enumeration::enumeration_at;
-use records::fields::Sought;
 use records::fields::Word;
-use records::fields::last_from;
 use records::fields::last_word;
 use records::member::MemberRead;
 use records::member::member_at;
@@ -34,20 +32,18 @@ use records::scan::refused;
 use records::scan::run_of;
 use records::unions::UnionWhole;
 use records::unions::union_at;
-use tables::find::Found;
 use tables::row::row_at;
 ghost use mathlib.Core.Path.{_≡_};
 ghost use Rattle.links.specs.ChildrenWays.{Asked};
-ghost use Rattle.records.specs.Scan.{faultsFrom};
 ghost use Rattle.records.specs.EnumerationWays.{AskedShort};
-ghost use Rattle.sizes.specs.Size.{shapeOf, subscriptBlock, countedFault, subscriptFault};
+ghost use Rattle.sizes.specs.Size.{shapeOf, subscriptBlock};
 ghost use Rattle.links.specs.Kids.{kidsOf};
 ghost use Rattle.records.specs.Enumeration.{enumerationAt};
 ghost use Rattle.records.specs.PtrToMember.{ptrAt};
 ghost use Rattle.records.specs.Unions.{unionAt};
 ghost use Rattle.records.specs.UnionsWays.{EndsAt};
 ghost use Rattle.sizes.specs.KeptWays.{faultKept, FaultsKept, RowsKept, StructureAsked};
-ghost use Rattle.sizes.specs.Ways.{SmallPlace, memberFault, membersFault, structureFault, preparedLast, preparedArray, preparedStructure, preparedEnumeration, preparedUnion, preparedPointer, preparedRow};
+ghost use Rattle.sizes.specs.Ways.{SmallPlace, memberFault, membersFault, structureFault, preparedArray, preparedStructure, preparedEnumeration, preparedUnion, preparedPointer, preparedRow};
 
 // How a row comes to its size.
 pub enum Shape {
@@ -97,81 +93,34 @@ pub fn subscript_block<'a>(s: &'a [u8], attrs: &[u32], run: Run, k: usize) -> &'
     block2(s, attribute.value, ends)
 }
 
-fn counted_fault(key: u32, counted: Counted) -> Fault
-    ensures { λ r. ⌜ r ≡ countedFault key counted ⌝ }
-{
-    match counted {
-        Counted::Are {
-            element: _,
-            dimensions: _,
-        } => Fault::Clear,
-        Counted::Refused(why) => Fault::Refused(placed(why, key)),
-    }
-}
-
-// Attribute j of the run: its subscripts, if it is SubscrData.
-fn subscript_fault(s: &[u8], attrs: &[u32], run: Run, j: usize) -> Fault
-    requires { ⌜ SmallPlace j ⌝ }
-    ensures { λ r. ⌜ r ≡ subscriptFault (now (s .entry)) (now (attrs .entry)) run j ⌝ }
-{
-    let k = run.first as usize + j;
-    let attribute = attribute_at(attrs, k);
-    if attribute.number == SUBSCR_DATA {
-        let ends = run.ends;
-        let e = ends.section;
-        counted_fault(
-            run.key,
-            count_subscripts(subscript_block(s, attrs, run, k), e),
-        )
-    } else {
-        Fault::Clear
-    }
-}
-
-// Every SubscrData is read.
-fn subscripts_fault(s: &[u8], attrs: &[u32], run: Run) -> Fault
-    ensures { λ r. ⌜ r ≡ faultsFrom (subscriptFault (now (s .entry)) (now (attrs .entry)) run) 0 (run .count) ⌝ }
-{
-    let count = run.count as usize;
-    let mut j: usize = 0;
-    while j < count {
-        match subscript_fault(s, attrs, run, j) {
-            Fault::Clear => {
-                j += 1;
-            }
-            Fault::Refused(why) => return Fault::Refused(why),
-        }
-    }
-    Fault::Clear
-}
-
-fn prepare_last(s: &[u8], attrs: &[u32], run: Run, k: usize) -> Prepared
-    ensures { λ r. ⌜ r ≡ preparedLast (now (s .entry)) (now (attrs .entry)) run k ⌝ }
-{
-    let ends = run.ends;
-    let e = ends.section;
-    match count_subscripts(subscript_block(s, attrs, run, k), e) {
-        Counted::Are {
-            element,
-            dimensions: _,
-        } => Prepared::Element { of: element, at: k },
-        Counted::Refused(why) => Prepared::Refused(placed(why, run.key)),
-    }
-}
-
-// The last SubscrData counts; one is needed.
+// Every SubscrData is read; the last counts, and one is needed.
 fn prepare_array(s: &[u8], attrs: &[u32], run: Run) -> Prepared
     ensures { λ r. ⌜ r ≡ preparedArray (now (s .entry)) (now (attrs .entry)) run ⌝ }
 {
-    match subscripts_fault(s, attrs, run) {
-        Fault::Clear => {
-            match last_from(attrs, run.first, run.count, Sought::Number(SUBSCR_DATA)) {
-                Found::At(k) => prepare_last(s, attrs, run, k),
-                Found::Nothing => Prepared::Refused(refused(Reason::Missing, run.key)),
+    let ends = run.ends;
+    let e = ends.section;
+    let count = run.count as usize;
+    let mut last = Prepared::Refused(refused(Reason::Missing, run.key));
+    let mut j: usize = 0;
+    while j < count {
+        let k = run.first as usize + j;
+        let attribute = attribute_at(attrs, k);
+        if attribute.number == SUBSCR_DATA {
+            match count_subscripts(subscript_block(s, attrs, run, k), e) {
+                Counted::Are {
+                    element,
+                    dimensions: _,
+                } => {
+                    last = Prepared::Element { of: element, at: k };
+                    j += 1;
+                }
+                Counted::Refused(why) => return Prepared::Refused(placed(why, run.key)),
             }
+        } else {
+            j += 1;
         }
-        Fault::Refused(why) => Prepared::Refused(why),
     }
+    last
 }
 
 // ---- structures and classes
