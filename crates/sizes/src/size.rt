@@ -178,7 +178,42 @@ pub fn row_size(
     }
 }
 
-// What the member at row c adds to its structure: its offset and its own size, else its type's.
+// What the member at row c adds to its structure, as its row says: its offset and its own size, else its type's.
+fn read_added(
+    s: &[u8],
+    settings: Settings,
+    sizes: &[u32],
+    rows: &[u32],
+    attrs: &[u32],
+    n: usize,
+    known: &[u64],
+    kept: &[u64],
+    levels: usize,
+    c: usize,
+) -> Added
+    requires { ⌜ MemberAsked settings (now sizes) (now s) (now rows) (now attrs) n (now known) (now kept) c ⌝ }
+    ensures { λ r. ⌜ r ≡ memberAdded settings (now (s .entry)) (now (rows .entry)) (now (attrs .entry)) n (typeFrom settings (now (sizes .entry)) (now (s .entry)) (now (rows .entry)) (now (attrs .entry)) n (now (known .entry)) levels) c ⌝ }
+{
+    match member_at(s, settings, rows, attrs, n, c) {
+        MemberRead::Is(member) => {
+            let own = member.byte_size;
+            let of = member.of;
+            match own {
+                Word::Is(size) => Added::Is {
+                    offset: member.offset,
+                    size,
+                },
+                Word::Nothing => with_size(
+                    member.offset,
+                    type_size(s, settings, sizes, rows, attrs, n, known, kept, levels, of),
+                ),
+            }
+        }
+        MemberRead::Refused(why) => Added::Refused(why),
+    }
+}
+
+// The same, if it is kept as that.
 pub fn member_added(
     s: &[u8],
     settings: Settings,
@@ -197,23 +232,7 @@ pub fn member_added(
     if kept.len() > 0 {
         return added_kept(known, kept, c);
     }
-    match member_at(s, settings, rows, attrs, n, c) {
-        MemberRead::Is(member) => {
-            let own = member.byte_size;
-            let of = member.of;
-            match own {
-                Word::Is(size) => Added::Is {
-                    offset: member.offset,
-                    size,
-                },
-                Word::Nothing => with_size(
-                    member.offset,
-                    type_size(s, settings, sizes, rows, attrs, n, known, kept, levels, of),
-                ),
-            }
-        }
-        MemberRead::Refused(why) => Added::Refused(why),
-    }
+    read_added(s, settings, sizes, rows, attrs, n, known, kept, levels, c)
 }
 
 // The largest end so far with that of child c.

@@ -12,22 +12,25 @@ use borrow.Fn.Kinds.{In}
 use borrow.Fn.PlainCycle.{Measures, is, falls, and}
 use Rattle.sizes.proofs.size.child_end.Reads as child-end
 use Rattle.sizes.proofs.size.child_end.Kinds as child-end-kinds
-use Rattle.sizes.proofs.size.+child_end+ends_size+entry_size+member_added+row_size+type_size.Lts-child_end as child-end-lts
+use Rattle.sizes.proofs.size.+child_end+ends_size+entry_size+member_added+read_added+row_size+type_size.Lts-child_end as child-end-lts
 use Rattle.sizes.proofs.size.ends_size.Reads as ends-size
 use Rattle.sizes.proofs.size.ends_size.Kinds as ends-size-kinds
-use Rattle.sizes.proofs.size.+child_end+ends_size+entry_size+member_added+row_size+type_size.Lts-ends_size as ends-size-lts
+use Rattle.sizes.proofs.size.+child_end+ends_size+entry_size+member_added+read_added+row_size+type_size.Lts-ends_size as ends-size-lts
 use Rattle.sizes.proofs.size.entry_size.Reads as entry-size
 use Rattle.sizes.proofs.size.entry_size.Kinds as entry-size-kinds
-use Rattle.sizes.proofs.size.+child_end+ends_size+entry_size+member_added+row_size+type_size.Lts-entry_size as entry-size-lts
+use Rattle.sizes.proofs.size.+child_end+ends_size+entry_size+member_added+read_added+row_size+type_size.Lts-entry_size as entry-size-lts
 use Rattle.sizes.proofs.size.member_added.Reads as member-added
 use Rattle.sizes.proofs.size.member_added.Kinds as member-added-kinds
-use Rattle.sizes.proofs.size.+child_end+ends_size+entry_size+member_added+row_size+type_size.Lts-member_added as member-added-lts
+use Rattle.sizes.proofs.size.+child_end+ends_size+entry_size+member_added+read_added+row_size+type_size.Lts-member_added as member-added-lts
+use Rattle.sizes.proofs.size.read_added.Reads as read-added
+use Rattle.sizes.proofs.size.read_added.Kinds as read-added-kinds
+use Rattle.sizes.proofs.size.+child_end+ends_size+entry_size+member_added+read_added+row_size+type_size.Lts-read_added as read-added-lts
 use Rattle.sizes.proofs.size.row_size.Reads as row-size
 use Rattle.sizes.proofs.size.row_size.Kinds as row-size-kinds
-use Rattle.sizes.proofs.size.+child_end+ends_size+entry_size+member_added+row_size+type_size.Lts-row_size as row-size-lts
+use Rattle.sizes.proofs.size.+child_end+ends_size+entry_size+member_added+read_added+row_size+type_size.Lts-row_size as row-size-lts
 use Rattle.sizes.proofs.size.type_size.Reads as type-size
 use Rattle.sizes.proofs.size.type_size.Kinds as type-size-kinds
-use Rattle.sizes.proofs.size.+child_end+ends_size+entry_size+member_added+row_size+type_size.Lts-type_size as type-size-lts
+use Rattle.sizes.proofs.size.+child_end+ends_size+entry_size+member_added+read_added+row_size+type_size.Lts-type_size as type-size-lts
 use Rattle.links.proofs.kids.child_from.Reads as child-from-reads
 use Rattle.links.proofs.link.next_row.Reads as next-row-reads
 use Rattle.records.proofs.scan.refused.Reads as refused-reads
@@ -42,26 +45,29 @@ use Rattle.sizes.proofs.size.fundamental_size.Reads as fundamental-size
 use Rattle.sizes.proofs.size.grown.Reads as grown-reads
 use Rattle.tables.proofs.find.find_row.Reads as find-row-reads
 use Rattle.tables.proofs.row.row_at.Reads as row-at-reads
-use Rattle.sizes.proofs.size.+child_end+ends_size+entry_size+member_added+row_size+type_size.{statement}
-use Rattle.sizes.proofs.size.+child_end+ends_size+entry_size+member_added+row_size+type_size.Tie.{close}
+use Rattle.sizes.proofs.size.+child_end+ends_size+entry_size+member_added+read_added+row_size+type_size.{statement}
+use Rattle.sizes.proofs.size.+child_end+ends_size+entry_size+member_added+read_added+row_size+type_size.Tie.{close}
 
 abbrev μ-child-end : Measures 6 child-end-kinds.ps ℕ
-μ-child-end κs a = 6 * (a .1 .1 .1 .1 .1 .1 .1 .1 .0) + 3
+μ-child-end κs a = 7 * (a .1 .1 .1 .1 .1 .1 .1 .1 .0) + 4
 
 abbrev μ-ends-size : Measures 6 ends-size-kinds.ps ℕ
-μ-ends-size κs a = 6 * (a .1 .1 .1 .1 .1 .1 .1 .1 .0) + 4
+μ-ends-size κs a = 7 * (a .1 .1 .1 .1 .1 .1 .1 .1 .0) + 5
 
 abbrev μ-entry-size : Measures 6 entry-size-kinds.ps ℕ
-μ-entry-size κs a = 6 * (a .1 .1 .1 .1 .1 .1 .1 .1 .0)
+μ-entry-size κs a = 7 * (a .1 .1 .1 .1 .1 .1 .1 .1 .0)
 
 abbrev μ-member-added : Measures 6 member-added-kinds.ps ℕ
-μ-member-added κs a = 6 * (a .1 .1 .1 .1 .1 .1 .1 .1 .0) + 2
+μ-member-added κs a = 7 * (a .1 .1 .1 .1 .1 .1 .1 .1 .0) + 3
+
+abbrev μ-read-added : Measures 6 read-added-kinds.ps ℕ
+μ-read-added κs a = 7 * (a .1 .1 .1 .1 .1 .1 .1 .1 .0) + 2
 
 abbrev μ-row-size : Measures 6 row-size-kinds.ps ℕ
-μ-row-size κs a = 6 * (a .1 .1 .1 .1 .1 .1 .1 .1 .0) + 5
+μ-row-size κs a = 7 * (a .1 .1 .1 .1 .1 .1 .1 .1 .0) + 6
 
 abbrev μ-type-size : Measures 6 type-size-kinds.ps ℕ
-μ-type-size κs a = 6 * (a .1 .1 .1 .1 .1 .1 .1 .1 .0) + 1
+μ-type-size κs a = 7 * (a .1 .1 .1 .1 .1 .1 .1 .1 .0) + 1
 
 abbrev child-end-at : ℕ → In 6 child-end-kinds.ps
 child-end-at t = and 6 child-end-kinds.ps (is 6 child-end-kinds.ps μ-child-end t) child-end.Pre
@@ -87,6 +93,12 @@ member-added-at t = and 6 member-added-kinds.ps (is 6 member-added-kinds.ps μ-m
 abbrev member-added-below : ℕ → In 6 member-added-kinds.ps
 member-added-below t = and 6 member-added-kinds.ps (falls 6 member-added-kinds.ps _<_ μ-member-added t) member-added.Pre
 
+abbrev read-added-at : ℕ → In 6 read-added-kinds.ps
+read-added-at t = and 6 read-added-kinds.ps (is 6 read-added-kinds.ps μ-read-added t) read-added.Pre
+
+abbrev read-added-below : ℕ → In 6 read-added-kinds.ps
+read-added-below t = and 6 read-added-kinds.ps (falls 6 read-added-kinds.ps _<_ μ-read-added t) read-added.Pre
+
 abbrev row-size-at : ℕ → In 6 row-size-kinds.ps
 row-size-at t = and 6 row-size-kinds.ps (is 6 row-size-kinds.ps μ-row-size t) row-size.Pre
 
@@ -110,7 +122,10 @@ abbrev entry-size-G : ℕ → entry-size-lts.Claims
 entry-size-G t = (find-row-reads.Asked, find-row-reads.Learnt, known-at-reads.Asked, known-at-reads.Learnt, refused-reads.Asked, refused-reads.Learnt, row-size-below t, row-size.Post)
 
 abbrev member-added-G : ℕ → member-added-lts.Claims
-member-added-G t = (added-kept-reads.Asked, added-kept-reads.Learnt, member-at-reads.Asked, member-at-reads.Learnt, type-size-below t, type-size.Post, with-size-reads.Asked, with-size-reads.Learnt)
+member-added-G t = (added-kept-reads.Asked, added-kept-reads.Learnt, read-added-below t, read-added.Post)
+
+abbrev read-added-G : ℕ → read-added-lts.Claims
+read-added-G t = (member-at-reads.Asked, member-at-reads.Learnt, type-size-below t, type-size.Post, with-size-reads.Asked, with-size-reads.Learnt)
 
 abbrev row-size-G : ℕ → row-size-lts.Claims
 row-size-G t = (prepare-row-reads.Asked, prepare-row-reads.Learnt, type-size-below t, type-size.Post, array-product-reads.Asked, array-product-reads.Learnt, ends-size-below t, ends-size.Post)
@@ -236,37 +251,43 @@ member-added-added-kept-requires t c κs = record { small = omega (arith, c .bef
 member-added-returns : (t : ℕ) → member-added-lts.Need-returns (member-added-G t) (member-added-at t) member-added.Post
 member-added-returns t c = member-kept (c .before .before .before .before .before .before .before .before .pre .1) (c .before .if1 .taken) _ (c .added-kept .ensures)
 
-member-added-member-at-requires : (t : ℕ) → member-added-lts.Need-member-at-requires (member-added-G t) (member-added-at t) member-added.Post
-member-added-member-at-requires t c κs = c .before .before .before .before .before .before .before .pre .1 .asked .asked
-
-member-added-enum-known-member : (t : ℕ) → member-added-lts.Need-enum-known-member (member-added-G t) (member-added-at t) member-added.Post
-member-added-enum-known-member t c = search needs
-
-member-added-enum-known-own : (t : ℕ) → member-added-lts.Need-enum-known-own (member-added-G t) (member-added-at t) member-added.Post
-member-added-enum-known-own t c = search needs
-
-member-added-enum-told : (t : ℕ) → member-added-lts.Need-enum-told (member-added-G t) (member-added-at t) member-added.Post
-member-added-enum-told t c = search needs
-
-member-added-type-size-requires : (t : ℕ) → member-added-lts.Need-type-size-requires (member-added-G t) (member-added-at t) member-added.Post
-member-added-type-size-requires t c κs =
-    (omega (arith, c .before .before .before .before .before .before .before .before .before .before .before .before .before .before .pre .0), (record { table = c .before .before .before .before .before .before .before .before .before .before .before .before .before .before .pre .1 .asked .asked .table; short = c .before .before .before .before .before .before .before .before .before .before .before .before .before .before .pre .1 .asked .short }, c .before .before .before .before .before .before .before .before .before .before .before .before .before .before .pre .1 .all-kept))
-
-member-added-with-size-requires : (t : ℕ) → member-added-lts.Need-with-size-requires (member-added-G t) (member-added-at t) member-added.Post
-member-added-with-size-requires t c κs = search needs
-
-member-added-enum-known-why : (t : ℕ) → member-added-lts.Need-enum-known-why (member-added-G t) (member-added-at t) member-added.Post
-member-added-enum-known-why t c = search needs
+member-added-read-added-requires : (t : ℕ) → member-added-lts.Need-read-added-requires (member-added-G t) (member-added-at t) member-added.Post
+member-added-read-added-requires t c κs = (omega (arith, c .before .before .before .before .before .before .before .pre .0), c .before .before .before .before .before .before .before .pre .1)
 
 member-added-returns-2 : (t : ℕ) → member-added-lts.Need-returns-2 (member-added-G t) (member-added-at t) member-added.Post
-member-added-returns-2 t c = added-own _ _ _ _ _ _ _ (c .before .before .before .before .before .before .before .member-at .ensures) (c .before .before .before .before .before .member .given .1) (c .before .own .given .1)
+member-added-returns-2 t c = search needs
 
-member-added-returns-3 : (t : ℕ) → member-added-lts.Need-returns-3 (member-added-G t) (member-added-at t) member-added.Post
-member-added-returns-3 t c =
+read-added-member-at-requires : (t : ℕ) → read-added-lts.Need-member-at-requires (read-added-G t) (read-added-at t) read-added.Post
+read-added-member-at-requires t c κs = c .before .before .before .before .before .before .pre .1 .asked .asked
+
+read-added-enum-known-member : (t : ℕ) → read-added-lts.Need-enum-known-member (read-added-G t) (read-added-at t) read-added.Post
+read-added-enum-known-member t c = search needs
+
+read-added-enum-known-own : (t : ℕ) → read-added-lts.Need-enum-known-own (read-added-G t) (read-added-at t) read-added.Post
+read-added-enum-known-own t c = search needs
+
+read-added-enum-told : (t : ℕ) → read-added-lts.Need-enum-told (read-added-G t) (read-added-at t) read-added.Post
+read-added-enum-told t c = search needs
+
+read-added-type-size-requires : (t : ℕ) → read-added-lts.Need-type-size-requires (read-added-G t) (read-added-at t) read-added.Post
+read-added-type-size-requires t c κs =
+    (omega (arith, c .before .before .before .before .before .before .before .before .before .before .before .before .before .pre .0), (record { table = c .before .before .before .before .before .before .before .before .before .before .before .before .before .pre .1 .asked .asked .table; short = c .before .before .before .before .before .before .before .before .before .before .before .before .before .pre .1 .asked .short }, c .before .before .before .before .before .before .before .before .before .before .before .before .before .pre .1 .all-kept))
+
+read-added-with-size-requires : (t : ℕ) → read-added-lts.Need-with-size-requires (read-added-G t) (read-added-at t) read-added.Post
+read-added-with-size-requires t c κs = search needs
+
+read-added-enum-known-why : (t : ℕ) → read-added-lts.Need-enum-known-why (read-added-G t) (read-added-at t) read-added.Post
+read-added-enum-known-why t c = search needs
+
+read-added-returns : (t : ℕ) → read-added-lts.Need-returns (read-added-G t) (read-added-at t) read-added.Post
+read-added-returns t c = added-own _ _ _ _ _ _ _ (c .before .before .before .before .before .before .before .member-at .ensures) (c .before .before .before .before .before .member .given .1) (c .before .own .given .1)
+
+read-added-returns-2 : (t : ℕ) → read-added-lts.Need-returns-2 (read-added-G t) (read-added-at t) read-added.Post
+read-added-returns-2 t c =
     added-typed _ _ _ _ _ _ _ (c .before .before .before .before .before .before .before .before .member-at .ensures) (c .before .before .before .before .before .before .member .given .1) (c .before .before .enum-told .given .1) (c .before .type-size .ensures) (c .with-size .ensures)
 
-member-added-returns-4 : (t : ℕ) → member-added-lts.Need-returns-4 (member-added-G t) (member-added-at t) member-added.Post
-member-added-returns-4 t c = added-refused _ _ _ _ _ _ _ (c .before .before .before .member-at .ensures) (c .before .why .given .1)
+read-added-returns-3 : (t : ℕ) → read-added-lts.Need-returns-3 (read-added-G t) (read-added-at t) read-added.Post
+read-added-returns-3 t c = added-refused _ _ _ _ _ _ _ (c .before .before .before .member-at .ensures) (c .before .why .given .1)
 
 row-size-prepare-row-requires : (t : ℕ) → row-size-lts.Need-prepare-row-requires (row-size-G t) (row-size-at t) row-size.Post
 row-size-prepare-row-requires t c κs = (c .before .before .before .before .before .before .pre .1 .0, c .before .before .before .before .before .before .pre .1 .1 .parts .rows-kept)
@@ -340,9 +361,9 @@ type-size-returns-3 : (t : ℕ) → type-size-lts.Need-returns-3 (type-size-G t)
 unfolding typeFrom
 type-size-returns-3 t c = type-user _ _ _ (c .before .before .before .before .if1 .left) (c .before .before .kind2 .given .1) (c .entry-size .ensures)
 
-pub +child-end+ends-size+entry-size+member-added+row-size+type-size-spec : {M : Type 1} → statement M
-+child-end+ends-size+entry-size+member-added+row-size+type-size-spec =
-    close μ-child-end μ-ends-size μ-entry-size μ-member-added μ-row-size μ-type-size (λ t. child-end-lts.spec (child-end-G t)
+pub +child-end+ends-size+entry-size+member-added+read-added+row-size+type-size-spec : {M : Type 1} → statement M
++child-end+ends-size+entry-size+member-added+read-added+row-size+type-size-spec =
+    close μ-child-end μ-ends-size μ-entry-size μ-member-added μ-read-added μ-row-size μ-type-size (λ t. child-end-lts.spec (child-end-G t)
     (child-end-at t)
     child-end.Post
     (child-end-row-at-requires t)
@@ -391,16 +412,21 @@ pub +child-end+ends-size+entry-size+member-added+row-size+type-size-spec : {M : 
     member-added.Post
     (member-added-added-kept-requires t)
     (member-added-returns t)
-    (member-added-member-at-requires t)
-    (member-added-enum-known-member t)
-    (member-added-enum-known-own t)
-    (member-added-enum-told t)
-    (member-added-type-size-requires t)
-    (member-added-with-size-requires t)
-    (member-added-enum-known-why t)
-    (member-added-returns-2 t)
-    (member-added-returns-3 t)
-    (member-added-returns-4 t))
+    (member-added-read-added-requires t)
+    (member-added-returns-2 t))
+    (λ t. read-added-lts.spec (read-added-G t)
+    (read-added-at t)
+    read-added.Post
+    (read-added-member-at-requires t)
+    (read-added-enum-known-member t)
+    (read-added-enum-known-own t)
+    (read-added-enum-told t)
+    (read-added-type-size-requires t)
+    (read-added-with-size-requires t)
+    (read-added-enum-known-why t)
+    (read-added-returns t)
+    (read-added-returns-2 t)
+    (read-added-returns-3 t))
     (λ t. row-size-lts.spec (row-size-G t)
     (row-size-at t)
     row-size.Post
