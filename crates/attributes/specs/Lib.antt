@@ -1,5 +1,5 @@
 -- Attributes: where a value ends, what stands at an attribute's place, what a value says (rule 5 of 'Reading entries'). What must be believed: `Text`,
--- `End`, `Read`, `Decode`, `Parts`. The rest are laws: `TextLaws`, `EndLaws`, `ReadLaws` and `PartLaws` (what the code computes), `Eight` (a zero is looked for in
+-- `End`, `Read`, `Decode`, `Parts`. The rest are laws: `TextLaws`, `EndLaws`, `ReadWays` and `PartLaws` (what the code computes), `Eight` (a zero is looked for in
 -- eight bytes at once), `Inside` (a success lies inside and moves forward), `Append` (bytes behind and in front of a section), `Only` (no second answer fits).
 pub mod Text
 pub mod End
@@ -10,7 +10,7 @@ pub mod Eight
 pub mod TextLaws
 pub mod EndLaws
 pub mod PartLaws
-pub mod ReadLaws
+pub mod ReadWays
 pub mod Inside
 pub mod Append
 pub mod Only

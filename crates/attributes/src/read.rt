@@ -9,7 +9,8 @@ use numbers::unsigned::u16_at;
 ghost use mathlib.Core.Path.{_≡_};
 ghost use Prim.Native.Nat.{_+_, _≤_};
 ghost use lib.ListN.{length};
-ghost use Rattle.attributes.specs.Read.{ending, numbered, readAttribute};
+ghost use Rattle.attributes.specs.Read.{numbered, readAttribute};
+ghost use Rattle.attributes.specs.ReadWays.{knownEnd};
 
 pub enum Attribute {
     // Its number, the place of its value, where the next field begins.
@@ -23,21 +24,39 @@ pub enum Attribute {
     Unknown(usize),
 }
 
+// Where the value of an attribute ends, by its number.
+pub enum Ending {
+    At(usize),
+    Short(usize),
+    Unknown,
+}
+
+// The end of the value at a place, of the attribute number n. Reading and the table test both ask here, of every attribute.
+pub fn known_end(s: &[u8], value: usize, n: u16, e: Endian, vendors: &[u16]) -> Ending
+    ensures { λ r. ⌜ r ≡ knownEnd (now (vendors .entry)) e (now (s .entry)) value n ⌝ }
+{
+    if is_known(n, vendors) {
+        match value_end(s, value, form_of(n), e) {
+            End::At(next) => Ending::At(next),
+            End::Short(field) => Ending::Short(field),
+        }
+    } else {
+        Ending::Unknown
+    }
+}
+
 fn numbered_at(s: &[u8], at: usize, n: u16, e: Endian, vendors: &[u16]) -> Attribute
     requires { ⌜ at + 2 ≤ length (now s) ⌝ }
     ensures { λ r. ⌜ r ≡ numbered (now (vendors .entry)) e (now (s .entry)) at n ⌝ }
 {
-    if is_known(n, vendors) {
-        match value_end(s, at + 2, form_of(n), e) {
-            End::At(next) => Attribute::Read {
-                number: n,
-                value: at + 2,
-                next,
-            },
-            End::Short(field) => Attribute::Short(field),
-        }
-    } else {
-        Attribute::Unknown(at)
+    match known_end(s, at + 2, n, e, vendors) {
+        Ending::At(next) => Attribute::Read {
+            number: n,
+            value: at + 2,
+            next,
+        },
+        Ending::Short(field) => Attribute::Short(field),
+        Ending::Unknown => Attribute::Unknown(at),
     }
 }
 

@@ -102,3 +102,10 @@ lines-member (x ∷ xs) n = ap (cond (eqb x n) true) (lines-member xs n) ∙ eit
 -- none of the list's numbers
 pub unlisted : (P : Type 0) (xs : List ℕ) (n : ℕ) → NoneOf P n (lines xs) → false ≡ member n xs
 unlisted P xs n t = lookup-none P (lines xs) false n t ∙ lines-member xs n
+
+-- nor has such a number a place on it
+pub unplaced : (P : Type 0) (xs : List ℕ) (n : ℕ) → NoneOf P n (lines xs) → length xs ≡ indexOf n xs
+unfolding indexOf
+unplaced P [] n t = refl
+unplaced P (x ∷ xs) n t =
+    rw (ne-eqb x n (λ e. (told-before (P × (n ≡ x → ⊥)) n (lines xs) t) .1 (sym e))) (ap suc (unplaced (P × (n ≡ x → ⊥)) xs n t))

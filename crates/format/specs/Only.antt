@@ -9,7 +9,7 @@ use Rattle.format.specs.TagKind.{tags}
 use Rattle.format.specs.AttributeKind.{attributeKinds}
 use Rattle.format.specs.Known.{known}
 use Rattle.format.specs.FormKind.{formOf, isForm}
-use Rattle.format.specs.FundType.{fundTypeOf, parseInt}
+use Rattle.format.specs.FundType.{fundTypes, fundTypeOf, parseInt}
 use Rattle.format.specs.Modifier.{modifierOf}
 use Rattle.format.specs.LocationOp.{locationOpOf}
 use Rattle.format.specs.SubscriptFormat.{subscriptFormatOf}
@@ -39,9 +39,9 @@ only-is-known vendors n = only
 pub only-on-list : (list : List ℕ) (x : ℕ) {r r′ : Bool} → r ≡ member x list → r′ ≡ member x list → r ≡ r′
 only-on-list list x = only
 
--- `lookup::position`, and `fund_type::order_of` at the list of the fundamental types
-pub only-position : (list : List ℕ) (x : ℕ) {r r′ : ℕ} → r ≡ indexOf x list → r′ ≡ indexOf x list → r ≡ r′
-only-position list x = only
+-- `fund_type::order_of`
+pub only-order-of : (n : ℕ) {r r′ : ℕ} → r ≡ indexOf n fundTypes → r′ ≡ indexOf n fundTypes → r ≡ r′
+only-order-of n = only
 
 -- `form_kind::form_of`
 pub only-form-of : (n : ℕ) {r r′ : FormKind} → r ≡ formOf n → r′ ≡ formOf n → r ≡ r′

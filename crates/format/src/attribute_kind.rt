@@ -1,9 +1,10 @@
 // The 57 attribute numbers that document 01 names, and whether a number is known. This is asked of every attribute that is read.
 use crate::lookup::on_list;
 ghost use mathlib.Core.Path.{_≡_};
-ghost use Rattle.format.specs.Lookup.{member};
+ghost use Rattle.format.specs.Lookup.{member, lookup};
 ghost use Rattle.format.specs.AttributeKind.{attributeKinds};
 ghost use Rattle.format.specs.Known.{known};
+ghost use Rattle.format.specs.NamedWords.{namedWords};
 
 pub const SIBLING: u16 = 0x0012;
 
@@ -45,41 +46,46 @@ pub const PUBLIC: u16 = 0x0288;
 
 pub const SPECIFICATION: u16 = 0x02b2;
 
-// Bit n % 32 of word n / 32 is set where document 01 names n. Constants are made anew at each use, so the table is as small as it can be.
-const NAMED: [u32; 25] = [
-    0x00040000,
-    0x01000008,
-    0x00200000,
-    0x00040008,
-    0x00200008,
-    0x00400008,
-    0x00400020,
-    0x00100000,
-    0x00020040,
-    0x00400002,
-    0x00040004,
-    0x00000008,
-    0x00080000,
-    0x01000004,
-    0x000401f8,
-    0x000801a2,
-    0x01000100,
-    0x010000e4,
-    0x01000100,
-    0x01000100,
-    0x01000100,
-    0x00040008,
-    0x00000040,
-    0x00e40040,
-    0x00000100,
-];
+// Bit n % 32 of word n / 32 is set where document 01 names n. A match compiles to a table that stands beside the code; a constant array would be made anew at
+// each use.
+fn named_word(k: u16) -> u32
+    ensures { λ r. ⌜ r ≡ lookup namedWords 0x00000100 k ⌝ }
+{
+    match k {
+        0 => 0x00040000,
+        1 => 0x01000008,
+        2 => 0x00200000,
+        3 => 0x00040008,
+        4 => 0x00200008,
+        5 => 0x00400008,
+        6 => 0x00400020,
+        7 => 0x00100000,
+        8 => 0x00020040,
+        9 => 0x00400002,
+        10 => 0x00040004,
+        11 => 0x00000008,
+        12 => 0x00080000,
+        13 => 0x01000004,
+        14 => 0x000401f8,
+        15 => 0x000801a2,
+        16 => 0x01000100,
+        17 => 0x010000e4,
+        18 => 0x01000100,
+        19 => 0x01000100,
+        20 => 0x01000100,
+        21 => 0x00040008,
+        22 => 0x00000040,
+        23 => 0x00e40040,
+        _ => 0x00000100,
+    }
+}
 
 // Is it one of the 57?
 pub fn is_named(n: u16) -> bool
     ensures { λ r. ⌜ r ≡ member n attributeKinds ⌝ }
 {
     if n < 800 {
-        (NAMED[(n / 32) as usize] >> (n % 32)) % 2 == 1
+        (named_word(n / 32) >> (n % 32)) % 2 == 1
     } else {
         false
     }

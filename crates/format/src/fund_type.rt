@@ -1,5 +1,4 @@
 // The 28 fundamental types, named as in the Rust's `FundType` and in its order, which is that of the settings' sizes.
-use crate::lookup::position;
 ghost use mathlib.Core.Path.{_≡_};
 ghost use Rattle.format.specs.Lookup.{indexOf};
 ghost use Rattle.format.specs.FundType.{fundTypes, fundTypeOf, parseInt};
@@ -60,37 +59,6 @@ pub const INT128: u16 = 0xa510;
 
 pub const VEC2X32_FLOAT: u16 = 0xac00;
 
-const ALL: [u16; 28] = [
-    WIDE_CHAR,
-    CHAR,
-    SIGNED_CHAR,
-    UNSIGNED_CHAR,
-    SHORT,
-    SIGNED_SHORT,
-    UNSIGNED_SHORT,
-    INTEGER,
-    SIGNED_INTEGER,
-    UNSIGNED_INTEGER,
-    LONG,
-    SIGNED_LONG,
-    UNSIGNED_LONG,
-    POINTER,
-    FLOAT,
-    DBL_PREC_FLOAT,
-    EXT_PREC_FLOAT,
-    COMPLEX,
-    DBL_PREC_COMPLEX,
-    VOID,
-    BOOLEAN,
-    EXT_PREC_COMPLEX,
-    LABEL,
-    LONG_LONG,
-    SIGNED_LONG_LONG,
-    UNSIGNED_LONG_LONG,
-    INT128,
-    VEC2X32_FLOAT,
-];
-
 // What a number says as a fundamental type: one of the 28, or nothing known (refusal 18).
 pub enum FundType {
     Known(u16),
@@ -101,7 +69,37 @@ pub enum FundType {
 pub fn order_of(n: u16) -> usize
     ensures { λ r. ⌜ r ≡ indexOf n fundTypes ⌝ }
 {
-    position(&ALL, n)
+    match n {
+        WIDE_CHAR => 0,
+        CHAR => 1,
+        SIGNED_CHAR => 2,
+        UNSIGNED_CHAR => 3,
+        SHORT => 4,
+        SIGNED_SHORT => 5,
+        UNSIGNED_SHORT => 6,
+        INTEGER => 7,
+        SIGNED_INTEGER => 8,
+        UNSIGNED_INTEGER => 9,
+        LONG => 10,
+        SIGNED_LONG => 11,
+        UNSIGNED_LONG => 12,
+        POINTER => 13,
+        FLOAT => 14,
+        DBL_PREC_FLOAT => 15,
+        EXT_PREC_FLOAT => 16,
+        COMPLEX => 17,
+        DBL_PREC_COMPLEX => 18,
+        VOID => 19,
+        BOOLEAN => 20,
+        EXT_PREC_COMPLEX => 21,
+        LABEL => 22,
+        LONG_LONG => 23,
+        SIGNED_LONG_LONG => 24,
+        UNSIGNED_LONG_LONG => 25,
+        INT128 => 26,
+        VEC2X32_FLOAT => 27,
+        _ => 28,
+    }
 }
 
 // The Rust's `FundType::try_from`: no bits are dropped.

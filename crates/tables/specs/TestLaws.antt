@@ -3,7 +3,7 @@ use Prim.Native.Nat.{ℕ, suc, _+_, _-_, _*_, _≤_, _<_}
 use native.Mathlib.Numerals.{add-one}
 use native.Mathlib.Omega.{arith}
 use mathlib.Core.Path.{_≡_, refl, sym, _∙_}
-use mathlib.Core.Bool.{Bool, true, false, _&&_, and-true, and-false, and-eq-true-iff}
+use mathlib.Core.Bool.{Bool, true, false, cond, _&&_, and-true, and-false, and-eq-true-iff}
 use mathlib.Core.List.{List, [], _∷_}
 use lib.ListN.{length, getD}
 use lib.Dec.{leb, ltb, eqb}
@@ -16,9 +16,12 @@ use Rattle.format.specs.AttributeKind.{attributeKinds}
 use Rattle.format.specs.Known.{known}
 use Rattle.format.specs.FormKind.{formOf}
 use Rattle.format.specs.Limits.{entryLimit, attributeLimit}
-use Rattle.format.specs.declared.form_kind.FormKind.{FormKind}
 use Rattle.attributes.specs.End.{valueEnd}
+use Rattle.attributes.specs.ReadWays.{ended, knownEnd}
 use Rattle.attributes.specs.declared.value.End.{End}
+use Rattle.attributes.specs.declared.value.End.the-variants as end
+use Rattle.attributes.specs.declared.read.Ending.{Ending}
+use Rattle.attributes.specs.declared.read.Ending.the-variants as ending
 use Rattle.tables.specs.Row.{rowWidth, attrWidth, rowAt, attrAt, endianOf}
 use Rattle.tables.specs.Test.{fitting, isAt, attrHolds, runHolds, rowHolds, rowsHold, tableHolds}
 use Rattle.tables.specs.declared.row.Row.{Row}
@@ -44,20 +47,26 @@ not-known vendors n small h = rw (beyond 65536 (length attributeKinds) attribute
 
 -- ---- one attribute
 
+unfoldable pub atEnd : Ending → Bool
+atEnd (ending.At next) = true
+atEnd (ending.Short field) = false
+atEnd ending.Unknown = false
+
+at-known : (b : Bool) (v : End) → atEnd (cond b (ended v) ending.Unknown) ≡ (b && isAt v)
+unfolding atEnd ended isAt
+at-known true (end.At next) = refl
+at-known true (end.Short field) = refl
+at-known false v = refl
+
 module _ (s vendors : List ℕ) (e : Endian) (a : Attr) where
   pub attr-wide : ((k : ℕ) → getD vendors k 0 < 65536) → 65536 ≤ a .number → false ≡ attrHolds s vendors e a
   unfolding attrHolds
   attr-wide small h = rw (not-known vendors (a .number) small h)
 
-  pub attr-unknown : known vendors (a .number) ≡ false → false ≡ attrHolds s vendors e a
-  unfolding attrHolds
-  attr-unknown k = rw k
-
-  -- a known number, whose value's end was looked for and told
-  pub attr-told : {form : FormKind} {end told : End} → known vendors (a .number) ≡ true → form ≡ formOf (a .number)
-      → end ≡ valueEnd form e s (a .value) → end ≡ told → isAt told ≡ attrHolds s vendors e a
-  unfolding attrHolds
-  attr-told k f v t = rw (k, ← f, ← v, t)
+  -- its value's end was looked for, by its number, and told
+  pub attr-told : {v told : Ending} → v ≡ knownEnd vendors e s (a .value) (a .number) → v ≡ told → atEnd told ≡ attrHolds s vendors e a
+  unfolding attrHolds knownEnd
+  attr-told v t = rw (← t, v) (at-known (known vendors (a .number)) (valueEnd (formOf (a .number)) e s (a .value)))
 
 -- ---- a run of attributes, from its k-th on
 

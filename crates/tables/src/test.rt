@@ -7,10 +7,8 @@ use crate::row::Row;
 use crate::row::attr_at;
 use crate::row::endian_of;
 use crate::row::row_at;
-use attributes::value::End;
-use attributes::value::value_end;
-use format::attribute_kind::is_known;
-use format::form_kind::form_of;
+use attributes::read::Ending;
+use attributes::read::known_end;
 use format::limits::ATTRIBUTE_LIMIT;
 use format::limits::ENTRY_LIMIT;
 use format::tag_kind::is_tag;
@@ -27,14 +25,10 @@ fn attr_holds(s: &[u8], vendors: &[u16], e: Endian, attr: Attr) -> bool
     if attr.number >= 65536 {
         return false;
     }
-    let number = attr.number as u16;
-    if is_known(number, vendors) {
-        match value_end(s, attr.value as usize, form_of(number), e) {
-            End::At(_) => true,
-            End::Short(_) => false,
-        }
-    } else {
-        false
+    match known_end(s, attr.value as usize, attr.number as u16, e, vendors) {
+        Ending::At(_) => true,
+        Ending::Short(_) => false,
+        Ending::Unknown => false,
     }
 }
 

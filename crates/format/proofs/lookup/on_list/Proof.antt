@@ -1,40 +1,45 @@
-use Rattle.format.specs.LookupLaws.{scan-next, scan-end}
-use Rattle.format.specs.Lookup.{member}
-use mathlib.Core.Bool.{_||_}
+use Rattle.format.specs.Sixteen.{Sought, sought-first, sought-next, sought-end}
 use borrow.Author.Needs.{needs}
-use denote.Ref.{now}
+use native.Mathlib.Omega.{arith}
 use Prim.Native.Nat.{_-_}
-use mathlib.Core.Path.{_≡_, refl}
-use lib.ListN.{length, drop}
 use Rattle.format.proofs.lookup.on_list.Statement.{statement}
 use Rattle.format.proofs.lookup.on_list.Tie as tie
 
 abbrev Inv-loop : tie.InvT-loop
-Inv-loop list x found₀ i₀ found i = (found || member x (drop i list)) ≡ member x list
+Inv-loop list x last found₀ i₀ found i = Sought list x last i found
 
 abbrev μ-loop : tie.MeasureT-loop
-μ-loop list x found₀ i₀ found i = length list - i
+μ-loop list x last found₀ i₀ found i = last - i
+
+among-few-requires : tie.Need-among-few-requires Inv-loop μ-loop
+among-few-requires c κs = search needs
+
+returns : tie.Need-returns Inv-loop μ-loop
+returns c = c .among-few .ensures
+
+sub-last : tie.Need-sub-last Inv-loop μ-loop
+sub-last c = search needs
+
+among-sixteen-requires : tie.Need-among-sixteen-requires Inv-loop μ-loop
+among-sixteen-requires c κs = omega arith
 
 loop-holds : tie.Need-loop-holds Inv-loop μ-loop
-loop-holds c = refl
+loop-holds c = sought-first (omega arith) (c .among-sixteen .ensures)
 
-mul-found : tie.Need-mul-found Inv-loop μ-loop
-mul-found c = search needs
-
-shared-slice-read-found : tie.Need-shared-slice-read-found Inv-loop μ-loop
-shared-slice-read-found c = search needs
+among-sixteen-requires-2 : tie.Need-among-sixteen-requires-2 Inv-loop μ-loop
+among-sixteen-requires-2 c κs = omega arith
 
 add-i : tie.Need-add-i Inv-loop μ-loop
 add-i c = search needs
 
 loop-less : tie.Need-loop-less Inv-loop μ-loop
-loop-less c = search needs
+loop-less c = omega arith
 
 loop-again : tie.Need-loop-again Inv-loop μ-loop
-loop-again c = scan-next (now (c .before .before .before .args .list)) (c .before .before .loop .i) (c .before .before .before .args .x) (c .before .before .loop .found) (c .before .before .loop .inv) (c .before .loop-test .taken)
+loop-again c = sought-next (c .before .before .loop .inv) (omega arith) (c .among-sixteen2 .ensures)
 
-returns : tie.Need-returns Inv-loop μ-loop
-returns c = scan-end (now (c .before .before .args .list)) (c .before .loop .i) (c .before .before .args .x) (c .before .loop .found) (c .before .loop .inv) (c .loop-test .left)
+returns-2 : tie.Need-returns-2 Inv-loop μ-loop
+returns-2 c = sought-end (c .before .loop .inv) (c .loop-test .left)
 
 pub on-list-spec : {M : Type 1} → statement M
 on-list-spec =
@@ -42,10 +47,13 @@ on-list-spec =
     (tie.spec
     Inv-loop
     μ-loop
+    among-few-requires
+    returns
+    sub-last
+    among-sixteen-requires
     loop-holds
-    mul-found
-    shared-slice-read-found
+    among-sixteen-requires-2
     add-i
     loop-less
     loop-again
-    returns)
+    returns-2)

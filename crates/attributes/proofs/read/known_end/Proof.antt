@@ -1,0 +1,36 @@
+use Rattle.attributes.specs.ReadWays.{ended, end-known, end-unknown}
+use borrow.Author.Needs.{needs}
+use mathlib.Core.Path.{sym, _∙_}
+use Rattle.attributes.proofs.read.known_end.Statement.{statement}
+use Rattle.attributes.proofs.read.known_end.Tie as tie
+
+is-known-requires : tie.Need-is-known-requires
+is-known-requires c κs = search needs
+
+form-of-requires : tie.Need-form-of-requires
+form-of-requires c κs = search needs
+
+value-end-requires : tie.Need-value-end-requires
+value-end-requires c κs = search needs
+
+enum-known-next : tie.Need-enum-known-next
+enum-known-next c = search needs
+
+enum-known-field : tie.Need-enum-known-field
+enum-known-field c = search needs
+
+returns : tie.Need-returns
+unfolding ended
+returns c = end-known _ _ _ _ _ (sym (c .before .before .before .before .before .before .is-known .ensures) ∙ c .before .before .before .before .before .if1 .taken) (c .before .before .before .before .form-of .ensures) (c .before .before .before .value-end .ensures) (c .before .next .given .1)
+
+returns-2 : tie.Need-returns-2
+unfolding ended
+returns-2 c = end-known _ _ _ _ _ (sym (c .before .before .before .before .before .before .is-known .ensures) ∙ c .before .before .before .before .before .if1 .taken) (c .before .before .before .before .form-of .ensures) (c .before .before .before .value-end .ensures) (c .before .field .given .1)
+
+returns-3 : tie.Need-returns-3
+returns-3 c = end-unknown _ _ _ _ _ (sym (c .before .is-known .ensures) ∙ c .if1 .left)
+
+pub known-end-spec : {M : Type 1} → statement M
+known-end-spec =
+    tie.close
+    (tie.spec is-known-requires form-of-requires value-end-requires enum-known-next enum-known-field returns returns-2 returns-3)
