@@ -1,4 +1,4 @@
-// Runs document 01's examples that are not in the table of the starred ones, then each file of cases that an argument names, `-` being standard input: what
+// Runs document 01's examples that are not in the table of the starred ones, some refusals, then each file of cases that an argument names, `-` being standard input: what
 // was compared, and every difference. CASES.md says what a case is.
 mod alone;
 mod cursor;
@@ -6,6 +6,7 @@ mod document;
 mod enumerations;
 mod fields;
 mod questions;
+mod refusals;
 mod relations;
 mod settings;
 mod single;
@@ -64,6 +65,7 @@ fn run_arguments(n: usize, packet: &mut [u8; 1048576]) {
 
 fn main() {
     document::run();
+    refusals::run();
     let mut packet = [0u8; 1048576];
     run_arguments(os::arg_count(), &mut packet);
 }
