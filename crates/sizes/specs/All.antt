@@ -1,4 +1,5 @@
--- Every structure's and class's layout of a table, in file order. One that is refused says so, and the rest go on.
+-- Every structure's and class's layout of a table, in file order, each as `Layout` has it for its key. One that is refused says so, and the rest go on: only 1,
+-- 2, 3 and 8 refuse the call.
 use Prim.Native.Nat.{ℕ, zero, suc, _+_, _-_, _/_}
 use mathlib.Core.Path.{_≡_}
 use mathlib.Core.Bool.{Bool, cond, _&&_}
@@ -27,21 +28,24 @@ use Rattle.sizes.specs.declared.all.LayoutCounts.{LayoutCounts}
 use Rattle.sizes.specs.declared.all.AllLayouts.{AllLayouts}
 use Rattle.sizes.specs.declared.all.AllLayouts.the-variants as all
 
--- a structure's or class's row and name, its layout or refusal, and its members
+-- a structure or class: its row and name, its layout or refusal, and its members, none where it is refused
 pub record Structure : Type 0 where
   pub row : ℕ
   pub name : Name
   pub answer : LayoutWhole
   pub members : List Laid
 
+-- the members that were laid
 unfoldable pub laidOf : Lay → List Laid
 laidOf (laid xs largest) = xs
 laidOf (nowhere why) = []
 
+-- a structure before the others, if it is to stand among them
 unfoldable pub keptIf : Bool → Structure → List Structure → List Structure
 keptIf kept x xs = cond kept (x ∷ xs) xs
 
 module _ (settings : Settings) (s rows attrs : List ℕ) (n : ℕ) (sizeOf : «Type» → Sized) where
+  -- what is said of row i; its name is its last, as a record's is
   unfoldable pub structureAt : ℕ → Structure
   structureAt i =
       record {
@@ -58,44 +62,53 @@ module _ (settings : Settings) (s rows attrs : List ℕ) (n : ℕ) (sizeOf : «T
 
 -- ---- into lent rooms: 8 last, with the counts
 
--- eight words for each: its row; 0, its size and 0, or a refusal's number, 0 and its place; the first of its members, and how many; its name's bytes in the section
+-- eight words for each: its row; 0, its size and 0, or a refusal's number, 0 and its place; the first of its members, and how many; its name's bytes in the
+-- section
 unfoldable pub answerWords : ℕ → Name → ℕ → LayoutWhole → List ℕ
 answerWords row name first (whole.Is x) = row ∷ 0 ∷ x .size ∷ 0 ∷ first ∷ x .members ∷ namePlace name ∷ nameLength name ∷ []
 answerWords row name first (whole.Refused why) = row ∷ numberOf (why .reason) ∷ 0 ∷ why .place ∷ first ∷ 0 ∷ namePlace name ∷ nameLength name ∷ []
 
+-- so many words
 abbrev pub structureWidth : ℕ
 structureWidth = 8
 
+-- structures one after the other; members are numbered through all of them, those of the first structure from `first` on
 unfoldable pub structureWords : ℕ → List Structure → List ℕ
 structureWords first [] = []
 structureWords first (x ∷ xs) = answerWords (x .row) (x .name) first (x .answer) ++ structureWords (first + length (x .members)) xs
 
+-- the members of all, one after the other, in the words of a single layout
 unfoldable pub memberWords : List Structure → List ℕ
 memberWords [] = []
 memberWords (x ∷ xs) = laidWords (x .members) ++ memberWords xs
 
+-- how many members all have together
 unfoldable pub memberCount : List Structure → ℕ
 memberCount [] = 0
 memberCount (x ∷ xs) = length (x .members) + memberCount xs
 
+-- the counts of the answer: structures, those that are refused too, and members
 unfoldable pub countsOf : List Structure → LayoutCounts
 countsOf xs = record { structures = length xs; members = memberCount xs }
 
+-- an outcome: the answer, and what the two lent rooms then hold
 pub record Outcome : Type 0 where
   pub answer : AllLayouts
   pub structures : List ℕ
   pub members : List ℕ
 
+-- the same, in short
 abbrev pub outcome : AllLayouts → List ℕ → List ℕ → Outcome
 outcome answer structures members = record { answer = answer; structures = structures; members = members }
 
+-- 8, with both counts, where either room is too short: nothing is written in either
 unfoldable pub intoRooms : List ℕ → List ℕ → List Structure → Outcome
 intoRooms structures members xs =
     cond (leb (length xs) (length structures / structureWidth) && leb (memberCount xs) (length members / laidWidth))
     (outcome (all.Are (countsOf xs)) (sets structures 0 (structureWords 0 xs)) (sets members 0 (memberWords xs)))
     (outcome (all.Room (countsOf xs)) structures members)
 
--- each structure is depth 1: the entries that its members name are depth 2
+-- all layouts of a table; each structure is depth 1: the entries that its members name are depth 2
 unfoldable pub allOf : Settings → List ℕ → List ℕ → List ℕ → List ℕ → List ℕ → Counts → List ℕ → List ℕ → Outcome
 allOf settings vendors sizes s rows attrs counts structures members =
     tested settings vendors sizes s rows attrs counts (λ why. outcome (all.Refused why) structures members)

@@ -1,4 +1,4 @@
--- Sizes that are known already, for calls that take many: three words for each row.
+-- Sizes that are known already, for calls that take many: three words for each row. This is how the code goes about it: what is answered does not rest on it.
 use Prim.Native.Nat.{ℕ, _+_, _*_, _%_}
 use mathlib.Core.Path.{_≡_}
 use mathlib.Core.Bool.{cond}
@@ -9,6 +9,7 @@ use Rattle.format.specs.Refusal.{reasonOf}
 use Rattle.sizes.specs.declared.sized.Sized.{Sized}
 use Rattle.sizes.specs.declared.sized.Sized.the-variants.{Is, Refused}
 
+-- the words of a size
 abbrev pub knownWidth : ℕ
 knownWidth = 3
 

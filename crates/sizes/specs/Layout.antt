@@ -1,6 +1,7 @@
 -- Layouts (document 01, 'Types, records, sizes'), for a structure or class: row number, size, and for each Member child in walk order its offset, its size
 -- (ByteSize, else its type's) and its name, empty if none. All members are read whole before any size is taken; then member by member its size, then its end,
--- which is tested (20) only where the ends make the size, that is without ByteSize.
+-- which is tested (20) only where the ends make the size, that is without ByteSize. In this order: 1, 2, 3; 11, 12; 9 and what the Member records
+-- refuse; sizes and ends; 8.
 use Prim.Native.Nat.{ℕ, _+_, _-_, _/_}
 use mathlib.Core.Path.{_≡_}
 use mathlib.Core.Bool.{Bool, true, false, cond}
@@ -41,30 +42,32 @@ pub record Laid : Type 0 where
   pub place : ℕ
   pub length : ℕ
 
--- the members and their largest end; or a refusal
+-- the members and their largest end, which is the size without ByteSize; or a refusal, and then no member is laid
 pub data Lay : Type 0 where
   laid : List Laid → ℕ → Lay
   nowhere : Refusal → Lay
 
+-- a member with its size; without a name, place and length are 0
 unfoldable pub laidMember : Placed → ℕ → Laid
 laidMember m size =
     record { offset = m .member .offset; size = size; place = namePlace (m .member .name); length = nameLength (m .member .name) }
 
+-- one member more, before the others
 unfoldable pub andLaid : Laid → Lay → Lay
 andLaid x (laid xs largest) = laid (x ∷ xs) largest
 andLaid x (nowhere why) = nowhere why
 
--- what follows a size
+-- what follows a size; a refusal goes up as it is, with its place
 unfoldable pub layThen : (ℕ → Lay) → Sized → Lay
 layThen next (Is size) = next size
 layThen next (Refused why) = nowhere why
 
--- the largest end; with a ByteSize no end is taken for a size
+-- the largest end so far, 20 at the Member where it passes 32 bits; with a ByteSize (`bounded`) no end is taken for a size, so none is tested
 unfoldable pub endOr : Bool → ℕ → ℕ → ℕ → Sized
 endOr bounded key largest end = cond bounded (Is largest) (endThen key Is largest end)
 
 module _ (rows : List ℕ) (sizeOf : «Type» → Sized) (bounded : Bool) where
-  -- member by member: its size, then its end
+  -- member by member: its size, which is taken with a ByteSize too, then its end
   unfoldable pub laidFrom : ℕ → List Placed → Lay
   laidFrom largest [] = laid [] largest
   laidFrom largest (m ∷ ms) =
@@ -81,6 +84,7 @@ isStructure shape.PtrToMember = false
 isStructure shape.Subroutine = false
 isStructure shape.Other = false
 
+-- there is a ByteSize
 unfoldable pub isBounded : Word → Bool
 isBounded (word.Is size) = true
 isBounded word.Nothing = false
@@ -95,11 +99,12 @@ module _ (settings : Settings) (s rows attrs : List ℕ) (n : ℕ) (sizeOf : «T
   unfoldable pub ownSize : Word
   ownSize = wordOf s attrs (runOf (settings .endian) rows i) attribute.ByteSize
 
+  -- a structure laid out: what its Member records refuse comes first, ByteSize or not
   unfoldable pub membersLaid : Members → Lay
   membersLaid (members ms) = laidFrom rows sizeOf (isBounded ownSize) 0 ms
   membersLaid (refused why) = nowhere why
 
-  -- only a structure or a class has a layout: 12 for any other
+  -- only a structure or a class has a layout: 12 at any other row
   unfoldable pub shapeLaid : Shape → Lay
   shapeLaid shape.Structure = membersLaid (membersOf settings s rows attrs n i)
   shapeLaid shape.Array = nowhere (refusedAt (rowAt rows i .key) reason.Kind)
@@ -113,35 +118,41 @@ module _ (settings : Settings) (s rows attrs : List ℕ) (n : ℕ) (sizeOf : «T
   unfoldable pub rowLay : Lay
   rowLay = shapeLaid (shapeOf (rowAt rows i .kind))
 
+  -- what is answered for a row that was laid out, or refused
   unfoldable pub layoutBy : Lay → LayoutWhole
   layoutBy (laid xs largest) = whole.Is (record { row = i; size = sizeOrLargest largest ownSize; members = length xs })
   layoutBy (nowhere why) = whole.Refused why
 
-  -- row number, size, how many members
+  -- row i's layout: row number, size, how many members; no room is looked at yet
   unfoldable pub layoutAt : LayoutWhole
   layoutAt = layoutBy rowLay
 
 -- ---- into lent room: 8 last, with the count
 
--- four words for each member
+-- four words for each member: offset, size, place and length of its name
 unfoldable pub laidWords : List Laid → List ℕ
 laidWords [] = []
 laidWords (x ∷ xs) = x .offset ∷ x .size ∷ x .place ∷ x .length ∷ laidWords xs
 
+-- so many words
 abbrev pub laidWidth : ℕ
 laidWidth = 4
 
+-- an outcome: the answer, and what the lent room then holds
 pub record Outcome : Type 0 where
   pub answer : LayoutRead
   pub room : List ℕ
 
+-- the same, in short
 abbrev outcome : LayoutRead → List ℕ → Outcome
 outcome answer room = record { answer = answer; room = room }
 
+-- the members into the room; nothing is written on a refusal
 unfoldable pub layInto : List ℕ → Lay → LayoutRead → Outcome
 layInto room (laid xs largest) answer = outcome answer (sets room 0 (laidWords xs))
 layInto room (nowhere why) answer = outcome answer room
 
+-- 8, with how many members there are, where the room is too short for all: nothing is written
 unfoldable pub intoRoom : List ℕ → Lay → LayoutWhole → Outcome
 intoRoom room lay (whole.Is x) = cond (leb (x .members) (length room / laidWidth)) (layInto room lay (layout.Is x)) (outcome (layout.Room (x .members)) room)
 intoRoom room lay (whole.Refused why) = outcome (layout.Refused why) room

@@ -1,8 +1,10 @@
--- Sizes and layouts (document 01, 'Types, records, sizes'). What must be believed: `Size`, `Layout` and `All`.
+-- Sizes and layouts (document 01, 'Types, records, sizes'). What must be believed: `Size` (of a type, of a key's entry), `Layout` (of a key's structure or
+-- class), `All` (every layout of a table).
 pub mod Size
 pub mod Layout
 pub mod All
--- How the code goes about it: `Known` are sizes that are known already, `KeptWays` what is kept of each row so that it is read once.
+-- How the code goes about it: `Known` are sizes that are known already, `Ways` what is read before any size is taken, `SizeWays` the two that call each other,
+-- `KeptWays` what is kept of each row so that it is read once, `LevelsWays` the sizes of all rows, `LayoutWays` one layout, `AllWays` all of them.
 pub mod Known
 pub mod Ways
 pub mod SizeWays

@@ -1,5 +1,7 @@
 -- Sizes (document 01, 'Types, records, sizes'; the Rust's `Type::size` and `UserDefinedType::size`). The size of a type and of the entry it names call each
--- other: here the entry's size is a function of "the size of a type", and the levels that are left fall from an entry to those it names.
+-- other: here the entry's size is a function of "the size of a type", and the levels that are left fall from an entry to those it names. In this order: 1, 2,
+-- 3; 11, 10, 12 of the entry; what its row refuses, all of it read whole; what the sizes that it asks for refuse, and 20. `sizeOfKey` and `sizeOfType` are at
+-- the end.
 use Prim.Native.Nat.{ℕ, zero, suc, _+_, _*_}
 use mathlib.Core.Bool.{true, false, cond}
 use mathlib.Core.List.{List, [], _∷_}
@@ -61,34 +63,35 @@ sizeLimit = 0xFFFFFFFF
 
 -- ---- a type
 
--- a fundamental type's size is its line of the settings' table; `entry` gives the size of the entry that has a key
+-- a fundamental type's size is its line of the settings' table; `entry` gives the size of the entry that has a key. A number that is on no line counts 0: no
+-- type that was read has one, for reading refuses it (18)
 unfoldable pub kindSize : List ℕ → (ℕ → Sized) → TypeKind → Sized
 kindSize sizes entry (kind.Fundamental number) = Is (getD sizes (indexOf number fundTypes) 0)
 kindSize sizes entry (kind.UserDefined key) = entry key
 
--- 4 where a pointer or a reference stands among the modifiers
+-- 4 where a pointer or a reference stands among the modifiers: the entry that it points to is not asked for, nor need it be there
 unfoldable pub typeSizeBy : List ℕ → (ℕ → Sized) → «Type» → Sized
 typeSizeBy sizes entry t = cond (t .pointer) (Is 4) (kindSize sizes entry (t .kind))
 
--- what follows a size
+-- what follows a size; a refusal goes up as it is, with its place
 unfoldable pub sizeThen : (ℕ → Sized) → Sized → Sized
 sizeThen next (Is size) = next size
 sizeThen next (Refused why) = Refused why
 
 -- ---- arrays: each SubscrData is read, the last counts, one is needed
 
--- a running product
+-- a running product: 20 at the array where it passes 32 bits
 unfoldable pub times : ℕ → (ℕ → Sized) → ℕ → ℕ → Sized
 times key next size many = cond (leb (size * many) sizeLimit) (next (size * many)) (Refused (refusedAt key reason.Big))
 
 module _ (e : Endian) (key : ℕ) where
-  -- the next subscript of a block, `next` going on after so many bytes
+  -- the next subscript of a block, `next` going on after so many bytes: a dimension is a factor, an element type is none
   unfoldable pub subscriptThen : (ℕ → ℕ → Sized) → ℕ → Subscript → Sized
   subscriptThen next size (subscript.Dimension index many used) = times key (λ product. next used product) size many
   subscriptThen next size (subscript.Element t used) = next used size
   subscriptThen next size (subscript.Refused why) = Refused (refusedAt key (why .reason))
 
-  -- the element's size times each dimension, left to right; unbounded counts 0
+  -- the element's size times each dimension, left to right, unbounded counting 0; at most `turns` subscripts
   unfoldable pub productFrom : ℕ → ℕ → List ℕ → Sized
   productFrom zero size block = Is size
   productFrom (suc turns) size block =
@@ -97,33 +100,37 @@ module _ (e : Endian) (key : ℕ) where
         | false ↦ subscriptThen (λ used product. productFrom turns product (drop used block)) size (subscriptOf e block)
       ]
 
+  -- the whole block: a subscript takes at least a byte, so there are no more of them than bytes
   unfoldable pub productOf : List ℕ → ℕ → Sized
   productOf block size = productFrom (length block) size block
 
-  -- the element's size is taken first
+  -- an array whose subscripts were read: the element's size is taken first, so what it refuses beats 20
   unfoldable pub countedSize : («Type» → Sized) → List ℕ → Counted → Sized
   countedSize typeSize block (counted.Are t n) = sizeThen (productOf block) (typeSize t)
   countedSize typeSize block (counted.Refused why) = Refused (refusedAt key (why .reason))
 
+-- what is wrong with a block of subscripts (17, 18, 19), placed at the array
 unfoldable pub countedFault : ℕ → Counted → Fault
 countedFault key (counted.Are t n) = fault.Clear
 countedFault key (counted.Refused why) = fault.Refused (refusedAt key (why .reason))
 
 module _ (s attrs : List ℕ) (run : Run) where
-  -- the block that is attribute k of the table
+  -- the block that is attribute k of the table: its length in data endianness, what is in it in section endianness
   unfoldable pub subscriptBlock : ℕ → List ℕ
   subscriptBlock k = blockAt (run .ends .«data») 2 s (attributeAt attrs k .value)
 
-  -- attribute j of the run: its subscripts, if it is SubscrData
+  -- what is wrong with attribute j of the run, if it is SubscrData; any other, ByteSize too, is passed over
   unfoldable pub subscriptFault : ℕ → Fault
   subscriptFault j =
       cond (eqb (attributeAt attrs (run .first + j) .number) attribute.SubscrData)
       (countedFault (run .key) (countSubscripts (run .ends .section) (subscriptBlock (run .first + j)))) fault.Clear
 
+  -- the size by the SubscrData that counts; 15 at an array without one
   unfoldable pub lastSize : («Type» → Sized) → Found → Sized
   lastSize typeSize (found.At k) = countedSize (run .ends .section) (run .key) typeSize (subscriptBlock k) (countSubscripts (run .ends .section) (subscriptBlock k))
   lastSize typeSize found.Nothing = Refused (refusedAt (run .key) reason.Missing)
 
+  -- an array's size: each SubscrData is read, in their order, before any size is taken; children are not walked
   unfoldable pub arraySize : («Type» → Sized) → Sized
   arraySize typeSize =
       unless (faultsFrom subscriptFault 0 (run .count)) Refused (lastSize typeSize (lastOf (sought.Number attribute.SubscrData) attrs run))
@@ -131,13 +138,16 @@ module _ (s attrs : List ℕ) (run : Run) where
 -- ---- structures and classes: the Member children are all read whole before any size is taken; other children are passed over
 
 module _ (settings : Settings) (s rows attrs : List ℕ) (n : ℕ) where
+  -- child c and those after it: a Member row is read whole, any other is passed over (in a union some are 16)
   unfoldable pub childThen : ℕ → Members → Members
   childThen c rest = cond (eqb (rowAt rows c .kind) tag.Member) (memberThen c (memberAt settings s rows attrs n c) rest) rest
 
+  -- children one after the other: the first Member that is refused counts, where its record places it
   unfoldable pub membersFrom : List ℕ → Members
   membersFrom [] = members []
   membersFrom (c ∷ cs) = childThen c (membersFrom cs)
 
+  -- the walk is done before any child is looked at: 9 at the structure where it never ends; null entries are left out
   unfoldable pub membersBy : ℕ → Walk → Members
   membersBy key (ends cs) = membersFrom (nonNull rows cs)
   membersBy key endless = refused (refusedAt key reason.Link)
@@ -146,54 +156,60 @@ module _ (settings : Settings) (s rows attrs : List ℕ) (n : ℕ) where
   unfoldable pub membersOf : ℕ → Members
   membersOf i = membersBy (rowAt rows i .key) (childWalk (settings .endian) s rows attrs n i)
 
--- a member's own ByteSize, else its type's size
+-- a ByteSize of its own, else its type's size
 unfoldable pub sizeOr : («Type» → Sized) → «Type» → Word → Sized
 sizeOr typeSize t (word.Is size) = Is size
 sizeOr typeSize t word.Nothing = typeSize t
 
+-- a member's size
 unfoldable pub memberSize : («Type» → Sized) → Placed → Sized
 memberSize typeSize m = sizeOr typeSize (m .member .of) (m .member .«byte_size»)
 
+-- the larger of two ends
 unfoldable pub larger : ℕ → ℕ → ℕ
 larger a b = cond (leb a b) b a
 
--- an end that is taken for a size
+-- a member's end taken for a size, the largest so far with it: 20 at the Member where it passes 32 bits
 unfoldable pub endThen : ℕ → (ℕ → Sized) → ℕ → ℕ → Sized
 endThen key next largest end = cond (leb end sizeLimit) (next (larger largest end)) (Refused (refusedAt key reason.Big))
 
 module _ (rows : List ℕ) (typeSize : «Type» → Sized) where
-  -- member by member: its size, then its end; the largest end is the size
+  -- member by member: its size, then its end, before the next one's size is taken; the largest end is the size, 0 without members
   unfoldable pub endsFrom : ℕ → List Placed → Sized
   endsFrom largest [] = Is largest
   endsFrom largest (m ∷ ms) =
       sizeThen (λ size. endThen (rowAt rows (m .row) .key) (λ next. endsFrom next ms) largest (m .member .offset + size)) (memberSize typeSize m)
 
-  -- ByteSize, or else the largest member end
+  -- ByteSize, or else the largest member end; with a ByteSize no member's size is taken
   unfoldable pub sizeOrEnds : List Placed → Word → Sized
   sizeOrEnds ms (word.Is size) = Is size
   sizeOrEnds ms word.Nothing = endsFrom 0 ms
 
+  -- a structure's size: what its Member records refuse comes first, ByteSize or not
   unfoldable pub membersSize : Word → Members → Sized
   membersSize size (members ms) = sizeOrEnds ms size
   membersSize size (refused why) = Refused why
 
 -- ---- the other entries that have a size
 
+-- an enumeration, read whole: its ByteSize, without which it is refused (15)
 unfoldable pub enumerationSize : EnumerationWhole → Sized
 enumerationSize (enumeration.Is e) = Is (e .«byte_size»)
 enumerationSize (enumeration.Refused why) = Refused why
 
+-- a union likewise: its members are read, but their sizes are not taken
 unfoldable pub unionSize : UnionWhole → Sized
 unionSize (union.Is u) = Is (u .«byte_size»)
 unionSize (union.Refused why) = Refused why
 
+-- a pointer to member, read whole: 4
 unfoldable pub pointerSize : PtrToMemberRead → Sized
 pointerSize (pointer.Is p) = Is 4
 pointerSize (pointer.Refused why) = Refused why
 
 -- ---- the kinds of rows that have a size
 
--- a subroutine type is not looked into; Other has no size
+-- how a row of each kind comes to its size; what is a subroutine is not looked into
 unfoldable pub shapes : List (Line Shape)
 shapes =
     tag.ArrayType means shape.Array ∷
@@ -206,12 +222,13 @@ shapes =
     tag.UnionType means shape.Union ∷
     tag.PtrToMemberType means shape.PtrToMember ∷ []
 
+-- any other kind has no size
 unfoldable pub shapeOf : ℕ → Shape
 unfolding shapes
 shapeOf kind = lookup shapes shape.Other kind
 
 module _ (settings : Settings) (s rows attrs : List ℕ) (n : ℕ) where
-  -- row i, which is there and not past the limit; 12 for a kind that has no size
+  -- the size of row i, which is there and not past the limit; 12 at it where its kind has no size
   unfoldable pub shapeSize : («Type» → Sized) → ℕ → Shape → Sized
   shapeSize typeSize i shape.Array = arraySize s attrs (runOf (settings .endian) rows i) typeSize
   shapeSize typeSize i shape.Structure =
@@ -222,30 +239,33 @@ module _ (settings : Settings) (s rows attrs : List ℕ) (n : ℕ) where
   shapeSize typeSize i shape.Subroutine = Is 0
   shapeSize typeSize i shape.Other = Refused (refusedAt (rowAt rows i .key) reason.Kind)
 
+  -- the same, by the row's kind
   unfoldable pub entryAt : («Type» → Sized) → ℕ → Sized
   entryAt typeSize i = shapeSize typeSize i (shapeOf (rowAt rows i .kind))
 
--- the entry that was found under a key: 11 where there is none
+-- the entry that was found under a key: 11 where there is none, at the key looked for
 unfoldable pub foundSize : (ℕ → Sized) → ℕ → Found → Sized
 foundSize entry key (found.At i) = entry i
 foundSize entry key found.Nothing = Refused (refusedAt key reason.Entry)
 
 module _ (settings : Settings) (sizes s rows attrs : List ℕ) (n : ℕ) where
-  -- the size of the entry that has a key, so many levels being left: 10 where none is
+  -- the size of the entry that has a key, so many levels being left: where none is, 10 at the row, which must be there (11) and is not read (no 12)
   unfoldable pub entrySize : ℕ → ℕ → Sized
   entrySize zero key = foundSize (λ i. Refused (refusedAt key reason.Depth)) key (rowOfKey rows n key)
   entrySize (suc levels) key = foundSize (entryAt settings s rows attrs n (typeSizeBy sizes (entrySize levels))) key (rowOfKey rows n key)
 
-  -- the size of a type
+  -- the size of a type, so many levels being left for the entry that it names
   unfoldable pub typeSize : ℕ → «Type» → Sized
   typeSize levels t = typeSizeBy sizes (entrySize levels) t
 
 -- ---- the public calls; the entry asked for is depth 1
 
+-- the size of a key's entry
 unfoldable pub sizeOfKey : Settings → List ℕ → List ℕ → List ℕ → List ℕ → List ℕ → Counts → ℕ → Sized
 sizeOfKey settings vendors sizes s rows attrs counts key =
     tested settings vendors sizes s rows attrs counts Refused (entrySize settings sizes s rows attrs (counts .rows) depthLimit key)
 
+-- the size of a type: an entry that it names is the one asked for
 unfoldable pub sizeOfType : Settings → List ℕ → List ℕ → List ℕ → List ℕ → List ℕ → Counts → «Type» → Sized
 sizeOfType settings vendors sizes s rows attrs counts t =
     tested settings vendors sizes s rows attrs counts Refused (typeSize settings sizes s rows attrs (counts .rows) depthLimit t)
