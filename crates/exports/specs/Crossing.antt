@@ -1,4 +1,5 @@
--- Settings, answers and tables as they cross: numbers and slices.
+-- Settings, answers and tables as they cross to a program in Rust or C: numbers and slices. A number that stands for a choice always means one, so crossing
+-- itself refuses nothing.
 use Prim.Native.Nat.{ℕ}
 use mathlib.Core.Path.{_≡_}
 use mathlib.Core.Bool.{Bool, not, cond}
@@ -49,6 +50,7 @@ erasedFrom n = not (eqb n 0)
 unfoldable pub producerFrom : ℕ → Producer
 producerFrom n = cond (eqb n 0) Mwcc (cond (eqb n 1) Gcc Other)
 
+-- the settings: three choices, then the numbers of the four roles, 0 for absent; vendor list and sizes cross as slices
 unfoldable pub settingsFrom : ℕ → ℕ → ℕ → ℕ → ℕ → ℕ → ℕ → Settings
 settingsFrom endian erased producer global mangled name id =
     record {
@@ -64,9 +66,11 @@ countsFrom rows attrs = record { rows = rows; attrs = attrs }
 
 -- ---- answers: a number (0 for given, else the refusal's), a place (0 where nothing is refused), up to three results (0 where there is none)
 
+-- an answer without a place: one that is given, or 8 with the counts that are needed
 unfoldable pub toldAs : ℕ → ℕ → ℕ → ℕ → Told
 toldAs n a b c = record { number = n; place = 0; first = a; second = b; third = c }
 
+-- a refusal's number and place; it has no results
 unfoldable pub refusedAs : Refusal → Told
 refusedAs why = record { number = numberOf (why .reason); place = why .place; first = 0; second = 0; third = 0 }
 
@@ -74,10 +78,12 @@ refusedAs why = record { number = numberOf (why .reason); place = why .place; fi
 unfoldable pub countedAs : ℕ → Counts → Told
 countedAs n c = toldAs n (c .rows) (c .attrs) 0
 
+-- counting
 unfoldable pub countTold : Count → Told
 countTold (count.Counted c) = countedAs 0 c
 countTold (count.Refused why) = refusedAs why
 
+-- reading; with 8 the rows and attributes are those needed
 unfoldable pub sectionTold : Section → Told
 sectionTold (section.Read c) = countedAs 0 c
 sectionTold (section.Refused why) = refusedAs why
@@ -93,25 +99,27 @@ unfoldable pub offsetTold : Located → Told
 offsetTold (located.Is offset) = toldAs 0 offset 0 0
 offsetTold (located.Refused why) = refusedAs why
 
--- rows
+-- how many rows are listed, with 8 how many there are
 unfoldable pub treeTold : Listing → Told
 treeTold (listing.Listed n) = toldAs 0 n 0 0
 treeTold (listing.Refused why) = refusedAs why
 treeTold (listing.Room n) = toldAs (numberOf reason.Room) n 0 0
 
--- row, size and members
+-- row, size and how many members
 unfoldable pub laidAs : Layout → Told
 laidAs x = toldAs 0 (x .row) (x .size) (x .members)
 
+-- a layout; with 8 only how many members there are
 unfoldable pub layoutTold : LayoutRead → Told
 layoutTold (layout.Is x) = laidAs x
 layoutTold (layout.Refused why) = refusedAs why
 layoutTold (layout.Room n) = toldAs (numberOf reason.Room) 0 0 n
 
--- structures and members
+-- how many structures and classes, and how many members
 unfoldable pub layoutsAs : ℕ → LayoutCounts → Told
 layoutsAs n c = toldAs n (c .structures) (c .members) 0
 
+-- all layouts; with 8 both counts are those needed
 unfoldable pub layoutsTold : AllLayouts → Told
 layoutsTold (layouts.Are c) = layoutsAs 0 c
 layoutsTold (layouts.Refused why) = refusedAs why
@@ -135,31 +143,35 @@ pub record SaysThree (told : Told) (number place first second third : ℕ) : Typ
   pub says : SaysTwo told number place first second
   pub third-is : third ≡ told .third
 
+-- what is handed back says what counting answered
 abbrev pub CountCrosses : Count → ℕ → ℕ → ℕ → ℕ → Type 0
 CountCrosses answer number place rows attrs = SaysTwo (countTold answer) number place rows attrs
 
--- the same of an outcome's answer, and the lent tables hold what the outcome has
+-- the same of reading, and the lent tables hold what its outcome has
 pub record SectionCrosses (o : entries.Outcome) (number place rows attrs : ℕ) (rowTable attrTable : List ℕ) : Type 0 where
   pub says : SaysTwo (sectionTold (o .answer)) number place rows attrs
   pub row-table : rowTable ≡ o .rows
   pub attr-table : attrTable ≡ o .attrs
 
+-- of a size
 abbrev pub SizeCrosses : Sized → ℕ → ℕ → ℕ → Type 0
 SizeCrosses answer number place size = SaysOne (sizeTold answer) number place size
 
+-- of a block's offset
 abbrev pub OffsetCrosses : Located → ℕ → ℕ → ℕ → Type 0
 OffsetCrosses answer number place offset = SaysOne (offsetTold answer) number place offset
 
--- of an outcome's answer, and the lent room holds what the outcome has
+-- of the tree listing, and the lent room holds what its outcome has
 pub record TreeCrosses (o : tree.Outcome) (number place rows : ℕ) (room : List ℕ) : Type 0 where
   pub says : SaysOne (treeTold (o .answer)) number place rows
   pub room-is : room ≡ o .room
 
+-- the same of a layout
 pub record LayoutCrosses (o : laying.Outcome) (number place row size members : ℕ) (room : List ℕ) : Type 0 where
   pub says : SaysThree (layoutTold (o .answer)) number place row size members
   pub room-is : room ≡ o .room
 
--- the same with both lent rooms
+-- the same of all layouts, with both lent rooms
 pub record LayoutsCross (o : every.Outcome) (number place structures members : ℕ) (structureRoom memberRoom : List ℕ) : Type 0 where
   pub says : SaysTwo (layoutsTold (o .answer)) number place structures members
   pub structure-room : structureRoom ≡ o .structures
