@@ -59,8 +59,8 @@ use Rattle.entries.specs.Walk.{Walk, walked, refused, join, andThen, onward, wa
 use Rattle.entries.specs.Section.{wholeWalk}
 
 -- what an example asks: to read a section, with the erased flag on or off; what a text at a place is, and a number of two bytes in little-endian; what a
--- fundamental type's number and a modifier's byte say; what a type attribute of a number with these bytes of value says, and a block of subscripts; what the lists of
--- an enumeration at 0 are, in a section with these two attributes
+-- fundamental type's number and a modifier's byte say; what a type attribute of a number with these bytes of value says, and a block of subscripts; what the
+-- lists of an enumeration at 0 are, in a section with these two attributes
 pub data Question : Type 0 where
   section : Bool → List ℕ → Question
   text : List ℕ → ℕ → Question
@@ -94,14 +94,17 @@ settings erased =
       roles = record { «global_ref» = 0; mangled = 0; «overlay_name» = 0; «overlay_id» = 0 };
     }
 
+-- what reading a section says
 walk : Walk → Answer
 walk (walked rs xs place) = rows rs xs
 walk (refused why place) = refused-at (numberOf why) place
 
+-- what a fundamental type's number says; an unknown one is 18
 numbered-type : FundType → Answer
 numbered-type (fund.Known n) = number-is n
 numbered-type fund.Unknown = refused-as (numberOf reason.Number)
 
+-- what a modifier's byte says; an unknown one is 18
 one-modifier : Modifier → Answer
 one-modifier modifier.MwPointerTo = modifier-is modifier.MwPointerTo
 one-modifier modifier.PointerTo = modifier-is modifier.PointerTo
@@ -110,14 +113,17 @@ one-modifier modifier.Const = modifier-is modifier.Const
 one-modifier modifier.Volatile = modifier-is modifier.Volatile
 one-modifier modifier.Unknown = refused-as (numberOf reason.Number)
 
+-- what a type attribute says
 of-type : Typed → Answer
 of-type (typed.Is t) = type-is t
 of-type (typed.Refused why) = refused-as (numberOf (why .reason))
 
+-- what a block of subscripts says, these being the words of its dimensions
 array : List ℕ → Counted → Answer
 array words (counted.Are t n) = array-is t words
 array words (counted.Refused why) = refused-as (numberOf (why .reason))
 
+-- what the lists of an enumeration say
 listing : Lists → Answer
 listing (listed xs) = members-are xs
 listing (enumeration.refused why) = refused-as (numberOf (why .reason))
@@ -138,10 +144,12 @@ answer (type-attribute n value) = of-type (typeAt (record { section = Big; «dat
 answer (subscripts block) = array (wholeBlock Big block .words) (countSubscripts Big block)
 answer (lists s attrs) = listing (listsFrom (settings false) s attrs two 0 2)
 
+-- a row of the table: what is asked, and what document 01 says
 pub record Example : Type 0 where
   pub asked : Question
   pub said : Answer
 
+-- the same, as the table writes it
 infix 80 _says_
 abbrev pub _says_ : Question → Answer → Example
 q says a = record { asked = q; said = a }
@@ -172,12 +180,13 @@ array-of low high =
     0x00 ∷ 0x00 ∷ 0x07 ∷ 0x00 ∷ 0x00 ∷ 0x00 ∷ low ∷ 0xff ∷ 0xff ∷ 0xff ∷ high ∷
     0x08 ∷ 0x00 ∷ 0x55 ∷ 0x00 ∷ 0x07 ∷ []
 
--- an enumeration of ByteSize 1 whose list is FF 41 00, in either order
+-- an enumeration of ByteSize 1 whose list is FF 41 00
 size-first : List ℕ
 size-first =
     0x00 ∷ 0x00 ∷ 0x00 ∷ 0x15 ∷ 0x00 ∷ 0x04 ∷ 0x00 ∷ 0xb6 ∷ 0x00 ∷ 0x00 ∷ 0x00 ∷ 0x01 ∷
     0x00 ∷ 0xf4 ∷ 0x00 ∷ 0x00 ∷ 0x00 ∷ 0x03 ∷ 0xff ∷ 0x41 ∷ 0x00 ∷ []
 
+-- the same with the list before the ByteSize
 list-first : List ℕ
 list-first =
     0x00 ∷ 0x00 ∷ 0x00 ∷ 0x15 ∷ 0x00 ∷ 0x04 ∷ 0x00 ∷ 0xf4 ∷ 0x00 ∷ 0x00 ∷ 0x00 ∷ 0x03 ∷ 0xff ∷ 0x41 ∷ 0x00 ∷
@@ -187,6 +196,7 @@ list-first =
 minus-one : Listed
 minus-one = record { value = negsuc 0; place = 19; length = 1 }
 
+-- in document 01's order; its type numbers and modifiers are asked alone, and again as attributes
 unfoldable pub examples : List Example
 unfolding null erased-entry erased-row plain pointer array-of size-first list-first minus-one
 examples =
@@ -218,6 +228,7 @@ examples =
     lists size-first (number.ByteSize ∷ 8 ∷ number.ElementList ∷ 14 ∷ []) says members-are (minus-one ∷ []) ∷
     lists list-first (number.ElementList ∷ 8 ∷ number.ByteSize ∷ 17 ∷ []) says members-are [] ∷ []
 
+-- the definitions answer what document 01 says, in every row
 pub examples-hold : map (λ e. answer (e .asked)) examples ≡ map (λ e. e .said) examples
 unfolding answer examples numberOf parseInt fundTypeOf fundTypes modifierOf modifiers valueOf there readAt member indexOf lookup tags used alsoKnown attributeKinds known forms formOf zeroFrom fixedEnd blockEnd textEnd valueEnd ending numbered readAttribute textAt nullEnd tagHead sizeHead headAt first plays runEnds readOn runFrom flip littleFlag flagOf flagsOf kindOf ordinary rooted attributes rootEndian rootIn entryFrom entryAt join andThen onward walkFrom walkAt wholeWalk subscriptFormats subscriptFormatOf partAt blockAt isKnown isPointer allKnown anyPointer modifiersOf withModifiers modified knownType fundamental fundType lastOf modFundType typeAt lowBound knownIndex indexAt indexed oneMore highBound constBound elementOf elementAs elementAt subscriptAs subscriptOf dimensionWords elementOr before step subscriptsFrom wholeBlock countSubscripts asValue wordAt takenBy roleTaken takes special attributeAt attrAt expectedForms expected expectedForm isType contentFault formFault attributeFault faultAt numberAt formNumber isForm isSought lastFrom asWord wordIn wordBy unless listWidth valueAt namedFrom nameFrom valued element.elementAt element.andThen elementThen elementsFrom elementsIn signedOf signedBelow joined sizeBefore listAt listsFrom
 examples-hold = refl

@@ -1,4 +1,5 @@
--- What a section is read with.
+-- What the program `layouts` reads a section with: settings that two words of its arguments choose. The vendor numbers and the sizes themselves are the
+-- constants VENDORS and SIZES of src/presets.rt.
 use Prim.Native.Nat.{ℕ}
 use mathlib.Core.Bool.{Bool, true, false, cond}
 use mathlib.Core.List.{List, [], _∷_}
@@ -8,17 +9,18 @@ use Rattle.numbers.specs.declared.Endian.the-variants as endian
 use Rattle.format.specs.declared.settings.Producer.the-variants as producer
 use Rattle.layouts.specs.declared.presets.Preset.{Preset}
 
--- the same bytes
+-- an argument is this word: the same bytes
 unfoldable pub isWord : List ℕ → List ℕ → Bool
 isWord [] [] = true
 isWord [] (w ∷ ws) = false
 isWord (t ∷ ts) [] = false
 isWord (t ∷ ts) (w ∷ ws) = cond (eqb w t) (isWord ts ws) false
 
+-- `little` or `big`
 unfoldable pub endianOf : Bool → Endian
 endianOf little = cond little endian.Little endian.Big
 
--- the vendor's 47 numbers and four roles, or none; erased entries stay out
+-- `mw`: the 47 vendor numbers that complete the Rust's, with their four roles; `none`: no vendor numbers. Erased entries stay out
 unfoldable pub presetOf : Bool → Bool → Preset
 presetOf little true =
     record {
