@@ -137,7 +137,7 @@ module _ (settings : Settings) (s rows attrs : List ℕ) (n : ℕ) (sizeOf : «T
   few-members (refused why) h = omega arith
 
   few-shape : (x : Shape) → length (laidOf (shapeLaid settings s rows attrs n sizeOf i x)) ≤ n
-  unfolding shapeLaid laidOf
+  unfolding isStructure shapeLaid laidOf
   few-shape shape.Structure = few-members (membersOf settings s rows attrs n i) (few-of settings s rows attrs n i)
   few-shape shape.Array = omega arith
   few-shape shape.Enumeration = omega arith

@@ -106,13 +106,7 @@ module _ (settings : Settings) (s rows attrs : List ℕ) (n : ℕ) (sizeOf : «T
 
   -- only a structure or a class has a layout: 12 at any other row
   unfoldable pub shapeLaid : Shape → Lay
-  shapeLaid shape.Structure = membersLaid (membersOf settings s rows attrs n i)
-  shapeLaid shape.Array = nowhere (refusedAt (rowAt rows i .key) reason.Kind)
-  shapeLaid shape.Enumeration = nowhere (refusedAt (rowAt rows i .key) reason.Kind)
-  shapeLaid shape.Union = nowhere (refusedAt (rowAt rows i .key) reason.Kind)
-  shapeLaid shape.PtrToMember = nowhere (refusedAt (rowAt rows i .key) reason.Kind)
-  shapeLaid shape.Subroutine = nowhere (refusedAt (rowAt rows i .key) reason.Kind)
-  shapeLaid shape.Other = nowhere (refusedAt (rowAt rows i .key) reason.Kind)
+  shapeLaid x = cond (isStructure x) (membersLaid (membersOf settings s rows attrs n i)) (nowhere (refusedAt (rowAt rows i .key) reason.Kind))
 
   -- the members of row i laid out
   unfoldable pub rowLay : Lay

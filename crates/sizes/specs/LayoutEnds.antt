@@ -21,7 +21,7 @@ use Rattle.records.specs.Unions.{Placed, Members, members, refused}
 use Rattle.records.specs.declared.fields.Word.{Word}
 use Rattle.records.specs.declared.fields.Word.the-variants as word
 use Rattle.sizes.specs.Size.{sizeLimit, membersOf, memberSize, larger, endThen, shapeOf, typeSize}
-use Rattle.sizes.specs.Layout.{Laid, Lay, laid, nowhere, laidMember, andLaid, layThen, endOr, laidFrom, isBounded, sizeOrLargest, ownSize, membersLaid, shapeLaid, rowLay, layoutAt, laidWords, laidWidth, layoutOf, LayoutGiven}
+use Rattle.sizes.specs.Layout.{Laid, Lay, laid, nowhere, laidMember, andLaid, layThen, endOr, laidFrom, isStructure, isBounded, sizeOrLargest, ownSize, membersLaid, shapeLaid, rowLay, layoutAt, laidWords, laidWidth, layoutOf, LayoutGiven}
 use Rattle.sizes.specs.LayoutFilled.{Filled, LaidAs, laid-as, layout-filled}
 use Rattle.sizes.specs.declared.prepare.Shape.{Shape}
 use Rattle.sizes.specs.declared.prepare.Shape.the-variants as shape
@@ -93,7 +93,7 @@ module _ (settings : Settings) (s rows attrs : List ℕ) (n : ℕ) (sizeOf : «T
   members-end (refused why) = tt
 
   shape-ends : (x : Shape) → inside 0 (shapeLaid settings s rows attrs n sizeOf i x)
-  unfolding shapeLaid
+  unfolding isStructure shapeLaid
   shape-ends shape.Structure = members-end (membersOf settings s rows attrs n i)
   shape-ends shape.Array = tt
   shape-ends shape.Enumeration = tt

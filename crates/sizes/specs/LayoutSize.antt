@@ -141,7 +141,7 @@ module _ (settings : Settings) (s rows attrs : List ℕ) (n : ℕ) (sizeOf : «T
 
   shape-sized : (x : Shape) {xs : List Laid} {largest : ℕ} → shapeLaid settings s rows attrs n sizeOf i x ≡ laid xs largest
       → shapeSize settings s rows attrs n sizeOf i x ≡ Is (sizeOrLargest largest own)
-  unfolding shapeLaid shapeSize ownSize
+  unfolding isStructure shapeLaid shapeSize ownSize
   shape-sized shape.Structure p = members-laid (membersOf settings s rows attrs n i) p
   shape-sized shape.Array p = absurd (subst isNowhere p tt)
   shape-sized shape.Enumeration p = absurd (subst isNowhere p tt)
@@ -173,7 +173,7 @@ module _ (settings : Settings) (s rows attrs : List ℕ) (n : ℕ) (sizeOf : «T
     size-is = ap (shapeSize settings s rows attrs n sizeOf i) (shape-is (shapeOf (rowAt rows i .kind)) structure)
 
     lay-is : rowLay settings s rows attrs n sizeOf i ≡ membersLaid settings s rows attrs n sizeOf i (membersOf settings s rows attrs n i)
-    unfolding rowLay shapeLaid
+    unfolding rowLay isStructure shapeLaid
     lay-is = ap (shapeLaid settings s rows attrs n sizeOf i) (shape-is (shapeOf (rowAt rows i .kind)) structure)
 
     -- no size, no layout
