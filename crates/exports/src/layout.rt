@@ -13,6 +13,7 @@ ghost use mathlib.Core.Path.{_≡_};
 ghost use Rattle.sizes.specs.Layout.{layoutOf};
 ghost use Rattle.exports.specs.Crossing.{settingsFrom, countsFrom, laidAs, layoutTold, LayoutCrosses};
 
+// A layout that is given.
 fn laid_as(layout: Layout) -> Told
     ensures { λ r. ⌜ r ≡ laidAs layout ⌝ }
 {
@@ -24,6 +25,7 @@ fn laid_as(layout: Layout) -> Told
     )
 }
 
+// With 8 only how many members there are.
 fn layout_told(answer: LayoutRead) -> Told
     ensures { λ r. ⌜ r ≡ layoutTold answer ⌝ }
 {

@@ -13,6 +13,7 @@ ghost use mathlib.Core.Path.{_≡_};
 ghost use Rattle.sizes.specs.All.{allOf};
 ghost use Rattle.exports.specs.Crossing.{settingsFrom, countsFrom, layoutsAs, layoutsTold, LayoutsCross};
 
+// The counts that were given, or are needed.
 fn layouts_as(number: u32, counts: LayoutCounts) -> Told
     ensures { λ r. ⌜ r ≡ layoutsAs number counts ⌝ }
 {
@@ -29,8 +30,8 @@ fn layouts_told(answer: AllLayouts) -> Told
     }
 }
 
-// `all_layouts` of `sizes`; `structures` has eight words for each structure or class: its row, 0 or a refusal's number, its size, the refusal's place, its first
-// member and how many, place and length of its name; `members` four for each member, as in `capbeacon_layout_of_key`.
+// `all_layouts` of `sizes`; `structures` has eight words for each structure or class: its row, 0 or a refusal's number, its size, the refusal's place, its
+// first member and how many, place and length of its name; `members` four for each member, as in `capbeacon_layout_of_key`.
 #[no_mangle]
 pub extern "C" fn capbeacon_all_layouts(
     s: &[u8],

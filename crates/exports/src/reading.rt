@@ -14,6 +14,7 @@ ghost use mathlib.Core.Path.{_≡_};
 ghost use Rattle.entries.specs.Section.{countSection, readSection};
 ghost use Rattle.exports.specs.Crossing.{settingsFrom, countedAs, countTold, sectionTold, CountCrosses, SectionCrosses};
 
+// The counts that were read, or are needed.
 fn counted_as(number: u32, counts: Counts) -> Told
     ensures { λ r. ⌜ r ≡ countedAs number counts ⌝ }
 {

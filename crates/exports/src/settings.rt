@@ -35,6 +35,7 @@ fn producer_from(n: u32) -> Producer
     }
 }
 
+// The settings: three choices, then the numbers of the four roles, 0 for absent.
 pub fn settings_from(
     endian: u32,
     erased: u32,

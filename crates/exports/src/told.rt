@@ -26,6 +26,7 @@ pub fn told_as(number: u32, first: u64, second: u64, third: u64) -> Told
     }
 }
 
+// A refusal's number and place; it has no results.
 pub fn refused_as(why: Refusal) -> Told
     ensures { λ r. ⌜ r ≡ refusedAs why ⌝ }
 {
