@@ -2,8 +2,10 @@
 //
 //     layouts big|little none|mw [FILE]
 //
-// Standard input is read where no file is named. What it prints is in `report`, a line's holes and padding in `gaps`, settings in `presets`; this file only
-// reads arguments and input. `io::read_full` does not tell a read error from the end of input: after an error, what was read before it is printed.
+// Standard input is read where no file is named. What it prints is in `report`, a line's holes and padding in `gaps`, settings in `presets`, what `sizes` wrote
+// into its rooms in `words`, the rooms in `rooms`, the buffered output in `out`; this file only reads arguments and input. What it means: specs/Gaps.antt,
+// specs/Presets.antt, and the specs of `sizes`. `io::read_full` does not tell a read error from the end of input: after an error, what was read before it is
+// printed.
 mod gaps;
 mod out;
 mod presets;
@@ -35,6 +37,7 @@ fn is_longer(fd: i32, n: usize, section: &[u8]) -> bool {
     }
 }
 
+// An input that is longer than the section's room is 8 at 0.
 fn report_from(fd: i32, preset: Preset) {
     let mut section = rooms::section_room();
     let n = io::read_full(fd, &mut section);
@@ -45,6 +48,7 @@ fn report_from(fd: i32, preset: Preset) {
     }
 }
 
+// A file that cannot be opened is told on standard error.
 fn report_file(path: &[u8], preset: Preset) {
     let fd = os::open_read(path);
     if fd < 0 {

@@ -1,12 +1,14 @@
 // Standard output, a buffer at a time. Each function takes how many bytes of the buffer are used and answers how many are used then.
 use libc::STDOUT_FILENO;
 
+// What the buffer still has.
 pub fn flush(buffer: &[u8], used: usize) {
     if used <= buffer.len() {
         io::write_all(STDOUT_FILENO, &buffer[..used]);
     }
 }
 
+// A buffer that is full is written out first.
 pub fn put_byte(buffer: &mut [u8], used: usize, b: u8) -> usize {
     if used < buffer.len() {
         buffer[used] = b;

@@ -13,6 +13,7 @@ pub struct Preset {
     pub vendors: usize,
 }
 
+// The numbers that complete the Rust's attribute numbers, rising.
 pub const VENDORS: [u16; 47] = [
     0x0293,
     0x0303,
@@ -112,7 +113,7 @@ fn endian_of(little: bool) -> Endian
     if little { Endian::Little } else { Endian::Big }
 }
 
-// Erased entries stay out.
+// With `mw` all vendor numbers and their four roles, without none. Erased entries stay out.
 pub fn preset_of(little: bool, mw: bool) -> Preset
     ensures { λ r. ⌜ r ≡ presetOf little mw ⌝ }
 {

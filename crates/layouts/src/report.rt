@@ -98,6 +98,7 @@ fn put_place(buffer: &mut [u8], used: usize, text: &[u8], offset: u64, bytes: u6
     put_decimal(buffer, at, bytes)
 }
 
+// A line for a hole or padding, none where there is none.
 fn put_gap(buffer: &mut [u8], used: usize, text: &[u8], gap: Gap) -> usize {
     match gap {
         Gap::Is { at, bytes } => {
@@ -108,6 +109,7 @@ fn put_gap(buffer: &mut [u8], used: usize, text: &[u8], gap: Gap) -> usize {
     }
 }
 
+// 'member OFFSET SIZE NAME'
 fn put_member(s: &[u8], member: Placed, buffer: &mut [u8], used: usize) -> usize {
     let name = part(s, member.name_place, member.name_length);
     let end = put_place(
@@ -137,6 +139,7 @@ fn show_member(s: &[u8], member: Placed, buffer: &mut [u8], shown: Shown) -> Sho
     }
 }
 
+// Those of one structure: `count` members from number `first` on.
 fn show_members(
     s: &[u8],
     members: &[u64],
@@ -171,6 +174,7 @@ fn put_layout(
     put_gap(buffer, shown.used, b"  padding ", gap)
 }
 
+// Its head, then its layout, or why it has none.
 fn put_structure(
     s: &[u8],
     rows: &[u32],
@@ -189,6 +193,7 @@ fn put_structure(
     put_refusal(buffer, end, structure.number as u64, structure.place)
 }
 
+// One buffer for all of them, which is written out where it is full and at the end.
 fn report_structures(s: &[u8], rows: &[u32], structures: &[u64], members: &[u64], n: u32) {
     let mut buffer = [0u8; 4096];
     let mut used = 0;
@@ -221,6 +226,7 @@ fn report_layouts(s: &[u8], preset: Preset, rows: &[u32], attrs: &[u32], counts:
         &mut members,
     ) {
         AllLayouts::Are(found) => {
+            // There are no more structures than rows.
             let n = (found.structures % 4294967296) as u32;
             report_structures(s, rows, &structures, &members, n)
         }

@@ -2,6 +2,7 @@
 use sizes::all::STRUCTURE_WIDTH;
 use sizes::layout::LAID_WIDTH;
 
+// A member in a layout.
 pub struct Placed {
     pub offset: u32,
     pub size: u32,
@@ -15,6 +16,7 @@ pub struct Structure {
     pub number: u32,
     pub place: u64,
     pub size: u32,
+    // Its first member among those of all structures, and how many it has.
     pub first: u32,
     pub members: u32,
     pub name_place: u32,
@@ -25,6 +27,7 @@ fn word(t: &[u64], i: usize) -> u64 {
     if i < t.len() { t[i] } else { 0 }
 }
 
+// All these numbers have 32 bits, but for a refusal's place.
 fn low_word(t: &[u64], i: usize) -> u32 {
     (word(t, i) % 4294967296) as u32
 }
