@@ -1,4 +1,4 @@
-// Questions on a block alone.
+// Questions on a block alone: our answer, held against the words of the case.
 use crate::cursor::Cursor;
 use crate::cursor::count;
 use crate::cursor::given;
@@ -78,6 +78,7 @@ fn modifier_list(body: &[u8], c: Cursor, block: &[u8]) -> Cursor {
     }
 }
 
+// Two words for each: its index type and its size.
 fn dimensions(body: &[u8], c: Cursor, dims: &[u32], n: usize) -> Cursor {
     let mut d = count(body, c, n);
     let mut at: usize = 0;
@@ -97,6 +98,7 @@ struct Step {
     element: bool,
 }
 
+// What `element_at` needs of a subscript.
 fn step_at(block: &[u8], e: Endian, at: usize) -> Step {
     if block.len() < at {
         return Step {

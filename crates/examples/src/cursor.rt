@@ -1,4 +1,5 @@
-// The words that a case expects, held against ours one after the other.
+// The words that a case expects, held against ours one after the other. A function takes a cursor and hands it on, moved past what it compared; after the first
+// difference nothing more is compared.
 use attributes::decode::part;
 use format::refusal::Reason;
 use format::refusal::Refusal;
@@ -32,6 +33,7 @@ pub struct Cursor {
     pub refused: bool,
 }
 
+// The expected words begin here.
 pub fn start(at: usize) -> Cursor {
     Cursor {
         at,
@@ -40,6 +42,7 @@ pub fn start(at: usize) -> Cursor {
     }
 }
 
+// Nothing more is compared.
 fn ended(c: Cursor, verdict: u32) -> Cursor {
     Cursor {
         at: c.at,
@@ -69,6 +72,7 @@ pub fn word_of(body: &[u8], at: usize) -> u32 {
     }
 }
 
+// The next expected word.
 pub fn word(body: &[u8], c: Cursor, ours: u32) -> Cursor {
     if c.verdict != SAME {
         return c;
@@ -79,6 +83,7 @@ pub fn word(body: &[u8], c: Cursor, ours: u32) -> Cursor {
     }
 }
 
+// The next, as a signed number.
 pub fn signed(body: &[u8], c: Cursor, ours: i32) -> Cursor {
     if c.verdict != SAME {
         return c;
@@ -89,6 +94,7 @@ pub fn signed(body: &[u8], c: Cursor, ours: i32) -> Cursor {
     }
 }
 
+// The next expected byte, as of a text.
 pub fn byte(body: &[u8], c: Cursor, ours: u8) -> Cursor {
     if c.verdict != SAME {
         return c;
@@ -122,6 +128,7 @@ pub fn count(body: &[u8], c: Cursor, ours: usize) -> Cursor {
     word(body, c, low_word(ours as u64))
 }
 
+// So many bytes, without their length.
 fn raw(body: &[u8], c: Cursor, ours: &[u8]) -> Cursor {
     if c.verdict != SAME {
         return c;
@@ -156,6 +163,7 @@ pub fn given(body: &[u8], c: Cursor) -> Cursor {
     word(body, c, 1)
 }
 
+// Ours is a refusal: the tally counts it as one.
 pub fn as_refused(c: Cursor) -> Cursor {
     Cursor {
         at: c.at,

@@ -1,4 +1,5 @@
-// Examples of document 01 that its table of starred ones does not have, run through the code: what it answers is printed, and rt compares that with the file stdout.
+// Document 01's types, modifiers and erased entry, and attributes whose values are cut, run through the code: what it answers is printed, and rt compares that
+// with the file stdout.
 use attributes::read::Attribute;
 use attributes::read::read_attribute;
 use format::fund_type::FundType;

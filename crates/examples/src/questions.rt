@@ -60,10 +60,12 @@ fn end_at(packet: &[u8], at: usize) -> usize {
     }
 }
 
+// The kinds that CASES.md numbers so.
 fn is_by_key(kind: u32) -> bool {
     (2 <= kind) & (kind <= 15)
 }
 
+// Our answer to a question about a key, held against the case's.
 fn by_key(
     body: &[u8],
     kind: u32,
@@ -187,6 +189,7 @@ fn section_read(
     ask_rows(packet, next, t, s, settings, rows, attrs, counts)
 }
 
+// Ours is 8, for which a case has the word 2 and the counts that are needed.
 fn over_limits(body: &[u8], c: Cursor, needed: Counts) -> Cursor {
     let rows = count(body, word(body, as_refused(c), 2), needed.rows);
     count(body, rows, needed.attrs)
@@ -234,6 +237,7 @@ fn small_section(
     }
 }
 
+// Its settings and its bytes, then the answer.
 fn ask_section(packet: &[u8], at: usize, t: &mut [u64; 128]) -> usize {
     let body = body_at(packet, at);
     let settings = settings_by(word_of(body, 0));
@@ -243,6 +247,7 @@ fn ask_section(packet: &[u8], at: usize, t: &mut [u64; 128]) -> usize {
     small_section(packet, at, t, c, s, settings)
 }
 
+// A question that needs no section.
 fn ask_alone(packet: &[u8], at: usize, t: &mut [u64; 128], kind: u32) -> usize {
     let body = body_at(packet, at);
     match kind {

@@ -67,6 +67,7 @@ fn read_packet(
     take(part(packet, 0, length), wanted, t)
 }
 
+// The end packet has, in place of a sum, how many came before it.
 fn read_end(wanted: u32, t: &mut [u64; 128]) -> bool {
     if wanted as u64 != packets(t) {
         fault(t, 0, b"the end packet says another number of packets");

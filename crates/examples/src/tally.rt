@@ -36,6 +36,7 @@ fn add(t: &mut [u64; 128], i: usize) {
     }
 }
 
+// Where a number stands; 128, past the end, where there is no such one.
 fn place(kind: u32, which: usize) -> usize {
     if kind < 32 {
         if which < 4 {

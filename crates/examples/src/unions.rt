@@ -34,7 +34,7 @@ fn member_part<'a>(s: &'a [u8], room: &[u64], at: usize, k: usize) -> &'a [u8] {
     part(s, place as usize, length as usize)
 }
 
-// A flag and, where it is 1, as many words as follow it.
+// A flag and, where it is 1, the word after it.
 fn optional(body: &[u8], c: Cursor, room: &[u64], at: usize, k: usize) -> Cursor {
     let flag = member_word(room, at, k);
     let d = word(body, c, flag);

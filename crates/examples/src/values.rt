@@ -31,6 +31,7 @@ pub fn attribute_number(n: u32) -> u16 {
     (n % 65536) as u16
 }
 
+// A value that is cut reads as 0; in a table that was read none is.
 fn read16(r: Read16) -> u32 {
     match r {
         Read16::Value(n) => n as u32,
