@@ -1,5 +1,5 @@
--- Every structure's and class's layout of a table, in file order, each as `Layout` has it for its key. One that is refused says so, and the rest go on: only 1,
--- 2, 3 and 8 refuse the call.
+-- Every structure's and class's layout of a table, in file order, each as `Layout` has it for its key. One that is refused says so, and the rest go on:
+-- only 1, 2, 3 and 8 refuse the call.
 use Prim.Native.Nat.{ℕ, zero, suc, _+_, _-_, _/_}
 use mathlib.Core.Path.{_≡_}
 use mathlib.Core.Bool.{Bool, cond, _&&_}

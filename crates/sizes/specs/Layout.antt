@@ -1,7 +1,7 @@
 -- Layouts (document 01, 'Types, records, sizes'), for a structure or class: row number, size, and for each Member child in walk order its offset, its size
 -- (ByteSize, else its type's) and its name, empty if none. All members are read whole before any size is taken; then member by member its size, then its end,
--- which is tested (20) only where the ends make the size, that is without ByteSize. In this order: 1, 2, 3; 11, 12; 9 and what the Member records
--- refuse; sizes and ends; 8.
+-- which is tested (20) only where the ends make the size, that is without ByteSize.
+-- The tests in their order: 1, 2, 3; of the entry 11, 12; 9 and what its Member records refuse; member by member its size and end; 8.
 use Prim.Native.Nat.{ℕ, _+_, _-_, _/_}
 use mathlib.Core.Path.{_≡_}
 use mathlib.Core.Bool.{Bool, true, false, cond}

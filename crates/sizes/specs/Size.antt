@@ -1,7 +1,7 @@
 -- Sizes (document 01, 'Types, records, sizes'; the Rust's `Type::size` and `UserDefinedType::size`). The size of a type and of the entry it names call each
--- other: here the entry's size is a function of "the size of a type", and the levels that are left fall from an entry to those it names. In this order: 1, 2,
--- 3; 11, 10, 12 of the entry; what its row refuses, all of it read whole; what the sizes that it asks for refuse, and 20. `sizeOfKey` and `sizeOfType` are at
--- the end.
+-- other: here the entry's size is a function of "the size of a type", and the levels that are left fall from an entry to those it names.
+-- The tests in their order: 1, 2, 3; of the entry 11, 10, 12; what its row refuses, all of it read whole; what the sizes that it asks for refuse, and 20.
+-- `sizeOfKey` and `sizeOfType`, at the end, are the public calls.
 use Prim.Native.Nat.{ℕ, zero, suc, _+_, _*_}
 use mathlib.Core.Bool.{true, false, cond}
 use mathlib.Core.List.{List, [], _∷_}
@@ -209,7 +209,7 @@ pointerSize (pointer.Refused why) = Refused why
 
 -- ---- the kinds of rows that have a size
 
--- how a row of each kind comes to its size; what is a subroutine is not looked into
+-- how a row of each kind comes to its size; a subroutine type, or a subroutine, is not looked into
 unfoldable pub shapes : List (Line Shape)
 shapes =
     tag.ArrayType means shape.Array ∷
