@@ -20,7 +20,7 @@ use Rattle.records.specs.Fields.{nameOf}
 use Rattle.records.specs.MemberWords.{namePlace, nameLength}
 use Rattle.records.specs.declared.fields.Name.{Name}
 use Rattle.sizes.specs.Size.{shapeOf, typeSize}
-use Rattle.sizes.specs.Layout.{Laid, Lay, laid, nowhere, isStructure, rowLay, layoutAt, laidWords, laidWidth}
+use Rattle.sizes.specs.Layout.{Laid, Lay, laid, unlaid, isStructure, rowLay, layoutAt, laidWords, laidWidth}
 use Rattle.sizes.specs.declared.sized.Sized.{Sized}
 use Rattle.sizes.specs.declared.layout.LayoutWhole.{LayoutWhole}
 use Rattle.sizes.specs.declared.layout.LayoutWhole.the-variants as whole
@@ -38,11 +38,11 @@ pub record Structure : Type 0 where
 -- the members that were laid
 unfoldable pub laidOf : Lay → List Laid
 laidOf (laid xs largest) = xs
-laidOf (nowhere why) = []
+laidOf (unlaid why) = []
 
 -- a structure before the others, if it is to stand among them
-unfoldable pub keptIf : Bool → Structure → List Structure → List Structure
-keptIf kept x xs = cond kept (x ∷ xs) xs
+unfoldable pub alsoIf : Bool → Structure → List Structure → List Structure
+alsoIf kept x xs = cond kept (x ∷ xs) xs
 
 module _ (settings : Settings) (s rows attrs : List ℕ) (n : ℕ) (sizeOf : «Type» → Sized) where
   -- what is said of row i; its name is its last, as a record's is
@@ -58,7 +58,7 @@ module _ (settings : Settings) (s rows attrs : List ℕ) (n : ℕ) (sizeOf : «T
   -- the structures and classes among so many rows from row i on
   unfoldable pub structuresFrom : ℕ → ℕ → List Structure
   structuresFrom i zero = []
-  structuresFrom i (suc left) = keptIf (isStructure (shapeOf (rowAt rows i .kind))) (structureAt i) (structuresFrom (suc i) left)
+  structuresFrom i (suc left) = alsoIf (isStructure (shapeOf (rowAt rows i .kind))) (structureAt i) (structuresFrom (suc i) left)
 
 -- ---- into lent rooms: 8 last, with the counts
 

@@ -20,7 +20,7 @@ use Rattle.links.specs.TypedLaws.{key-found, row-passed, in-row}
 use Rattle.links.specs.declared.typed.Keyed.the-variants as keyed
 use Rattle.sizes.specs.Size.{shapeOf, typeSize}
 use Rattle.sizes.specs.Layout.{isStructure, rowLay, layoutAt, Outcome, intoRoom, layoutOf}
-use Rattle.sizes.specs.All.{Structure, keptIf, structureAt, structuresFrom}
+use Rattle.sizes.specs.All.{Structure, alsoIf, structureAt, structuresFrom}
 use Rattle.sizes.specs.declared.sized.Sized.{Sized}
 use Rattle.sizes.specs.declared.layout.LayoutRead.the-variants as layout
 
@@ -36,8 +36,8 @@ unfoldable pub onlyStructures : List ℕ → List ℕ → List ℕ
 onlyStructures rows [] = []
 onlyStructures rows (i ∷ is) = cond (isStructure (shapeOf (rowAt rows i .kind))) (i ∷ onlyStructures rows is) (onlyStructures rows is)
 
-kept-map : (f : ℕ → Structure) (b : Bool) (i : ℕ) {xs : List Structure} (is : List ℕ) → xs ≡ map f is → keptIf b (f i) xs ≡ map f (cond b (i ∷ is) is)
-unfolding keptIf
+kept-map : (f : ℕ → Structure) (b : Bool) (i : ℕ) {xs : List Structure} (is : List ℕ) → xs ≡ map f is → alsoIf b (f i) xs ≡ map f (cond b (i ∷ is) is)
+unfolding alsoIf
 kept-map f true i is p = ap (λ (ys : List Structure). f i ∷ ys) p
 kept-map f false i is p = p
 

@@ -45,11 +45,11 @@ use Rattle.sizes.specs.SizeWays.{Ready, typeFrom}
 use Rattle.sizes.specs.Known.{knownWidth, knownAt, PutKnown}
 use Rattle.sizes.specs.LevelsWays.{deepest, sizeLeft, Filled}
 use Rattle.sizes.specs.LevelsLaws.{known-types}
-use Rattle.sizes.specs.Layout.{Laid, Lay, laid, nowhere, laidMember, andLaid, layThen, endOr, laidFrom, isStructure, isBounded, ownSize, membersLaid, shapeLaid, rowLay, layoutBy, layoutAt, laidWords, laidWidth}
+use Rattle.sizes.specs.Layout.{Laid, Lay, laid, unlaid, laidMember, andLaid, layThen, endOr, laidFrom, isStructure, isBounded, ownSize, membersLaid, shapeLaid, rowLay, layoutBy, layoutAt, laidWords, laidWidth}
 use Rattle.sizes.specs.LayoutWays.{WholeLaid}
 use Rattle.sizes.specs.KeptLaws.{structure-test}
 use Rattle.sizes.specs.LayoutLaws.{words-long, AllLaid, answer-laid, isNone}
-use Rattle.sizes.specs.All.{Structure, laidOf, keptIf, structureAt, structuresFrom, answerWords, structureWidth, structureWords, memberWords, memberCount, countsOf, Outcome, outcome, intoRooms, allOf, AllGiven}
+use Rattle.sizes.specs.All.{Structure, laidOf, alsoIf, structureAt, structuresFrom, answerWords, structureWidth, structureWords, memberWords, memberCount, countsOf, Outcome, outcome, intoRooms, allOf, AllGiven}
 use Rattle.sizes.specs.AllWays.{rowStructures, eightWords, countedOn, countedWith, OneMore, CountAsked, sizeTold, Told, RowCounted, PutAsked, Puts, PutsAsked, PutAll}
 use Rattle.sizes.specs.declared.prepare.Shape.{Shape}
 use Rattle.sizes.specs.declared.prepare.Shape.the-variants as shape
@@ -114,7 +114,7 @@ few-after f g e k h (Is size) = few-end (f size) (g size) k (h size) (e size)
   where
     few-one : (x : Laid) (l : Lay) (j : ℕ) → length (laidOf l) ≤ j → length (laidOf (andLaid x l)) ≤ suc j
     few-one x (laid xs m) j p = omega (arith, p)
-    few-one x (nowhere why) j p = omega arith
+    few-one x (unlaid why) j p = omega arith
 
     few-end : (x : Laid) (r : ℕ → Lay) (j : ℕ) → ((next : ℕ) → length (laidOf (r next)) ≤ j) → (t : Sized)
         → length (laidOf (layThen (λ next. andLaid x (r next)) t)) ≤ suc j
@@ -243,20 +243,20 @@ module _ (settings : Settings) (s rows attrs : List ℕ) (n : ℕ) (sizeOf : «T
   laid-count : (lay : Lay) {x : Layout} → layoutBy settings s rows attrs n sizeOf i lay ≡ whole.Is x → length (laidOf lay) ≡ x .members
   unfolding layoutBy laidOf
   laid-count (laid xs l) p = ap membersIn p
-  laid-count (nowhere why) p = absurd (subst isNone p tt)
+  laid-count (unlaid why) p = absurd (subst isNone p tt)
 
   refused-none : (lay : Lay) {why : Refusal} → layoutBy settings s rows attrs n sizeOf i lay ≡ whole.Refused why → laidOf lay ≡ []
   unfolding layoutBy laidOf
   refused-none (laid xs l) p = absurd (subst isGiven p tt)
-  refused-none (nowhere why) p = refl
+  refused-none (unlaid why) p = refl
 
   module _ {row : Row} {b : Bool} (at : row ≡ rowAt rows i) (is : b ≡ isStructure (shapeOf (row .kind))) where
     row-other : b ≡ false → rowStructures settings s rows attrs n sizeOf i ≡ []
-    unfolding rowStructures keptIf
+    unfolding rowStructures alsoIf
     row-other t = rw (structure-test rows i at is t)
 
     row-one : b ≡ true → rowStructures settings s rows attrs n sizeOf i ≡ structureAt settings s rows attrs n sizeOf i ∷ []
-    unfolding rowStructures keptIf
+    unfolding rowStructures alsoIf
     row-one t = rw (structure-test rows i at is t)
 
     -- a row that is no structure adds nothing
@@ -425,8 +425,8 @@ refused-asked {s} {rows} {n} {i} {counts} w =
 
 -- ---- row after row
 
-kept-append : (b : Bool) (x : Structure) (xs : List Structure) → keptIf b x [] ++ xs ≡ keptIf b x xs
-unfolding keptIf
+kept-append : (b : Bool) (x : Structure) (xs : List Structure) → alsoIf b x [] ++ xs ≡ alsoIf b x xs
+unfolding alsoIf
 kept-append true x xs = refl
 kept-append false x xs = refl
 
@@ -441,7 +441,7 @@ module _ (settings : Settings) (s rows attrs : List ℕ) (n : ℕ) (sizeOf : «T
       let down : n - i ≡ suc (n - (i + 1)) = omega arith in
       let up : i + 1 ≡ suc i = omega arith in
       kept-append (isStructure (shapeOf (rowAt rows i .kind))) (structureAt settings s rows attrs n sizeOf i) (left (i + 1))
-      ∙ ap (λ (k : ℕ). keptIf (isStructure (shapeOf (rowAt rows i .kind))) (structureAt settings s rows attrs n sizeOf i)
+      ∙ ap (λ (k : ℕ). alsoIf (isStructure (shapeOf (rowAt rows i .kind))) (structureAt settings s rows attrs n sizeOf i)
       (structuresFrom settings s rows attrs n sizeOf k (n - (i + 1)))) up
       ∙ ap (structuresFrom settings s rows attrs n sizeOf i) (sym down)
 
@@ -457,11 +457,11 @@ module _ (settings : Settings) (s rows attrs : List ℕ) (n : ℕ) (sizeOf : «T
       ap (structuresFrom settings s rows attrs n sizeOf 0) whole
 
   row-few : (i : ℕ) → length (rowStructures settings s rows attrs n sizeOf i) ≤ 1
-  unfolding rowStructures keptIf
+  unfolding rowStructures alsoIf
   row-few i = cond-all (λ (xs : List Structure). length xs ≤ 1) (isStructure (shapeOf (rowAt rows i .kind))) (λ t. omega arith) (λ t. omega arith)
 
   row-members-few : (i : ℕ) → memberCount (rowStructures settings s rows attrs n sizeOf i) ≤ n
-  unfolding rowStructures keptIf memberCount structureAt
+  unfolding rowStructures alsoIf memberCount structureAt
   row-members-few i =
       let few : length (laidOf (rowLay settings s rows attrs n sizeOf i)) ≤ n = few-row settings s rows attrs n sizeOf i in
       cond-all (λ (xs : List Structure). memberCount xs ≤ n) (isStructure (shapeOf (rowAt rows i .kind))) (λ t. omega arith) (λ t. omega arith)

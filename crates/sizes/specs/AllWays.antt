@@ -16,7 +16,7 @@ use Rattle.sizes.specs.Size.{shapeOf}
 use Rattle.sizes.specs.SizeWays.{Ready}
 use Rattle.sizes.specs.Known.{knownWidth, knownAt}
 use Rattle.sizes.specs.Layout.{isStructure, layoutAt, laidWidth}
-use Rattle.sizes.specs.All.{Structure, keptIf, structureAt, structuresFrom, countsOf, structureWords, structureWidth, memberWords, memberCount}
+use Rattle.sizes.specs.All.{Structure, alsoIf, structureAt, structuresFrom, countsOf, structureWords, structureWidth, memberWords, memberCount}
 use Rattle.sizes.specs.declared.sized.Sized.{Sized}
 use Rattle.sizes.specs.declared.sized.Sized.the-variants.{Is, Refused}
 use Rattle.sizes.specs.declared.layout.LayoutWhole.{LayoutWhole}
@@ -25,7 +25,7 @@ use Rattle.sizes.specs.declared.all.LayoutCounts.{LayoutCounts}
 
 -- row i, if it is a structure
 unfoldable pub rowStructures : Settings → List ℕ → List ℕ → List ℕ → ℕ → («Type» → Sized) → ℕ → List Structure
-rowStructures settings s rows attrs n sizeOf i = keptIf (isStructure (shapeOf (rowAt rows i .kind))) (structureAt settings s rows attrs n sizeOf i) []
+rowStructures settings s rows attrs n sizeOf i = alsoIf (isStructure (shapeOf (rowAt rows i .kind))) (structureAt settings s rows attrs n sizeOf i) []
 
 unfoldable pub eightWords : ℕ → ℕ → ℕ → ℕ → ℕ → ℕ → Name → List ℕ
 eightWords row number size place first many name = row ∷ number ∷ size ∷ place ∷ first ∷ many ∷ namePlace name ∷ nameLength name ∷ []

@@ -35,7 +35,7 @@ use Rattle.records.specs.Scan.{runOf, attributeAt, expected, expectedForm, isTy
 use Rattle.records.specs.Taken.{takenBy, takes}
 use Rattle.records.specs.Unions.{andMember, memberThen}
 use Rattle.sizes.specs.Layout.{laidMember, andLaid, layThen, endOr, laidFrom, isStructure, isBounded, sizeOrLargest, ownSize, membersLaid, shapeLaid, rowLay, layoutBy, layoutAt, laidWords, layInto, intoRoom, layoutOf}
-use Rattle.sizes.specs.Size.{kindSize, typeSizeBy, childThen, membersFrom, membersBy, membersOf, sizeOr, memberSize, sizeOrEnds, membersSize, shapeOf, shapeSize, entryAt, foundSize, entrySize, typeSize, sizeOfKey}
+use Rattle.sizes.specs.Size.{fundamentalSize, kindSize, typeSizeBy, childThen, membersFrom, membersBy, membersOf, sizeOr, memberSize, sizeOrEnds, membersSize, shapeOf, shapeSize, rowSize, foundSize, entrySize, typeSize, sizeOfKey}
 use Rattle.records.specs.Fields as fields
 
 -- its rows and its attributes as the words of a table
@@ -57,5 +57,5 @@ countsA = record { rows = 3; attrs = 4 }
 pub input-a : (sizeOfKey settingsA [] sizesA inputA rowsA attrsA countsA 0 ≡ sized.Is 4)
     × (layoutOf settingsA [] sizesA inputA rowsA attrsA countsA 0 (7 ∷ 7 ∷ 7 ∷ 7 ∷ 7 ∷ [])
     ≡ record { answer = layout.Is (record { row = 0; size = 4; members = 1 }); room = 0 ∷ 4 ∷ 0 ∷ 0 ∷ 7 ∷ [] })
-unfolding sizeOfKey tested entrySize afterTests settingsHold vendorsHold rolesHold roleHolds roleForm rolesDiffer fundTypes tableHolds fitting rowsHold rowHolds rowAt member tags runHolds attrHolds known attributeKinds attrAt valueEnd formOf lookup fixedEnd there blockEnd readAt valueOf endianOf foundSize rowOfKey rowFrom entryAt shapeSize shapeOf membersSize membersOf membersBy childWalk walkFrom stops nextRow nextFrom erasedRow siblingRow siblingBy referenceOf referenceBy attributeOf attrFrom wants asReference rowNumber meets membersFrom nonNull nullRow childThen memberThen memberAt unless frontOf orElse headOf kindFault kindTaken faultsFrom runOf faultAt attributeFault takes takenBy attributeAt formFault isForm formNumber expectedForm plays expected contentFault isType typedFault typeAt fundType fundamental knownType parseInt fundTypeOf endsOf modified withModifiers modifiersOf allKnown locationFault locatedFault shapeOperand blockAt partAt childlessFault memberFields typedBy typeOf typeBy fields.lastOf lastFrom isSought replaced memberPlaced placedBy offsetField offsetBy offsetIn asOffset memberWith withBits bitsBy wordOf wordBy andMember sizeOrEnds wordIn asWord wordAt asValue layoutOf inRow rowBy rowLay layoutAt isStructure shapeLaid membersLaid layoutBy laidFrom layThen endOr andLaid laidMember memberSize sizeOr isBounded ownSize sizeOrLargest intoRoom layInto laidWords namePlace nameLength nameOf nameBy typeSize typeSizeBy kindSize indexOf anyPointer operandAt
+unfolding sizeOfKey tested entrySize afterTests settingsHold vendorsHold rolesHold roleHolds roleForm rolesDiffer fundTypes tableHolds fitting rowsHold rowHolds rowAt member tags runHolds attrHolds known attributeKinds attrAt valueEnd formOf lookup fixedEnd there blockEnd readAt valueOf endianOf foundSize rowOfKey rowFrom rowSize shapeSize shapeOf membersSize membersOf membersBy childWalk walkFrom stops nextRow nextFrom erasedRow siblingRow siblingBy referenceOf referenceBy attributeOf attrFrom wants asReference rowNumber meets membersFrom nonNull nullRow childThen memberThen memberAt unless frontOf orElse headOf kindFault kindTaken faultsFrom runOf faultAt attributeFault takes takenBy attributeAt formFault isForm formNumber expectedForm plays expected contentFault isType typedFault typeAt fundType fundamental knownType parseInt fundTypeOf endsOf modified withModifiers modifiersOf allKnown locationFault locatedFault shapeOperand blockAt partAt childlessFault memberFields typedBy typeOf typeBy fields.lastOf lastFrom isSought replaced memberPlaced placedBy offsetField offsetBy offsetIn asOffset memberWith withBits bitsBy wordOf wordBy andMember sizeOrEnds wordIn asWord wordAt asValue layoutOf inRow rowBy rowLay layoutAt isStructure shapeLaid membersLaid layoutBy laidFrom layThen endOr andLaid laidMember memberSize sizeOr isBounded ownSize sizeOrLargest intoRoom layInto laidWords namePlace nameLength nameOf nameBy typeSize typeSizeBy kindSize fundamentalSize indexOf anyPointer operandAt
 input-a = (refl, refl)

@@ -4,14 +4,16 @@ use native.Mathlib.Omega.{arith}
 use mathlib.Core.Path.{_≡_, refl, sym, ap, _∙_, subst, fun-ext}
 use mathlib.Core.Bool.{Bool, true, false, cond}
 use mathlib.Core.List.{List, []}
-use lib.ListN.{length}
-use lib.Dec.{eqb}
+use lib.ListN.{length, getD}
+use lib.Dec.{eqb, ltb}
 use borrow.Author.Tests.{ne-eqb, eq-eqb}
 use Rattle.numbers.specs.declared.Endian.{Endian}
 use Rattle.format.specs.TagKind as tag
 use Rattle.format.specs.Refusal.{numberOf}
 use Rattle.format.specs.declared.settings.Settings.{Settings}
 use Rattle.format.specs.declared.refusal.Refusal.{Refusal}
+use Rattle.format.specs.Lookup.{indexOf}
+use Rattle.format.specs.FundType.{fundTypes}
 use Rattle.format.specs.declared.refusal.Reason.the-variants as reason
 use Rattle.blocks.specs.declared.types.Type.{«Type»}
 use Rattle.blocks.specs.declared.types.TypeKind.{TypeKind}
@@ -30,7 +32,7 @@ use Rattle.records.specs.declared.fields.Word.{Word}
 use Rattle.records.specs.declared.fields.Word.the-variants as word
 use Rattle.records.specs.declared.member.MemberRead.{MemberRead}
 use Rattle.records.specs.declared.member.MemberRead.the-variants as read
-use Rattle.sizes.specs.Size.{kindSize, typeSizeBy, sizeOr, foundSize, shapeOf}
+use Rattle.sizes.specs.Size.{fundamentalSize, kindSize, typeSizeBy, sizeOr, foundSize, shapeOf}
 use Rattle.sizes.specs.Known.{knownAt}
 use Rattle.sizes.specs.Ways.{readFault, memberFault, structureFault}
 use Rattle.sizes.specs.SizeWays.{withSize, readAdded, memberAdded, knownFound, entryFrom, typeFrom}
@@ -121,9 +123,18 @@ module _ (sizes rows : List ℕ) (n : ℕ) (known : List ℕ) where
   found-kept key (found.At i) = refl
   found-kept key found.Nothing = refl
 
+  line-kept : (b : Bool) (size : ℕ) → sizeKept known (cond b (Is size) (Refused (refusedAt 0 reason.Number))) ≡ cond b (Is size) (Refused (refusedAt 0 reason.Number))
+  unfolding sizeKept numberOf
+  line-kept true size = refl
+  line-kept false size = refl
+
+  fundamental-kept : (number : ℕ) → sizeKept known (fundamentalSize sizes number) ≡ fundamentalSize sizes number
+  unfolding fundamentalSize
+  fundamental-kept number = line-kept (ltb (indexOf number fundTypes) (length sizes)) (getD sizes (indexOf number fundTypes) 0)
+
   kind-kept : (k : TypeKind) → sizeKept known (kindSize sizes (rowNamed rows n) k) ≡ kindSize sizes entryKnown k
   unfolding kindSize rowNamed sizeKept
-  kind-kept (kind.Fundamental number) = refl
+  kind-kept (kind.Fundamental number) = fundamental-kept number
   kind-kept (kind.UserDefined key) = found-kept key (rowOfKey rows n key)
 
   pointer-kept : (b : Bool) (k : TypeKind) → sizeKept known (cond b (Is 4) (kindSize sizes (rowNamed rows n) k)) ≡ cond b (Is 4) (kindSize sizes entryKnown k)

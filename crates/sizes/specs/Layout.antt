@@ -45,7 +45,7 @@ pub record Laid : Type 0 where
 -- the members and their largest end, which is the size without ByteSize; or a refusal, and then no member is laid
 pub data Lay : Type 0 where
   laid : List Laid → ℕ → Lay
-  nowhere : Refusal → Lay
+  unlaid : Refusal → Lay
 
 -- a member with its size; without a name, place and length are 0
 unfoldable pub laidMember : Placed → ℕ → Laid
@@ -55,12 +55,12 @@ laidMember m size =
 -- one member more, before the others
 unfoldable pub andLaid : Laid → Lay → Lay
 andLaid x (laid xs largest) = laid (x ∷ xs) largest
-andLaid x (nowhere why) = nowhere why
+andLaid x (unlaid why) = unlaid why
 
 -- what follows a size; a refusal goes up as it is, with its place
 unfoldable pub layThen : (ℕ → Lay) → Sized → Lay
 layThen next (Is size) = next size
-layThen next (Refused why) = nowhere why
+layThen next (Refused why) = unlaid why
 
 -- the largest end so far, 20 at the Member where it passes 32 bits; with a ByteSize (`bounded`) no end is taken for a size, so none is tested
 unfoldable pub endOr : Bool → ℕ → ℕ → ℕ → Sized
@@ -102,11 +102,11 @@ module _ (settings : Settings) (s rows attrs : List ℕ) (n : ℕ) (sizeOf : «T
   -- a structure laid out: what its Member records refuse comes first, ByteSize or not
   unfoldable pub membersLaid : Members → Lay
   membersLaid (members ms) = laidFrom rows sizeOf (isBounded ownSize) 0 ms
-  membersLaid (refused why) = nowhere why
+  membersLaid (refused why) = unlaid why
 
   -- only a structure or a class has a layout: 12 at any other row
   unfoldable pub shapeLaid : Shape → Lay
-  shapeLaid x = cond (isStructure x) (membersLaid (membersOf settings s rows attrs n i)) (nowhere (refusedAt (rowAt rows i .key) reason.Kind))
+  shapeLaid x = cond (isStructure x) (membersLaid (membersOf settings s rows attrs n i)) (unlaid (refusedAt (rowAt rows i .key) reason.Kind))
 
   -- the members of row i laid out
   unfoldable pub rowLay : Lay
@@ -115,7 +115,7 @@ module _ (settings : Settings) (s rows attrs : List ℕ) (n : ℕ) (sizeOf : «T
   -- what is answered for a row that was laid out, or refused
   unfoldable pub layoutBy : Lay → LayoutWhole
   layoutBy (laid xs largest) = whole.Is (record { row = i; size = sizeOrLargest largest ownSize; members = length xs })
-  layoutBy (nowhere why) = whole.Refused why
+  layoutBy (unlaid why) = whole.Refused why
 
   -- row i's layout: row number, size, how many members; no room is looked at yet
   unfoldable pub layoutAt : LayoutWhole
@@ -144,7 +144,7 @@ outcome answer room = record { answer = answer; room = room }
 -- the members into the room; nothing is written on a refusal
 unfoldable pub layInto : List ℕ → Lay → LayoutRead → Outcome
 layInto room (laid xs largest) answer = outcome answer (sets room 0 (laidWords xs))
-layInto room (nowhere why) answer = outcome answer room
+layInto room (unlaid why) answer = outcome answer room
 
 -- 8, with how many members there are, where the room is too short for all: nothing is written
 unfoldable pub intoRoom : List ℕ → Lay → LayoutWhole → Outcome

@@ -21,7 +21,7 @@ use Rattle.records.specs.Unions.{Placed, Members, members, refused}
 use Rattle.records.specs.declared.fields.Word.{Word}
 use Rattle.records.specs.declared.fields.Word.the-variants as word
 use Rattle.sizes.specs.Size.{sizeLimit, membersOf, memberSize, larger, endThen, shapeOf, typeSize}
-use Rattle.sizes.specs.Layout.{Laid, Lay, laid, nowhere, laidMember, andLaid, layThen, endOr, laidFrom, isStructure, isBounded, sizeOrLargest, ownSize, membersLaid, shapeLaid, rowLay, layoutAt, laidWords, laidWidth, layoutOf, LayoutGiven}
+use Rattle.sizes.specs.Layout.{Laid, Lay, laid, unlaid, laidMember, andLaid, layThen, endOr, laidFrom, isStructure, isBounded, sizeOrLargest, ownSize, membersLaid, shapeLaid, rowLay, layoutAt, laidWords, laidWidth, layoutOf, LayoutGiven}
 use Rattle.sizes.specs.LayoutFilled.{Filled, LaidAs, laid-as, layout-filled}
 use Rattle.sizes.specs.declared.prepare.Shape.{Shape}
 use Rattle.sizes.specs.declared.prepare.Shape.the-variants as shape
@@ -41,7 +41,7 @@ Inside size (x ∷ xs) = (x .offset + x .size ≤ size) × Inside size xs
 
 abbrev inside : ℕ → Lay → Type 0
 inside largest (laid xs most) = (largest ≤ most) × Inside most xs
-inside largest (nowhere why) = Unit
+inside largest (unlaid why) = Unit
 
 larger-first : (a b : ℕ) → a ≤ larger a b
 unfolding larger
@@ -58,7 +58,7 @@ larger-second a b =
 and-inside : (x : Laid) (largest next : ℕ) (lay : Lay) → largest ≤ next → x .offset + x .size ≤ next → inside next lay → inside largest (andLaid x lay)
 unfolding andLaid Inside
 and-inside x largest next (laid xs most) a b h = (le-trans a (h .0), (le-trans b (h .0), h .1))
-and-inside x largest next (nowhere why) a b h = tt
+and-inside x largest next (unlaid why) a b h = tt
 
 module _ (f : ℕ → Lay) (rest : (next : ℕ) → inside next (f next)) (largest key : ℕ) where
   -- an end, then what goes on from it
@@ -122,7 +122,7 @@ module _ (settings : Settings) (s rows attrs : List ℕ) (n : ℕ) (sizeOf : «T
     where
       these-inside : ℕ → Lay → Type 0
       these-inside size (laid ys most) = Inside size ys
-      these-inside size (nowhere why) = Unit
+      these-inside size (unlaid why) = Unit
 
 -- ---- the words in the room
 

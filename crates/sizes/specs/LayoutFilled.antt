@@ -19,7 +19,7 @@ use Rattle.links.specs.TypedLaws.{in-row, no-row, keyed-asked, keyed-key}
 use Rattle.links.specs.declared.typed.Keyed.{Keyed}
 use Rattle.links.specs.declared.typed.Keyed.the-variants as keyed
 use Rattle.sizes.specs.Size.{typeSize}
-use Rattle.sizes.specs.Layout.{Laid, Lay, laid, nowhere, sizeOrLargest, ownSize, rowLay, layoutBy, layoutAt, laidWords, laidWidth, Outcome, layInto, intoRoom, layoutOf, LayoutGiven}
+use Rattle.sizes.specs.Layout.{Laid, Lay, laid, unlaid, sizeOrLargest, ownSize, rowLay, layoutBy, layoutAt, laidWords, laidWidth, Outcome, layInto, intoRoom, layoutOf, LayoutGiven}
 use Rattle.sizes.specs.LayoutLaws.{words-long}
 use Rattle.sizes.specs.declared.sized.Sized.{Sized}
 use Rattle.sizes.specs.declared.layout.Layout.{Layout}
@@ -69,7 +69,7 @@ module _ (settings : Settings) (s rows attrs : List ℕ) (n : ℕ) (sizeOf : «T
         size-is = ap (λ (y : Layout). y .size) same;
         many = ap (λ (y : Layout). y .members) same;
       }
-  by-lay (nowhere why) {x} p = absurd (subst (isThis x) (sym p) refl)
+  by-lay (unlaid why) {x} p = absurd (subst (isThis x) (sym p) refl)
 
   pub laid-as : {x : Layout} → layoutAt settings s rows attrs n sizeOf i ≡ whole.Is x → LaidAs (rowLay settings s rows attrs n sizeOf i) x
   unfolding layoutAt
@@ -88,7 +88,7 @@ outcome answer room = record { answer = answer; room = room }
 pub into-answer : (room : List ℕ) (lay : Lay) (answer : LayoutRead) → layInto room lay answer .answer ≡ answer
 unfolding layInto
 into-answer room (laid xs l) answer = refl
-into-answer room (nowhere why) answer = refl
+into-answer room (unlaid why) answer = refl
 
 module _ (room : List ℕ) (lay : Lay) where
   -- a layout was read whole, and its members fit

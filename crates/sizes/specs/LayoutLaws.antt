@@ -57,7 +57,7 @@ use Rattle.sizes.specs.Size.{shapeOf, childThen, membersFrom, membersOf,
 use Rattle.sizes.specs.Ways.{structureFault}
 use Rattle.sizes.specs.SizeWays.{EndsShort, withSize, readAdded, grown, memberAdded, entryFrom, typeFrom}
 use Rattle.sizes.specs.KeptWays.{AllKept, LayoutAsked}
-use Rattle.sizes.specs.Layout.{Laid, Lay, laid, nowhere, laidMember, andLaid, layThen, endOr, laidFrom, isStructure, isBounded, sizeOrLargest, ownSize, membersLaid, shapeLaid, rowLay, layoutBy, layoutAt, laidWords, laidWidth, Outcome, layInto, intoRoom, layoutOf, LayoutGiven}
+use Rattle.sizes.specs.Layout.{Laid, Lay, laid, unlaid, laidMember, andLaid, layThen, endOr, laidFrom, isStructure, isBounded, sizeOrLargest, ownSize, membersLaid, shapeLaid, rowLay, layoutBy, layoutAt, laidWords, laidWidth, Outcome, layInto, intoRoom, layoutOf, LayoutGiven}
 use Rattle.sizes.specs.LayoutWays.{laidAt, sizedLaid, addedLaid, LayAsked, layBefore, layOn, readLaid, childLaid, childrenLaid, faultLaid, structureLaid, layingOf, Lays, WholeLaid}
 use Rattle.sizes.specs.WalkingLaws.{Walking, walking-begins, walking-ends, walking-stops, walking-asked, walking-less, walking-on}
 use Rattle.sizes.specs.PrepareLaws.{AllRead, fault-members, refused-members}
@@ -79,11 +79,11 @@ use Rattle.sizes.specs.declared.layout.Laying.the-variants as laying
 -- what each answer says
 abbrev areLaid : List Laid → Lay → Type 0
 areLaid xs (laid ys largest) = xs ≡ ys
-areLaid xs (nowhere why) = ⊥
+areLaid xs (unlaid why) = ⊥
 
 abbrev pub isNowhere : Lay → Type 0
 isNowhere (laid xs largest) = ⊥
-isNowhere (nowhere why) = Unit
+isNowhere (unlaid why) = Unit
 
 abbrev isLaying : ℕ → ℕ → Laying → Type 0
 isLaying k largest (laying.Is m l) = (k ≡ m) × (largest ≡ l)
@@ -149,9 +149,9 @@ module _ {lay : Lay} {k : ℕ} {room room′ : List ℕ} where
         same-room = ap length q ∙ length-sets room (k * laidWidth) (laidWords xs);
       }
 
-  lays-nowhere : {why : Refusal} → nowhere why ≡ lay → length room′ ≡ length room → Lays lay k (laying.Refused why) room room′
+  lays-unlaid : {why : Refusal} → unlaid why ≡ lay → length room′ ≡ length room → Lays lay k (laying.Refused why) room room′
   unfolding layingOf
-  lays-nowhere p q = record { answer-is = ap (layingOf k) p; room-is = λ ys l e. absurd (subst isNowhere (p ∙ e) tt); same-room = q }
+  lays-unlaid p q = record { answer-is = ap (layingOf k) p; room-is = λ ys l e. absurd (subst isNowhere (p ∙ e) tt); same-room = q }
 
 -- ---- a member whose size is known
 
@@ -172,7 +172,7 @@ module _ (e : Endian) (s rows attrs : List ℕ) (bounded : Bool) (largest c offs
   pub sized-endless : {why : Refusal} {k : ℕ} {room : List ℕ} → end ≡ Refused why
       → Lays (sizedLaid e s rows attrs bounded largest c offset size) k (laying.Refused why) room room
   unfolding layThen
-  sized-endless p = lays-nowhere (end-is p) refl
+  sized-endless p = lays-unlaid (end-is p) refl
 
 -- ---- a member's name is what its row says
 
@@ -249,7 +249,7 @@ module _ (settings : Settings) (s rows attrs : List ℕ) (n : ℕ) (sizeOf : «T
       pub child-refused : {why : Refusal} {k : ℕ} {room : List ℕ} → told ≡ added.Refused why
           → Lays (childLaid settings s rows attrs n sizeOf bounded largest c) k (laying.Refused why) room room
       unfolding addedLaid
-      child-refused p = lays-nowhere (child-adds p) refl
+      child-refused p = lays-unlaid (child-adds p) refl
 
     pub child-other : {k : ℕ} {room : List ℕ} → (row .kind ≡ tag.Member → ⊥)
         → Lays (childLaid settings s rows attrs n sizeOf bounded largest c) k (laying.Is k largest) room room
@@ -263,7 +263,7 @@ module _ (settings : Settings) (s rows attrs : List ℕ) (n : ℕ) (sizeOf : «T
 
 abbrev fewLaid : Lay → Type 0
 fewLaid (laid xs largest) = length xs ≤ 1
-fewLaid (nowhere why) = Unit
+fewLaid (unlaid why) = Unit
 
 few-after : (x : Laid) (s : Sized) → fewLaid (layThen (λ next. laid (x ∷ []) next) s)
 unfolding layThen
@@ -294,7 +294,7 @@ one-more k count largest (laid xs l) few p =
     let many : count ≡ k + length xs = same .0 in
     let one : length xs ≤ 1 = few in
     omega arith
-one-more k count largest (nowhere why) few p = absurd (subst (isLaying count largest) p (refl, refl))
+one-more k count largest (unlaid why) few p = absurd (subst (isLaying count largest) p (refl, refl))
 
 -- ---- the loop over children
 
@@ -305,7 +305,7 @@ pub record Filled : Type 0 where
 
 unfoldable pub roomOf : ℕ → List ℕ → Lay → List ℕ
 roomOf k room (laid xs largest) = sets room (k * laidWidth) (laidWords xs)
-roomOf k room (nowhere why) = []
+roomOf k room (unlaid why) = []
 
 unfoldable pub filled : ℕ → List ℕ → Lay → Filled
 filled k room lay = record { answer = layingOf k lay; room = roomOf k room lay }
@@ -326,7 +326,7 @@ before-filled k room xs (laid ys largest) =
     (ap (λ (at : ℕ). sets (sets room (k * laidWidth) (laidWords xs)) at (laidWords ys)) place
     ∙ sym (sets-append room (k * laidWidth) (laidWords xs) (laidWords ys))
     ∙ ap (sets room (k * laidWidth)) (sym (words-append xs ys)))
-before-filled k room xs (nowhere why) = refl
+before-filled k room xs (unlaid why) = refl
 
 module _ {k : ℕ} {room room′ : List ℕ} (next : ℕ → Lay) where
   on-laid : (lay : Lay) {count largest : ℕ} → Lays lay k (laying.Is count largest) room room′
@@ -338,12 +338,12 @@ module _ {k : ℕ} {room room′ : List ℕ} (next : ℕ → Lay) where
       ∙ ap (λ (x : ℕ). filled (k + length xs) room′ (next x)) (same .1)
       ∙ ap (λ (x : List ℕ). filled (k + length xs) x (next l)) (g .room-is xs l refl)
       ∙ before-filled k room xs (next l)
-  on-laid (nowhere why) {count} {largest} g = absurd (subst (isLaying count largest) (g .answer-is) (refl, refl))
+  on-laid (unlaid why) {count} {largest} g = absurd (subst (isLaying count largest) (g .answer-is) (refl, refl))
 
   on-refused : (lay : Lay) {why : Refusal} → Lays lay k (laying.Refused why) room room′ → filling (laying.Refused why) [] ≡ filled k room (layOn next lay)
   unfolding layOn layingOf filled roomOf
   on-refused (laid xs l) {why} g = absurd (subst (isRefusal why) (g .answer-is) refl)
-  on-refused (nowhere w) {why} g = ap (λ (x : Refusal). filling (laying.Refused x) []) (subst (isRefusal why) (g .answer-is) refl)
+  on-refused (unlaid w) {why} g = ap (λ (x : Refusal). filling (laying.Refused x) []) (subst (isRefusal why) (g .answer-is) refl)
 
 -- from child c on, what is left comes to the whole
 pub record Laying′ (settings : Settings) (s rows attrs : List ℕ) (n end : ℕ) (sizeOf : «Type» → Sized) (bounded : Bool) (all : Lay) (room₀ room : List ℕ)
@@ -440,7 +440,7 @@ areRefused (refused why) = Unit
 before-one : (x : Laid) (lay : Lay) → layBefore (x ∷ []) lay ≡ andLaid x lay
 unfolding layBefore andLaid
 before-one x (laid xs largest) = refl
-before-one x (nowhere why) = refl
+before-one x (unlaid why) = refl
 
 module _ (f g : ℕ → Lay) (same : (x : ℕ) → f x ≡ g x) where
   -- an end, then what goes on from it
@@ -475,7 +475,7 @@ module _ (rows : List ℕ) (sizeOf : «Type» → Sized) (bounded : Bool) (c lar
     before-none : (lay : Lay) → layBefore [] lay ≡ lay
     unfolding layBefore
     before-none (laid xs l) = refl
-    before-none (nowhere why) = refl
+    before-none (unlaid why) = refl
 
     -- a child of whatever kind
     child-then : (b : Bool) (m : MemberRead) → cond b (memberThen c m all) all ≡ members ms
@@ -521,7 +521,7 @@ module _ (settings : Settings) (s rows attrs : List ℕ) (n i : ℕ) where
 
       pub structure-faulty : {why : Refusal} → told ≡ fault.Refused why → Lays (structureLaid settings s rows attrs n sizeOf bounded i) 0 (laying.Refused why) room room
       unfolding structureLaid faultLaid
-      structure-faulty p = lays-nowhere (ap (faultLaid settings s rows attrs n sizeOf bounded i) (sym p ∙ is)) refl
+      structure-faulty p = lays-unlaid (ap (faultLaid settings s rows attrs n sizeOf bounded i) (sym p ∙ is)) refl
 
   -- a structure or class of a table that was tested
   pub layout-asked : {sizes known kept : List ℕ} {row : Row} {b : Bool} → AskedShort s rows n i → AllKept settings sizes s rows attrs n known kept → row ≡ rowAt rows i
@@ -554,7 +554,7 @@ module _ (settings : Settings) (s rows attrs : List ℕ) (n i : ℕ) where
     shape-structure shape.Subroutine p = absurd (true≢false (sym p))
     shape-structure shape.Other p = absurd (true≢false (sym p))
 
-    shape-other : (x : Shape) → isStructure x ≡ false → nowhere (refusedAt (rowAt rows i .key) reason.Kind) ≡ shapeLaid settings s rows attrs n sizeOf i x
+    shape-other : (x : Shape) → isStructure x ≡ false → unlaid (refusedAt (rowAt rows i .key) reason.Kind) ≡ shapeLaid settings s rows attrs n sizeOf i x
     unfolding isStructure shapeLaid
     shape-other shape.Structure p = absurd (true≢false p)
     shape-other shape.Array p = refl
@@ -572,12 +572,12 @@ module _ (settings : Settings) (s rows attrs : List ℕ) (n i : ℕ) where
         let many : count ≡ length xs = same .0 ∙ zero-add (length xs) in
         ap (λ (x : ℕ). whole.Is (record { row = i; size = sizeOrLargest x (ownSize settings s rows attrs n sizeOf i); members = count })) (same .1)
         ∙ ap (λ (x : ℕ). whole.Is (record { row = i; size = sizeOrLargest l (ownSize settings s rows attrs n sizeOf i); members = x })) many
-    laid-answer (nowhere why) {count} {largest} p = absurd (subst (isLaying count largest) p (refl, refl))
+    laid-answer (unlaid why) {count} {largest} p = absurd (subst (isLaying count largest) p (refl, refl))
 
-    nowhere-answer : (lay : Lay) {why : Refusal} → laying.Refused why ≡ layingOf 0 lay → whole.Refused why ≡ layoutBy settings s rows attrs n sizeOf i lay
+    unlaid-answer : (lay : Lay) {why : Refusal} → laying.Refused why ≡ layingOf 0 lay → whole.Refused why ≡ layoutBy settings s rows attrs n sizeOf i lay
     unfolding layingOf layoutBy
-    nowhere-answer (laid xs l) {why} p = absurd (subst (isRefusal why) p refl)
-    nowhere-answer (nowhere w) {why} p = ap whole.Refused (subst (isRefusal why) p refl)
+    unlaid-answer (laid xs l) {why} p = absurd (subst (isRefusal why) p refl)
+    unlaid-answer (unlaid w) {why} p = ap whole.Refused (subst (isRefusal why) p refl)
 
     module _ {row : Row} {b : Bool} (at : row ≡ rowAt rows i) (is : b ≡ isStructure (shapeOf (row .kind))) where
       kind-is : b ≡ isStructure (shapeOf (rowAt rows i .kind))
@@ -587,8 +587,8 @@ module _ (settings : Settings) (s rows attrs : List ℕ) (n i : ℕ) where
           → WholeLaid (layoutAt settings s rows attrs n sizeOf i) (rowLay settings s rows attrs n sizeOf i) (whole.Refused why) room room
       unfolding layoutAt rowLay layoutBy
       whole-other {why} t q =
-          let other : nowhere why ≡ rowLay settings s rows attrs n sizeOf i =
-          ap nowhere (q ∙ ap (λ (r : Row). refusedAt (r .key) reason.Kind) at) ∙ shape-other (shapeOf (rowAt rows i .kind)) (sym kind-is ∙ t) in
+          let other : unlaid why ≡ rowLay settings s rows attrs n sizeOf i =
+          ap unlaid (q ∙ ap (λ (r : Row). refusedAt (r .key) reason.Kind) at) ∙ shape-other (shapeOf (rowAt rows i .kind)) (sym kind-is ∙ t) in
           record {
             answer-is = ap (layoutBy settings s rows attrs n sizeOf i) other;
             room-is = λ xs l e. absurd (subst isNowhere (other ∙ e) tt);
@@ -628,7 +628,7 @@ module _ (settings : Settings) (s rows attrs : List ℕ) (n i : ℕ) where
           unfolding layoutAt
           whole-refused p =
               record {
-                answer-is = nowhere-answer (rowLay settings s rows attrs n sizeOf i) (sym p ∙ told-is);
+                answer-is = unlaid-answer (rowLay settings s rows attrs n sizeOf i) (sym p ∙ told-is);
                 room-is = λ xs l e. g .room-is xs l (row-laid ∙ e);
               }
 
@@ -654,7 +654,7 @@ module _ (settings : Settings) (s rows attrs : List ℕ) (n : ℕ) (sizeOf : «T
   pub answer-laid : (lay : Lay) {x : Layout} → layoutBy settings s rows attrs n sizeOf i lay ≡ whole.Is x → AllLaid lay
   unfolding layoutBy
   answer-laid (laid xs l) p = record { list = xs; most = l; are = refl }
-  answer-laid (nowhere why) p = absurd (subst isNone p tt)
+  answer-laid (unlaid why) p = absurd (subst isNone p tt)
 
   module _ (room : List ℕ) {told : LayoutWhole} (is : told ≡ layoutAt settings s rows attrs n sizeOf i) where
     abbrev given : LayoutRead → List ℕ → Type 0
@@ -683,9 +683,9 @@ module _ (settings : Settings) (s rows attrs : List ℕ) (n : ℕ) (sizeOf : «T
       pub give-unfit : length room / laidWidth < x .members → given (layout.Room (x .members)) room
       give-unfit h = given-as (test-failed refl _ (lt-leb (x .members) (length room / laidWidth) h) refl ∙ into-is)
 
-    pub give-nowhere : {why : Refusal} → told ≡ whole.Refused why → given (layout.Refused why) room
+    pub give-unlaid : {why : Refusal} → told ≡ whole.Refused why → given (layout.Refused why) room
     unfolding intoRoom
-    give-nowhere p = given-as (ap (intoRoom room (rowLay settings s rows attrs n sizeOf i)) (sym p ∙ is))
+    give-unlaid p = given-as (ap (intoRoom room (rowLay settings s rows attrs n sizeOf i)) (sym p ∙ is))
 
 module _ (settings : Settings) (vendors sizes s rows attrs : List ℕ) (counts : Counts) (key : ℕ) (room : List ℕ) {told : Keyed}
     (is : told ≡ inRow settings vendors sizes s rows attrs counts key keyed.Refused keyed.Row) where
@@ -705,6 +705,6 @@ module _ (settings : Settings) (vendors sizes s rows attrs : List ℕ) (counts :
   layout-there {r = r} {room′ = room′} p g =
       subst (λ (o : Outcome). LayoutGiven o r room′) (in-row settings vendors sizes s rows attrs counts key is kept there p) g
 
-  pub layout-nowhere : {why : Refusal} → told ≡ keyed.Refused why → LayoutGiven (layoutOf settings vendors sizes s rows attrs counts key room) (layout.Refused why) room
+  pub layout-unlaid : {why : Refusal} → told ≡ keyed.Refused why → LayoutGiven (layoutOf settings vendors sizes s rows attrs counts key room) (layout.Refused why) room
   unfolding layoutOf
-  layout-nowhere p = given-as (no-row settings vendors sizes s rows attrs counts key is kept there p)
+  layout-unlaid p = given-as (no-row settings vendors sizes s rows attrs counts key is kept there p)

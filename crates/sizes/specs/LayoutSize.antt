@@ -23,9 +23,9 @@ use Rattle.links.specs.Typed.{rowBy, inRow}
 use Rattle.records.specs.Unions.{Placed, Members, members, refused}
 use Rattle.records.specs.declared.fields.Word.{Word}
 use Rattle.records.specs.declared.fields.Word.the-variants as word
-use Rattle.sizes.specs.Size.{sizeLimit, sizeThen, membersOf, memberSize, larger, endThen, endsFrom, sizeOrEnds, membersSize, shapeOf, shapeSize, entryAt, foundSize, entrySize, typeSize, sizeOfKey}
+use Rattle.sizes.specs.Size.{sizeLimit, sizeThen, membersOf, memberSize, larger, endThen, endsFrom, sizeOrEnds, membersSize, shapeOf, shapeSize, rowSize, foundSize, entrySize, typeSize, sizeOfKey}
 use Rattle.sizes.specs.SizeLaws.{entry-more}
-use Rattle.sizes.specs.Layout.{Laid, Lay, laid, nowhere, laidMember, andLaid, layThen, endOr, laidFrom, isStructure, isBounded, sizeOrLargest, ownSize, membersLaid, shapeLaid, rowLay, layoutBy, layoutAt, laidWidth, Outcome, layInto, intoRoom, layoutOf}
+use Rattle.sizes.specs.Layout.{Laid, Lay, laid, unlaid, laidMember, andLaid, layThen, endOr, laidFrom, isStructure, isBounded, sizeOrLargest, ownSize, membersLaid, shapeLaid, rowLay, layoutBy, layoutAt, laidWidth, Outcome, layInto, intoRoom, layoutOf}
 use Rattle.sizes.specs.LayoutLaws.{isNowhere}
 use Rattle.sizes.specs.LayoutFilled.{LaidAs, laid-as, into-answer, fits}
 use Rattle.sizes.specs.declared.prepare.Shape.{Shape}
@@ -62,12 +62,12 @@ isRefusal why (Refused w) = w ≡ why
 -- a layout's largest end
 abbrev endIn : Lay → Sized
 endIn (laid xs largest) = Is largest
-endIn (nowhere why) = Refused why
+endIn (unlaid why) = Refused why
 
 and-end : (x : Laid) (lay : Lay) → endIn (andLaid x lay) ≡ endIn lay
 unfolding andLaid
 and-end x (laid xs largest) = refl
-and-end x (nowhere why) = refl
+and-end x (unlaid why) = refl
 
 module _ (f : ℕ → Lay) (g : ℕ → Sized) (same : (next : ℕ) → endIn (f next) ≡ g next) where
   -- an end, then what goes on from it
@@ -93,9 +93,9 @@ module _ (rows : List ℕ) (sizeOf : «Type» → Sized) where
       sized-then (λ (next : ℕ). laidFrom rows sizeOf false next ms) (λ (next : ℕ). endsFrom rows sizeOf next ms) (λ next. ends-same next ms) (laidMember m)
       (rowAt rows (m .row) .key) largest (m .member .offset) (memberSize sizeOf m)
 
-  nowhere-end : (lay : Lay) {why : Refusal} → endIn lay ≡ Refused why → lay ≡ nowhere why
-  nowhere-end (laid xs l) p = absurd (subst isSize p tt)
-  nowhere-end (nowhere w) {why} p = ap nowhere (subst (isRefusal why) (sym p) refl)
+  unlaid-end : (lay : Lay) {why : Refusal} → endIn lay ≡ Refused why → lay ≡ unlaid why
+  unlaid-end (laid xs l) p = absurd (subst isSize p tt)
+  unlaid-end (unlaid w) {why} p = ap unlaid (subst (isRefusal why) (sym p) refl)
 
   -- with a ByteSize or without one
   laid-sized : (w : Word) (ms : List Placed) {xs : List Laid} {largest : ℕ} → laidFrom rows sizeOf (isBounded w) 0 ms ≡ laid xs largest
@@ -104,16 +104,16 @@ module _ (rows : List ℕ) (sizeOf : «Type» → Sized) where
   laid-sized (word.Is size) ms p = refl
   laid-sized word.Nothing ms p = sym (ends-same 0 ms) ∙ ap endIn p
 
-  sized-nowhere : (w : Word) (ms : List Placed) {why : Refusal} → sizeOrEnds rows sizeOf ms w ≡ Refused why → laidFrom rows sizeOf (isBounded w) 0 ms ≡ nowhere why
+  sized-unlaid : (w : Word) (ms : List Placed) {why : Refusal} → sizeOrEnds rows sizeOf ms w ≡ Refused why → laidFrom rows sizeOf (isBounded w) 0 ms ≡ unlaid why
   unfolding isBounded sizeOrEnds
-  sized-nowhere (word.Is size) ms p = absurd (subst isSize p tt)
-  sized-nowhere word.Nothing ms p = nowhere-end (laidFrom rows sizeOf false 0 ms) (ends-same 0 ms ∙ p)
+  sized-unlaid (word.Is size) ms p = absurd (subst isSize p tt)
+  sized-unlaid word.Nothing ms p = unlaid-end (laidFrom rows sizeOf false 0 ms) (ends-same 0 ms ∙ p)
 
-  nowhere-sized : (w : Word) (ms : List Placed) {why : Refusal} → isBounded w ≡ false → laidFrom rows sizeOf (isBounded w) 0 ms ≡ nowhere why
+  unlaid-sized : (w : Word) (ms : List Placed) {why : Refusal} → isBounded w ≡ false → laidFrom rows sizeOf (isBounded w) 0 ms ≡ unlaid why
       → sizeOrEnds rows sizeOf ms w ≡ Refused why
   unfolding isBounded sizeOrEnds
-  nowhere-sized (word.Is size) ms t p = absurd (true≢false t)
-  nowhere-sized word.Nothing ms t p = sym (ends-same 0 ms) ∙ ap endIn p
+  unlaid-sized (word.Is size) ms t p = absurd (true≢false t)
+  unlaid-sized word.Nothing ms t p = sym (ends-same 0 ms) ∙ ap endIn p
 
 -- ---- a row
 
@@ -128,16 +128,16 @@ module _ (settings : Settings) (s rows attrs : List ℕ) (n : ℕ) (sizeOf : «T
   members-laid (refused why) p = absurd (subst isNowhere p tt)
 
   members-sizeless : (all : Members) {why : Refusal} → membersSize rows sizeOf own all ≡ Refused why
-      → membersLaid settings s rows attrs n sizeOf i all ≡ nowhere why
+      → membersLaid settings s rows attrs n sizeOf i all ≡ unlaid why
   unfolding membersLaid membersSize
-  members-sizeless (members ms) p = sized-nowhere rows sizeOf own ms p
-  members-sizeless (refused w) {why} p = ap nowhere (subst (isRefusal why) (sym p) refl)
+  members-sizeless (members ms) p = sized-unlaid rows sizeOf own ms p
+  members-sizeless (refused w) {why} p = ap unlaid (subst (isRefusal why) (sym p) refl)
 
-  members-nowhere : (all : Members) {why : Refusal} → isBounded own ≡ false → membersLaid settings s rows attrs n sizeOf i all ≡ nowhere why
+  members-unlaid : (all : Members) {why : Refusal} → isBounded own ≡ false → membersLaid settings s rows attrs n sizeOf i all ≡ unlaid why
       → membersSize rows sizeOf own all ≡ Refused why
   unfolding membersLaid membersSize
-  members-nowhere (members ms) t p = nowhere-sized rows sizeOf own ms t p
-  members-nowhere (refused w) t p = ap endIn p
+  members-unlaid (members ms) t p = unlaid-sized rows sizeOf own ms t p
+  members-unlaid (refused w) t p = ap endIn p
 
   shape-sized : (x : Shape) {xs : List Laid} {largest : ℕ} → shapeLaid settings s rows attrs n sizeOf i x ≡ laid xs largest
       → shapeSize settings s rows attrs n sizeOf i x ≡ Is (sizeOrLargest largest own)
@@ -151,8 +151,8 @@ module _ (settings : Settings) (s rows attrs : List ℕ) (n : ℕ) (sizeOf : «T
   shape-sized shape.Other p = absurd (subst isNowhere p tt)
 
   -- the size of a row's layout is the row's size
-  pub row-layout-size : {x : Layout} → layoutAt settings s rows attrs n sizeOf i ≡ whole.Is x → entryAt settings s rows attrs n sizeOf i ≡ Is (x .size)
-  unfolding rowLay entryAt
+  pub row-layout-size : {x : Layout} → layoutAt settings s rows attrs n sizeOf i ≡ whole.Is x → rowSize settings s rows attrs n sizeOf i ≡ Is (x .size)
+  unfolding rowLay rowSize
   row-layout-size {x} p =
       let these : LaidAs settings s rows attrs n sizeOf i (rowLay settings s rows attrs n sizeOf i) x = laid-as settings s rows attrs n sizeOf i p in
       shape-sized (shapeOf (rowAt rows i .kind)) (these .are) ∙ ap Is (these .size-is)
@@ -168,8 +168,8 @@ module _ (settings : Settings) (s rows attrs : List ℕ) (n : ℕ) (sizeOf : «T
     shape-is shape.Subroutine t = absurd (true≢false (sym t))
     shape-is shape.Other t = absurd (true≢false (sym t))
 
-    size-is : entryAt settings s rows attrs n sizeOf i ≡ membersSize rows sizeOf own (membersOf settings s rows attrs n i)
-    unfolding entryAt shapeSize ownSize
+    size-is : rowSize settings s rows attrs n sizeOf i ≡ membersSize rows sizeOf own (membersOf settings s rows attrs n i)
+    unfolding rowSize shapeSize ownSize
     size-is = ap (shapeSize settings s rows attrs n sizeOf i) (shape-is (shapeOf (rowAt rows i .kind)) structure)
 
     lay-is : rowLay settings s rows attrs n sizeOf i ≡ membersLaid settings s rows attrs n sizeOf i (membersOf settings s rows attrs n i)
@@ -177,7 +177,7 @@ module _ (settings : Settings) (s rows attrs : List ℕ) (n : ℕ) (sizeOf : «T
     lay-is = ap (shapeLaid settings s rows attrs n sizeOf i) (shape-is (shapeOf (rowAt rows i .kind)) structure)
 
     -- no size, no layout
-    pub row-size-refused : {why : Refusal} → entryAt settings s rows attrs n sizeOf i ≡ Refused why → layoutAt settings s rows attrs n sizeOf i ≡ whole.Refused why
+    pub row-size-refused : {why : Refusal} → rowSize settings s rows attrs n sizeOf i ≡ Refused why → layoutAt settings s rows attrs n sizeOf i ≡ whole.Refused why
     unfolding layoutAt layoutBy
     row-size-refused p =
         ap (layoutBy settings s rows attrs n sizeOf i) (lay-is ∙ members-sizeless (membersOf settings s rows attrs n i) (sym size-is ∙ p))
@@ -186,17 +186,17 @@ module _ (settings : Settings) (s rows attrs : List ℕ) (n : ℕ) (sizeOf : «T
     isRefused why (whole.Is x) = ⊥
     isRefused why (whole.Refused w) = w ≡ why
 
-    refused-lay : (lay : Lay) {why : Refusal} → layoutBy settings s rows attrs n sizeOf i lay ≡ whole.Refused why → lay ≡ nowhere why
+    refused-lay : (lay : Lay) {why : Refusal} → layoutBy settings s rows attrs n sizeOf i lay ≡ whole.Refused why → lay ≡ unlaid why
     unfolding layoutBy
     refused-lay (laid xs l) {why} p = absurd (subst (isRefused why) (sym p) refl)
-    refused-lay (nowhere w) {why} p = ap nowhere (subst (isRefused why) (sym p) refl)
+    refused-lay (unlaid w) {why} p = ap unlaid (subst (isRefused why) (sym p) refl)
 
     -- without ByteSize: no layout, no size
     pub row-layout-refused : {why : Refusal} → isBounded (ownSize settings s rows attrs n sizeOf i) ≡ false
-        → layoutAt settings s rows attrs n sizeOf i ≡ whole.Refused why → entryAt settings s rows attrs n sizeOf i ≡ Refused why
+        → layoutAt settings s rows attrs n sizeOf i ≡ whole.Refused why → rowSize settings s rows attrs n sizeOf i ≡ Refused why
     unfolding layoutAt
     row-layout-refused t p =
-        size-is ∙ members-nowhere (membersOf settings s rows attrs n i) t (sym lay-is ∙ refused-lay (rowLay settings s rows attrs n sizeOf i) p)
+        size-is ∙ members-unlaid (membersOf settings s rows attrs n i) t (sym lay-is ∙ refused-lay (rowLay settings s rows attrs n sizeOf i) p)
 
 -- ---- a key
 
@@ -249,7 +249,7 @@ module _ (settings : Settings) (vendors sizes s rows attrs : List ℕ) (counts :
       intoRoom room (rowLay settings s rows attrs (counts .rows) sizeOf i) (layoutAt settings s rows attrs (counts .rows) sizeOf i)
 
   abbrev sizeThere : Found → Sized
-  sizeThere f = foundSize (entryAt settings s rows attrs (counts .rows) sizeOf) key f
+  sizeThere f = foundSize (rowSize settings s rows attrs (counts .rows) sizeOf) key f
 
   abbrev layoutThere : Found → Outcome
   layoutThere f = rowBy key (kept room) there f

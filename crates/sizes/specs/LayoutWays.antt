@@ -23,7 +23,7 @@ use Rattle.records.specs.declared.scan.Fault.the-variants as fault
 use Rattle.records.specs.declared.member.MemberRead.{MemberRead}
 use Rattle.records.specs.declared.member.MemberRead.the-variants as read
 use Rattle.sizes.specs.Ways.{structureFault}
-use Rattle.sizes.specs.Layout.{Laid, Lay, laid, nowhere, layThen, endOr, laidFrom, laidWords, laidWidth}
+use Rattle.sizes.specs.Layout.{Laid, Lay, laid, unlaid, layThen, endOr, laidFrom, laidWords, laidWidth}
 use Rattle.sizes.specs.declared.kept.Added.{Added}
 use Rattle.sizes.specs.declared.kept.Added.the-variants as added
 use Rattle.sizes.specs.declared.sized.Sized.{Sized}
@@ -49,7 +49,7 @@ module _ (e : Endian) (s rows attrs : List ℕ) (bounded : Bool) (largest c : �
 
   unfoldable pub addedLaid : Added → Lay
   addedLaid (added.Is offset size) = sizedLaid offset size
-  addedLaid (added.Refused why) = nowhere why
+  addedLaid (added.Refused why) = unlaid why
 
 -- a child, and a count that can grow
 pub record LayAsked (s rows : List ℕ) (n c count : ℕ) : Type 0 where
@@ -61,16 +61,16 @@ pub record LayAsked (s rows : List ℕ) (n c count : ℕ) : Type 0 where
 -- what is laid, and what follows from the largest end on
 unfoldable pub layBefore : List Laid → Lay → Lay
 layBefore xs (laid ys largest) = laid (xs ++ ys) largest
-layBefore xs (nowhere why) = nowhere why
+layBefore xs (unlaid why) = unlaid why
 
 unfoldable pub layOn : (ℕ → Lay) → Lay → Lay
 layOn next (laid xs largest) = layBefore xs (next largest)
-layOn next (nowhere why) = nowhere why
+layOn next (unlaid why) = unlaid why
 
 module _ (rows : List ℕ) (sizeOf : «Type» → Sized) (bounded : Bool) (largest c : ℕ) where
   unfoldable pub readLaid : MemberRead → Lay
   readLaid (read.Is m) = laidFrom rows sizeOf bounded largest (record { row = c; member = m } ∷ [])
-  readLaid (read.Refused why) = nowhere why
+  readLaid (read.Refused why) = unlaid why
 
 module _ (settings : Settings) (s rows attrs : List ℕ) (n : ℕ) (sizeOf : «Type» → Sized) (bounded : Bool) where
   unfoldable pub childLaid : ℕ → ℕ → Lay
@@ -83,7 +83,7 @@ module _ (settings : Settings) (s rows attrs : List ℕ) (n : ℕ) (sizeOf : «T
 
   unfoldable pub faultLaid : ℕ → Fault → Lay
   faultLaid i fault.Clear = childrenLaid 0 (kidsOf (settings .endian) s rows attrs n i)
-  faultLaid i (fault.Refused why) = nowhere why
+  faultLaid i (fault.Refused why) = unlaid why
 
   -- all are read whole before any size is taken
   unfoldable pub structureLaid : ℕ → Lay
@@ -93,7 +93,7 @@ module _ (settings : Settings) (s rows attrs : List ℕ) (n : ℕ) (sizeOf : «T
 
 unfoldable pub layingOf : ℕ → Lay → Laying
 layingOf k (laid xs largest) = laying.Is (k + length xs) largest
-layingOf k (nowhere why) = laying.Refused why
+layingOf k (unlaid why) = laying.Refused why
 
 -- of the room something is said only where there was no refusal
 pub record Lays (lay : Lay) (k : ℕ) (r : Laying) (room room′ : List ℕ) : Type 0 where

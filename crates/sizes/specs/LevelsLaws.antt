@@ -22,7 +22,7 @@ use Rattle.tables.specs.FindLaws.{row-found, row-of-own-key}
 use Rattle.tables.specs.Check.{refusedAt}
 use Rattle.tables.specs.declared.find.Found.{Found}
 use Rattle.tables.specs.declared.find.Found.the-variants as found
-use Rattle.sizes.specs.Size.{typeSizeBy, shapeOf, shapeSize, entryAt, foundSize, entrySize, typeSize}
+use Rattle.sizes.specs.Size.{typeSizeBy, shapeOf, shapeSize, rowSize, foundSize, entrySize, typeSize}
 use Rattle.sizes.specs.Known.{knownWidth, knownAt, PutKnown}
 use Rattle.sizes.specs.KnownLaws.{known-same}
 use Rattle.sizes.specs.KeptWays.{PartsKept, AllKept}
@@ -99,14 +99,14 @@ module _ (known : List ℕ) (i : ℕ) {size : Sized} {b : Bool} (at : size ≡ k
   unfolding nextLevel
   next-kept t = at ∙ sym (rw (test-is t))
 
-  pub next-taken : b ≡ false → {r : Sized} → r ≡ entryAt settings s rows attrs n (typeFrom settings sizes s rows attrs n known 0) i → r ≡ nextLevel settings sizes s rows attrs n known i
+  pub next-taken : b ≡ false → {r : Sized} → r ≡ rowSize settings s rows attrs n (typeFrom settings sizes s rows attrs n known 0) i → r ≡ nextLevel settings sizes s rows attrs n known i
   unfolding nextLevel
   next-taken t p = p ∙ sym (rw (test-is t))
 
   -- a row whose kind has no size
   pub next-other : b ≡ false → {row : Row} {x : Shape} {why : Refusal} → row ≡ rowAt rows i → x ≡ shapeOf (row .kind) → x ≡ shape.Other
       → why ≡ refusedAt (row .key) reason.Kind → Refused why ≡ nextLevel settings sizes s rows attrs n known i
-  unfolding entryAt shapeSize
+  unfolding rowSize shapeSize
   next-other t p is o q =
       next-taken t
       (by-told (shapeSize settings s rows attrs n (typeFrom settings sizes s rows attrs n known 0) i) (is ∙ ap (λ (r : Row). shapeOf (r .kind)) p) o
@@ -165,14 +165,14 @@ module _ (settings : Settings) (sizes s rows attrs : List ℕ) (n : ℕ) (ready 
         each = λ i l. g .each i l
             ∙ cond-all (λ (x : Sized). x ≡ entrySize settings sizes s rows attrs n (suc levels) (rowAt rows i .key)) (settled (knownAt known i))
             (λ t. w .each i l ∙ sym (size-stays settings sizes s rows attrs n levels (rowAt rows i .key) (subst Settled (w .each i l) (settled-is (knownAt known i) t))))
-            (λ t. ap (λ (f : «Type» → Sized). entryAt settings s rows attrs n f i) (known-types levels w (omega (arith, w .fits, l)) 0)
+            (λ t. ap (λ (f : «Type» → Sized). rowSize settings s rows attrs n f i) (known-types levels w (omega (arith, w .fits, l)) 0)
             ∙ sym (entry-more settings sizes s rows attrs n levels (rowAt rows i .key) (own-key i l)));
       }
 
   -- ---- a level that changes nothing
 
   abbrev oneMore : (ℕ → Sized) → ℕ → Sized
-  oneMore entry key = foundSize (entryAt settings s rows attrs n (typeSizeBy sizes entry)) key (rowOfKey rows n key)
+  oneMore entry key = foundSize (rowSize settings s rows attrs n (typeSizeBy sizes entry)) key (rowOfKey rows n key)
 
   same-above : (levels : ℕ) → entrySize settings sizes s rows attrs n levels ≡ entrySize settings sizes s rows attrs n (suc levels)
       → (k : ℕ) → entrySize settings sizes s rows attrs n (k + levels) ≡ entrySize settings sizes s rows attrs n levels

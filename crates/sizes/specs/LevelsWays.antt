@@ -10,7 +10,7 @@ use Rattle.format.specs.declared.settings.Settings.{Settings}
 use Rattle.format.specs.declared.refusal.Reason.the-variants as reason
 use Rattle.tables.specs.Row.{rowAt}
 use Rattle.tables.specs.Check.{refusedAt}
-use Rattle.sizes.specs.Size.{entryAt, entrySize}
+use Rattle.sizes.specs.Size.{rowSize, entrySize}
 use Rattle.sizes.specs.SizeWays.{Ready, typeFrom}
 use Rattle.sizes.specs.Known.{knownWidth, knownAt}
 use Rattle.sizes.specs.declared.sized.Sized.{Sized}
@@ -32,7 +32,7 @@ settled (Refused why) = not (eqb (numberOf (why .reason)) 10)
 module _ (settings : Settings) (sizes s rows attrs : List ℕ) (n : ℕ) where
   -- row i: its known size if that is settled; else its size where the entries that it names have known sizes
   unfoldable pub nextLevel : List ℕ → ℕ → Sized
-  nextLevel known i = cond (settled (knownAt known i)) (knownAt known i) (entryAt settings s rows attrs n (typeFrom settings sizes s rows attrs n known 0) i)
+  nextLevel known i = cond (settled (knownAt known i)) (knownAt known i) (rowSize settings s rows attrs n (typeFrom settings sizes s rows attrs n known 0) i)
 
   -- row i with so many levels left
   unfoldable pub sizeLeft : ℕ → ℕ → Sized

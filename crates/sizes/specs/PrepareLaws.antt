@@ -58,7 +58,7 @@ use Rattle.records.specs.declared.unions.UnionWhole.the-variants as union
 use Rattle.records.specs.declared.ptr_to_member.PtrToMember.{PtrToMember}
 use Rattle.records.specs.declared.ptr_to_member.PtrToMemberRead.{PtrToMemberRead}
 use Rattle.records.specs.declared.ptr_to_member.PtrToMemberRead.the-variants as pointer
-use Rattle.sizes.specs.Size.{countedSize, countedFault, subscriptBlock, subscriptFault, lastSize, arraySize, childThen, membersFrom, membersBy, membersOf, sizeOrEnds, membersSize, enumerationSize, unionSize, pointerSize, shapeOf, shapeSize, entryAt}
+use Rattle.sizes.specs.Size.{countedSize, countedFault, subscriptBlock, subscriptFault, lastSize, arraySize, childThen, membersFrom, membersBy, membersOf, sizeOrEnds, membersSize, enumerationSize, unionSize, pointerSize, shapeOf, shapeSize, rowSize}
 use Rattle.sizes.specs.Ways.{countedPrepared, preparedLast, lastPrepared, preparedArray, readFault, memberFault, membersFault, walkFault, structureFault, sizePrepared, preparedStructure, preparedEnumeration, preparedUnion, preparedPointer, preparedShape, preparedRow, finished}
 use Rattle.sizes.specs.declared.prepare.Shape.{Shape}
 use Rattle.sizes.specs.declared.prepare.Shape.the-variants as shape
@@ -439,6 +439,6 @@ module _ (settings : Settings) (s rows attrs : List ℕ) (n : ℕ) (typeSize : �
   shape-finished shape.Other = refl
 
   -- it is the size
-  pub prepared-size : finished settings s rows attrs n typeSize i (preparedRow settings s rows attrs n i) ≡ entryAt settings s rows attrs n typeSize i
-  unfolding preparedRow entryAt
+  pub prepared-size : finished settings s rows attrs n typeSize i (preparedRow settings s rows attrs n i) ≡ rowSize settings s rows attrs n typeSize i
+  unfolding preparedRow rowSize
   prepared-size = shape-finished (shapeOf (rowAt rows i .kind))

@@ -6,7 +6,7 @@ use Prim.Native.Nat.{ℕ, zero, suc, _+_, _*_}
 use mathlib.Core.Bool.{true, false, cond}
 use mathlib.Core.List.{List, [], _∷_}
 use lib.ListN.{length, getD, drop}
-use lib.Dec.{eqb, leb}
+use lib.Dec.{eqb, leb, ltb}
 use Rattle.numbers.specs.declared.Endian.{Endian}
 use Rattle.format.specs.Lookup.{Line, _means_, lookup, indexOf}
 use Rattle.format.specs.FundType.{fundTypes}
@@ -63,10 +63,14 @@ sizeLimit = 0xFFFFFFFF
 
 -- ---- a type
 
--- a fundamental type's size is its line of the settings' table; `entry` gives the size of the entry that has a key. A number that is on no line counts 0: no
--- type that was read has one, for reading refuses it (18)
+-- a fundamental type's size is its line of the settings' table; 18 at 0 for a number that has none: no type that was read is one, but a caller may make it
+unfoldable pub fundamentalSize : List ℕ → ℕ → Sized
+fundamentalSize sizes number =
+    cond (ltb (indexOf number fundTypes) (length sizes)) (Is (getD sizes (indexOf number fundTypes) 0)) (Refused (refusedAt 0 reason.Number))
+
+-- a type without its modifiers; `entry` gives the size of the entry that has a key
 unfoldable pub kindSize : List ℕ → (ℕ → Sized) → TypeKind → Sized
-kindSize sizes entry (kind.Fundamental number) = Is (getD sizes (indexOf number fundTypes) 0)
+kindSize sizes entry (kind.Fundamental number) = fundamentalSize sizes number
 kindSize sizes entry (kind.UserDefined key) = entry key
 
 -- 4 where a pointer or a reference stands among the modifiers: the entry that it points to is not asked for, nor need it be there
@@ -240,8 +244,8 @@ module _ (settings : Settings) (s rows attrs : List ℕ) (n : ℕ) where
   shapeSize typeSize i shape.Other = Refused (refusedAt (rowAt rows i .key) reason.Kind)
 
   -- the same, by the row's kind
-  unfoldable pub entryAt : («Type» → Sized) → ℕ → Sized
-  entryAt typeSize i = shapeSize typeSize i (shapeOf (rowAt rows i .kind))
+  unfoldable pub rowSize : («Type» → Sized) → ℕ → Sized
+  rowSize typeSize i = shapeSize typeSize i (shapeOf (rowAt rows i .kind))
 
 -- the entry that was found under a key: 11 where there is none, at the key looked for
 unfoldable pub foundSize : (ℕ → Sized) → ℕ → Found → Sized
@@ -252,7 +256,7 @@ module _ (settings : Settings) (sizes s rows attrs : List ℕ) (n : ℕ) where
   -- the size of the entry that has a key, so many levels being left: where none is, 10 at the row, which must be there (11) and is not read (no 12)
   unfoldable pub entrySize : ℕ → ℕ → Sized
   entrySize zero key = foundSize (λ i. Refused (refusedAt key reason.Depth)) key (rowOfKey rows n key)
-  entrySize (suc levels) key = foundSize (entryAt settings s rows attrs n (typeSizeBy sizes (entrySize levels))) key (rowOfKey rows n key)
+  entrySize (suc levels) key = foundSize (rowSize settings s rows attrs n (typeSizeBy sizes (entrySize levels))) key (rowOfKey rows n key)
 
   -- the size of a type, so many levels being left for the entry that it names
   unfoldable pub typeSize : ℕ → «Type» → Sized

@@ -6,7 +6,7 @@ use mathlib.Core.Bool.{Bool, true, false, cond, true≢false}
 use mathlib.Core.List.{List, [], _∷_}
 use lib.ListN.{length, getD}
 use lib.Dec.{eqb, leb}
-use borrow.Author.Tests.{eq-eqb, ne-eqb, le-leb, lt-leb}
+use borrow.Author.Tests.{eq-eqb, ne-eqb, le-leb, lt-leb, lt-ltb, le-ltb}
 use Rattle.numbers.specs.Tests.{cond-all}
 use Rattle.format.specs.Lookup.{indexOf}
 use Rattle.format.specs.FundType.{fundTypes}
@@ -64,7 +64,7 @@ use Rattle.records.specs.declared.ptr_to_member.PtrToMemberRead.the-variants as
 use Rattle.sizes.specs.Ways.{countedPrepared, preparedLast, lastPrepared, preparedArray, walkFault, structureFault, sizePrepared, preparedStructure, preparedEnumeration, preparedUnion, preparedPointer, preparedShape, preparedRow, finished}
 use Rattle.sizes.specs.PrepareLaws.{AllRead, fault-members, prepared-size}
 use Rattle.sizes.specs.EndsLaws.{ends-members}
-use Rattle.sizes.specs.Size.{sizeLimit, shapeOf, subscriptFault, membersFrom, membersBy, membersOf, sizeOrEnds, membersSize, sizeOr, typeSizeBy, kindSize, sizeThen, productOf, subscriptBlock, larger, endThen, entryAt, foundSize, entrySize, typeSize, sizeOfKey, sizeOfType}
+use Rattle.sizes.specs.Size.{sizeLimit, shapeOf, subscriptFault, membersFrom, membersBy, membersOf, sizeOrEnds, membersSize, sizeOr, typeSizeBy, kindSize, fundamentalSize, sizeThen, productOf, subscriptBlock, larger, endThen, rowSize, foundSize, entrySize, typeSize, sizeOfKey, sizeOfType}
 use Rattle.sizes.specs.Known.{knownAt}
 use Rattle.sizes.specs.SizeWays.{Ready, EndsShort, withSize, readAdded, grown, addedEnd, memberAdded, childEnd, endsOver, arrayProduct, knownFound, entryFrom, typeFrom}
 use Rattle.sizes.specs.declared.prepare.Shape.{Shape}
@@ -272,28 +272,28 @@ module _ (settings : Settings) (s rows attrs : List ℕ) (n i : ℕ) where
           record { ends-at = record { asked = w .asked; ending = record { table = w .asked .table; ending = row-ending } }; short = w .short }
 
     module _ (sizeOf : «Type» → Sized) where
-      row-is : {p : Prepared} → told ≡ p → finished settings s rows attrs n sizeOf i p ≡ entryAt settings s rows attrs n sizeOf i
+      row-is : {p : Prepared} → told ≡ p → finished settings s rows attrs n sizeOf i p ≡ rowSize settings s rows attrs n sizeOf i
       row-is q = ap (finished settings s rows attrs n sizeOf i) (sym q ∙ is) ∙ prepared-size settings s rows attrs n sizeOf i
 
-      pub row-sized : {size : ℕ} → told ≡ prepared.Size size → Is size ≡ entryAt settings s rows attrs n sizeOf i
+      pub row-sized : {size : ℕ} → told ≡ prepared.Size size → Is size ≡ rowSize settings s rows attrs n sizeOf i
       unfolding finished
       row-sized q = row-is q
 
-      pub row-refused : {why : Refusal} → told ≡ prepared.Refused why → Refused why ≡ entryAt settings s rows attrs n sizeOf i
+      pub row-refused : {why : Refusal} → told ≡ prepared.Refused why → Refused why ≡ rowSize settings s rows attrs n sizeOf i
       unfolding finished
       row-refused q = row-is q
 
       module _ {t : «Type»} {k : ℕ} (q : told ≡ prepared.Element t k) {size? : Sized} (p : size? ≡ sizeOf t) where
-        pub row-element : {size : ℕ} {r : Sized} → size? ≡ Is size → r ≡ arrayProduct settings s rows attrs i k size → r ≡ entryAt settings s rows attrs n sizeOf i
+        pub row-element : {size : ℕ} {r : Sized} → size? ≡ Is size → r ≡ arrayProduct settings s rows attrs i k size → r ≡ rowSize settings s rows attrs n sizeOf i
         unfolding finished sizeThen arrayProduct runOf endsOf
         row-element u v = v ∙ ap (sizeThen (arrayProduct settings s rows attrs i k)) (sym u ∙ p) ∙ row-is q
 
-        pub row-sizeless : {why : Refusal} → size? ≡ Refused why → Refused why ≡ entryAt settings s rows attrs n sizeOf i
+        pub row-sizeless : {why : Refusal} → size? ≡ Refused why → Refused why ≡ rowSize settings s rows attrs n sizeOf i
         unfolding finished sizeThen arrayProduct runOf endsOf
         row-sizeless u = ap (sizeThen (arrayProduct settings s rows attrs i k)) (sym u ∙ p) ∙ row-is q
 
       pub row-ends : {r : Sized} → told ≡ prepared.Ends → r ≡ endsOver settings s rows attrs n sizeOf 0 (kidsOf (settings .endian) s rows attrs n i)
-          → r ≡ entryAt settings s rows attrs n sizeOf i
+          → r ≡ rowSize settings s rows attrs n sizeOf i
       unfolding finished membersSize sizeOrEnds
       row-ends q v =
           let all : AllRead (membersOf settings s rows attrs n i) = fault-members settings s rows attrs n i (row-clear q) in
@@ -312,9 +312,9 @@ module _ (settings : Settings) (sizes s rows attrs : List ℕ) (n : ℕ) where
   -- with one more level an entry's types have those below it
   pub entry-more : (levels key : ℕ) {f : Found} → rowOfKey rows n key ≡ f
       → entrySize settings sizes s rows attrs n (suc levels) key
-      ≡ foundSize (entryAt settings s rows attrs n (typeSize settings sizes s rows attrs n levels)) key f
+      ≡ foundSize (rowSize settings s rows attrs n (typeSize settings sizes s rows attrs n levels)) key f
   unfolding entrySize typeSize
-  entry-more levels key p = ap (foundSize (entryAt settings s rows attrs n (typeSize settings sizes s rows attrs n levels)) key) p
+  entry-more levels key p = ap (foundSize (rowSize settings s rows attrs n (typeSize settings sizes s rows attrs n levels)) key) p
 
   pub entry-none : (levels key : ℕ) → rowOfKey rows n key ≡ found.Nothing → entrySize settings sizes s rows attrs n levels key ≡ Refused (refusedAt key reason.Entry)
   unfolding foundSize
@@ -332,11 +332,11 @@ module _ (settings : Settings) (sizes s rows attrs : List ℕ) (n : ℕ) where
 
   -- the same of any table of known sizes that is empty, for an entry that asks for types
   plain-entry : (known : List ℕ) (levels i : ℕ) → eqb (length known) 0 ≡ true
-      → entryAt settings s rows attrs n (typeFrom settings sizes s rows attrs n known levels) i
-      ≡ entryAt settings s rows attrs n (typeSize settings sizes s rows attrs n levels) i
+      → rowSize settings s rows attrs n (typeFrom settings sizes s rows attrs n known levels) i
+      ≡ rowSize settings s rows attrs n (typeSize settings sizes s rows attrs n levels) i
   unfolding typeFrom typeSize entryFrom
   plain-entry known levels i h =
-      ap (λ (b : Bool). entryAt settings s rows attrs n
+      ap (λ (b : Bool). rowSize settings s rows attrs n
       (typeSizeBy sizes (λ key. cond b (entrySize settings sizes s rows attrs n levels key) (knownFound known key (rowOfKey rows n key)))) i) h
 
   module _ (known : List ℕ) (levels key : ℕ) {f : Found} (is : f ≡ rowOfKey rows n key) where
@@ -367,7 +367,7 @@ module _ (settings : Settings) (sizes s rows attrs : List ℕ) (n : ℕ) where
           ap Refused q ∙ sym (entry-zero key (sym is ∙ p)) ∙ ap (λ (l : ℕ). entrySize settings sizes s rows attrs n l key) (sym z) ∙ entry-left
 
       pub entry-row : (levels ≡ 0 → ⊥) → {r : Sized}
-          → r ≡ entryAt settings s rows attrs n (typeFrom settings sizes s rows attrs n known (levels - 1)) i
+          → r ≡ rowSize settings s rows attrs n (typeFrom settings sizes s rows attrs n known (levels - 1)) i
           → r ≡ entryFrom settings sizes s rows attrs n known levels key
       unfolding foundSize
       entry-row z q =
@@ -376,6 +376,16 @@ module _ (settings : Settings) (sizes s rows attrs : List ℕ) (n : ℕ) where
           ∙ ap (λ (l : ℕ). entrySize settings sizes s rows attrs n l key) one ∙ entry-left
 
 -- ---- a type
+
+-- a fundamental number's place among the types: a line of the table, or none
+module _ (sizes : List ℕ) (number : ℕ) {k : ℕ} (p : k ≡ indexOf number fundTypes) where
+  pub line-there : k < length sizes → Is (getD sizes k 0) ≡ fundamentalSize sizes number
+  unfolding fundamentalSize
+  line-there h = rw (← p, lt-ltb k (length sizes) h)
+
+  pub line-none : length sizes ≤ k → Refused (refusedAt 0 reason.Number) ≡ fundamentalSize sizes number
+  unfolding fundamentalSize
+  line-none h = rw (← p, le-ltb k (length sizes) h)
 
 -- `entry` gives an entry's size
 module _ (sizes : List ℕ) (entry : ℕ → Sized) (t : «Type») where
@@ -388,9 +398,9 @@ module _ (sizes : List ℕ) (entry : ℕ → Sized) (t : «Type») where
     unfolding typeSizeBy
     type-kind = sym (rw h)
 
-    pub type-fundamental : {number size : ℕ} → t .kind ≡ kind.Fundamental number → size ≡ getD sizes (indexOf number fundTypes) 0 → Is size ≡ typeSizeBy sizes entry t
+    pub type-fundamental : {number : ℕ} {r : Sized} → t .kind ≡ kind.Fundamental number → r ≡ fundamentalSize sizes number → r ≡ typeSizeBy sizes entry t
     unfolding kindSize
-    type-fundamental p q = ap Is q ∙ ap (kindSize sizes entry) (sym p) ∙ type-kind
+    type-fundamental p q = q ∙ ap (kindSize sizes entry) (sym p) ∙ type-kind
 
     pub type-user : {key : ℕ} {r : Sized} → t .kind ≡ kind.UserDefined key → r ≡ entry key → r ≡ typeSizeBy sizes entry t
     unfolding kindSize

@@ -29,7 +29,7 @@ use Rattle.records.specs.declared.scan.Fault.the-variants as fault
 use Rattle.records.specs.declared.fields.Sought.the-variants as sought
 use Rattle.records.specs.declared.fields.Word.{Word}
 use Rattle.records.specs.declared.fields.Word.the-variants as word
-use Rattle.sizes.specs.Size.{sizeLimit, kindSize, typeSizeBy, sizeThen, productOf, countedSize, subscriptBlock, subscriptFault, lastSize, arraySize, membersOf, sizeOr, memberSize, larger, endThen, endsFrom, sizeOrEnds, membersSize, shapeOf, shapeSize, entryAt, foundSize, entrySize}
+use Rattle.sizes.specs.Size.{sizeLimit, kindSize, typeSizeBy, sizeThen, productOf, countedSize, subscriptBlock, subscriptFault, lastSize, arraySize, membersOf, sizeOr, memberSize, larger, endThen, endsFrom, sizeOrEnds, membersSize, shapeOf, shapeSize, rowSize, foundSize, entrySize}
 use Rattle.sizes.specs.declared.prepare.Shape.{Shape}
 use Rattle.sizes.specs.declared.prepare.Shape.the-variants as shape
 use Rattle.sizes.specs.declared.sized.Sized.{Sized}
@@ -121,11 +121,11 @@ module _ (sizes : List ℕ) (f g : ℕ → Sized) (stays : (key : ℕ) → Settl
 
 module _ (settings : Settings) (sizes s rows attrs : List ℕ) (n : ℕ) where
   abbrev asked : (ℕ → Sized) → ℕ → Sized
-  asked entry i = entryAt settings s rows attrs n (typeSizeBy sizes entry) i
+  asked entry i = rowSize settings s rows attrs n (typeSizeBy sizes entry) i
 
   found-stays : (f g : ℕ → Sized) → ((key : ℕ) → Settled (f key) → g key ≡ f key) → (key : ℕ) (x : Found)
       → Settled (foundSize (asked f) key x) → foundSize (asked g) key x ≡ foundSize (asked f) key x
-  unfolding foundSize entryAt
+  unfolding foundSize rowSize
   found-stays f g h key (found.At i) p =
       shape-stays (typeSizeBy sizes f) (typeSizeBy sizes g) (type-stays sizes f g h) settings s rows attrs n i (shapeOf (rowAt rows i .kind)) p
   found-stays f g h key found.Nothing p = refl

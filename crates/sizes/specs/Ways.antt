@@ -129,7 +129,7 @@ module _ (settings : Settings) (s rows attrs : List ℕ) (n : ℕ) where
   unfoldable pub preparedRow : ℕ → Prepared
   preparedRow i = preparedShape i (shapeOf (rowAt rows i .kind))
 
-  -- what was prepared, with the sizes of types: this is `entryAt` (law `prepared-size`)
+  -- what was prepared, with the sizes of types: this is `rowSize` (law `prepared-size`)
   unfoldable pub finished : («Type» → Sized) → ℕ → Prepared → Sized
   finished typeSize i (prepared.Size size) = Is size
   finished typeSize i (prepared.Element t k) =

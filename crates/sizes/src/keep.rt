@@ -51,7 +51,7 @@ fn type_named(sizes: &[u32], rows: &[u32], n: usize, of: Type) -> Sized
     }
     let kind = of.kind;
     match kind {
-        TypeKind::Fundamental(number) => Sized::Is(fundamental_size(sizes, number)),
+        TypeKind::Fundamental(number) => fundamental_size(sizes, number),
         TypeKind::UserDefined(key) => row_named(rows, n, key),
     }
 }

@@ -30,20 +30,22 @@ use tables::find::find_row;
 use tables::row::Counts;
 use tables::row::row_at;
 ghost use mathlib.Core.Path.{_≡_};
-ghost use lib.ListN.{getD};
-ghost use Rattle.format.specs.Lookup.{indexOf};
-ghost use Rattle.format.specs.FundType.{fundTypes};
 ghost use Rattle.links.specs.Kids.{kidsOf};
 ghost use Rattle.records.specs.EnumerationWays.{AskedShort};
-ghost use Rattle.sizes.specs.Size.{entryAt, sizeOfKey, sizeOfType};
+ghost use Rattle.sizes.specs.Size.{fundamentalSize, rowSize, sizeOfKey, sizeOfType};
 ghost use Rattle.sizes.specs.KeptWays.{AllKept, MemberAsked};
 ghost use Rattle.sizes.specs.SizeWays.{Ready, EndsShort, memberAdded, grown, arrayProduct, childEnd, endsOver, entryFrom, typeFrom};
 
-pub fn fundamental_size(sizes: &[u32], number: u16) -> u32
-    ensures { λ r. ⌜ r ≡ getD (now (sizes .entry)) (indexOf number fundTypes) 0 ⌝ }
+// A fundamental type's line of the settings' table; 18 at 0 for a number that has none.
+pub fn fundamental_size(sizes: &[u32], number: u16) -> Sized
+    ensures { λ r. ⌜ r ≡ fundamentalSize (now (sizes .entry)) number ⌝ }
 {
     let k = order_of(number);
-    if k < sizes.len() { sizes[k] } else { 0 }
+    if k < sizes.len() {
+        Sized::Is(sizes[k])
+    } else {
+        Sized::Refused(refused(Reason::Number, 0))
+    }
 }
 
 // The largest end so far and that of a member at row c: 20 past 32 bits, at the member.
@@ -101,7 +103,7 @@ pub fn type_size(
     }
     let kind = of.kind;
     match kind {
-        TypeKind::Fundamental(number) => Sized::Is(fundamental_size(sizes, number)),
+        TypeKind::Fundamental(number) => fundamental_size(sizes, number),
         TypeKind::UserDefined(key) => {
             entry_size(s, settings, sizes, rows, attrs, n, known, kept, levels, key)
         }
@@ -163,7 +165,7 @@ pub fn row_size(
     i: usize,
 ) -> Sized
     requires { ⌜ AskedShort (now s) (now rows) n i × AllKept settings (now sizes) (now s) (now rows) (now attrs) n (now known) (now kept) ⌝ }
-    ensures { λ r. ⌜ r ≡ entryAt settings (now (s .entry)) (now (rows .entry)) (now (attrs .entry)) n (typeFrom settings (now (sizes .entry)) (now (s .entry)) (now (rows .entry)) (now (attrs .entry)) n (now (known .entry)) levels) i ⌝ }
+    ensures { λ r. ⌜ r ≡ rowSize settings (now (s .entry)) (now (rows .entry)) (now (attrs .entry)) n (typeFrom settings (now (sizes .entry)) (now (s .entry)) (now (rows .entry)) (now (attrs .entry)) n (now (known .entry)) levels) i ⌝ }
 {
     match prepare_row(s, settings, rows, attrs, n, kept, i) {
         Prepared::Size(size) => Sized::Is(size),

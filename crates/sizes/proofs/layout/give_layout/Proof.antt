@@ -1,4 +1,4 @@
-use Rattle.sizes.specs.LayoutLaws.{give-laid, give-unfit, give-nowhere}
+use Rattle.sizes.specs.LayoutLaws.{give-laid, give-unfit, give-unlaid}
 use borrow.Author.Needs.{needs}
 use Rattle.sizes.proofs.layout.give_layout.Statement.{statement}
 use Rattle.sizes.proofs.layout.give_layout.Tie as tie
@@ -28,7 +28,7 @@ returns-2 : tie.Need-returns-2
 returns-2 c = give-unfit _ _ _ _ _ _ _ _ (c .before .before .before .before .before .before .read-layout .ensures .answer-is) (c .before .before .before .found .given .1) (c .if1 .left)
 
 returns-3 : tie.Need-returns-3
-returns-3 c = give-nowhere _ _ _ _ _ _ _ _ (c .before .before .before .before .read-layout .ensures .answer-is) (c .before .why .given .1)
+returns-3 c = give-unlaid _ _ _ _ _ _ _ _ (c .before .before .before .before .read-layout .ensures .answer-is) (c .before .why .given .1)
 
 pub give-layout-spec : {M : Type 1} → statement M
 give-layout-spec =

@@ -1,4 +1,4 @@
-use Rattle.sizes.specs.LayoutLaws.{layout-there, layout-nowhere}
+use Rattle.sizes.specs.LayoutLaws.{layout-there, layout-unlaid}
 use Rattle.sizes.specs.KeptLaws.{none-kept}
 use Rattle.links.specs.TypedLaws.{keyed-asked, keyed-short}
 use borrow.Author.Needs.{needs}
@@ -39,7 +39,7 @@ returns : tie.Need-returns
 returns c = layout-there _ _ _ _ _ _ _ _ _ (c .before .before .before .before .before .before .before .before .before .row-of .ensures) (c .before .before .before .before .before .before .before .i .given .1) (c .before .before .give-layout .ensures)
 
 returns-2 : tie.Need-returns-2
-returns-2 c = layout-nowhere _ _ _ _ _ _ _ _ _ (c .before .before .before .row-of .ensures) (c .before .why .given .1)
+returns-2 c = layout-unlaid _ _ _ _ _ _ _ _ _ (c .before .before .before .row-of .ensures) (c .before .why .given .1)
 
 pub layout-of-key-spec : {M : Type 1} → statement M
 layout-of-key-spec =
