@@ -1,10 +1,11 @@
 -- What is known of a table that passed the test, `Checked`: what the crates above cite.
 use Prim.Native.Nat.{ℕ, zero, suc, _+_, _-_, _*_, _≤_, _<_}
 use native.Mathlib.Nat.{sub-zero}
+use native.Mathlib.Decide.{ℕ-discrete}
 use native.Mathlib.Numerals.{add-one}
 use native.Mathlib.Omega.{arith}
-use mathlib.Core.Path.{_≡_, sym, _∙_}
-use mathlib.Core.Bool.{true}
+use mathlib.Core.Path.{_≡_, refl, sym, _∙_, subst}
+use mathlib.Core.Bool.{true, true≢false}
 use mathlib.Core.List.{List}
 use lib.ListN.{length}
 use Rattle.numbers.specs.declared.Endian.{Endian}
@@ -12,9 +13,10 @@ use Rattle.format.specs.Known.{known}
 use Rattle.format.specs.FormKind.{formOf}
 use Rattle.format.specs.Limits.{entryLimit}
 use Rattle.attributes.specs.End.{valueEnd}
-use Rattle.attributes.specs.declared.value.End.the-variants.{At}
-use Rattle.tables.specs.Row.{rowWidth, rowAt}
-use Rattle.tables.specs.Test.{fitting, isAt, attrHolds, rowHolds, rowsHold, tableHolds, Checked}
+use Rattle.attributes.specs.declared.value.End.{End}
+use Rattle.attributes.specs.declared.value.End.the-variants.{At, Short}
+use Rattle.tables.specs.Row.{rowWidth, rowAt, attrAt, endianOf}
+use Rattle.tables.specs.Test.{fitting, isAt, attrHolds, runHolds, rowHolds, rowsHold, tableHolds, Checked}
 use Rattle.tables.specs.TestLaws.{both, RowPassed, row-passed, rows-step, Fits, fits-all}
 use Rattle.tables.specs.Find.{Rising}
 use Rattle.tables.specs.declared.row.Attr.{Attr}
@@ -31,6 +33,31 @@ pub record AttrKnown (s vendors : List ℕ) (e : Endian) (a : Attr) : Type 0 whe
 pub attr-passes : {s vendors : List ℕ} {e : Endian} {a : Attr} → AttrKnown s vendors e a → attrHolds s vendors e a ≡ true
 unfolding attrHolds isAt
 attr-passes p = rw (p .is-known, p .ends)
+
+told-at : (v : End) → isAt v ≡ true → (next : ℕ) × (v ≡ At next)
+unfolding isAt
+told-at (At next) h = (next, refl)
+told-at (Short field) h = absurd (true≢false (sym h))
+
+-- and the other way round
+attr-known : {s vendors : List ℕ} {e : Endian} (a : Attr) → attrHolds s vendors e a ≡ true → AttrKnown s vendors e a
+unfolding attrHolds
+attr-known {s} {vendors} {e} a h =
+    let p = both (known vendors (a .number)) (isAt (valueEnd (formOf (a .number)) e s (a .value))) h in
+    let end = told-at (valueEnd (formOf (a .number)) e s (a .value)) (p .1) in
+    record { is-known = p .0; next = end .0; ends = end .1 }
+
+-- each of a run
+run-known : {s vendors : List ℕ} {e : Endian} (attrs : List ℕ) (first n : ℕ) → runHolds s vendors e attrs first n ≡ true → (k : ℕ) → first ≤ k → k < first + n
+    → AttrKnown s vendors e (attrAt attrs k)
+unfolding runHolds
+run-known attrs first zero h k l m = absurd (omega arith)
+run-known {s} {vendors} {e} attrs first (suc n) h k l m =
+    let p = both (attrHolds s vendors e (attrAt attrs first)) (runHolds s vendors e attrs (suc first) n) h in
+    elim (ℕ-discrete first k) [
+      | yes here ↦ subst (λ (j : ℕ). AttrKnown s vendors e (attrAt attrs j)) here (attr-known (attrAt attrs first) (p .0))
+      | no later ↦ run-known attrs (suc first) n (p .1) k (omega arith) (omega arith)
+    ]
 
 -- ---- rows one after the other
 
@@ -70,6 +97,15 @@ module _ (s vendors rows attrs : List ℕ) (total n : ℕ) where
   inside-at : rowsHold s vendors rows attrs total 0 n 0 0 ≡ true → (i : ℕ) → i < n → rowAt rows i .key < length s
   inside-at p i h = let f : From i = from p i (omega arith) in here i (f .least) (f .run) h (f .holds) .inside
 
+  -- each attribute of row i's run is known
+  known-at : rowsHold s vendors rows attrs total 0 n 0 0 ≡ true → (i : ℕ) → i < n → (k : ℕ) → rowAt rows i .first ≤ k → k < rowAt rows i .first + rowAt rows i .count
+      → AttrKnown s vendors (endianOf (rowAt rows i .flags)) (attrAt attrs k)
+  known-at p i h k l m =
+      let f : From i = from p i (omega arith) in
+      let row = here i (f .least) (f .run) h (f .holds) in
+      let begins : rowAt rows i .first ≡ f .run = row .run-begins in
+      run-known attrs (f .run) (rowAt rows i .count) (row .run-holds) k (omega arith) (omega arith)
+
   -- row i + 1 lies at or after what row i leaves
   above-at : rowsHold s vendors rows attrs total 0 n 0 0 ≡ true → (i : ℕ) → i + 1 < n → rowAt rows i .key + 4 ≤ rowAt rows (i + 1) .key
   above-at p i h =
@@ -94,6 +130,11 @@ module _ {s vendors rows attrs : List ℕ} {counts : Counts} (checked : Checked 
   -- each row's key lies in the section
   pub checked-inside : (i : ℕ) → i < counts .rows → rowAt rows i .key < length s
   checked-inside i h = inside-at s vendors rows attrs (counts .attrs) (counts .rows) (parts .1) i h
+
+  -- each attribute of a row has a known number, and a value that ends inside
+  pub checked-attr : (i : ℕ) → i < counts .rows → (k : ℕ) → rowAt rows i .first ≤ k → k < rowAt rows i .first + rowAt rows i .count
+      → AttrKnown s vendors (endianOf (rowAt rows i .flags)) (attrAt attrs k)
+  checked-attr = known-at s vendors rows attrs (counts .attrs) (counts .rows) (parts .1)
 
   -- keys rise, so that the row of a key is found by bisection
   pub checked-rising : Rising rows (counts .rows)
