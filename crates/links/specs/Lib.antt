@@ -14,6 +14,8 @@ pub mod ChildrenWays
 pub mod ChildrenLaws
 pub mod KidsLaws
 pub mod TypedLaws
+-- In a table that passed the table test, what a typed lookup finds is wholly there.
+pub mod There
 -- The walk is refused exactly when it would never end.
 pub mod EndlessLaws
 -- No second answer fits.
