@@ -35,11 +35,12 @@ use Rattle.tables.specs.CheckedLaws.{AttrKnown, checked-attr}
 use Rattle.tables.specs.declared.row.Counts.{Counts}
 use Rattle.tables.specs.declared.find.Found.{Found}
 use Rattle.tables.specs.declared.find.Found.the-variants.{At, Nothing}
-use Rattle.links.specs.Attribute.{wants, attributeOf}
+use Rattle.links.specs.Attribute.{wants, attributeOf, asReference, referenceBy, referenceOf}
 use Rattle.links.specs.AttributeLaws.{attribute-found}
 use Rattle.links.specs.Typed.{inRow, endsOf, asPlaced, spotAt, spotIn, placeOf, asValue, asWidened, wordAt, wordOf, valueBy, partAs, toldWords}
 use Rattle.links.specs.TypedLaws.{place-there, place-refused, keyed-checked, keyed-asked, keyed-key}
 use Rattle.links.specs.declared.lookup.Wanted.the-variants as wanted
+use Rattle.links.specs.declared.lookup.Reference.the-variants as reference
 use Rattle.links.specs.declared.typed.Keyed.{Keyed}
 use Rattle.links.specs.declared.typed.Keyed.the-variants as keyed
 use Rattle.links.specs.declared.typed.Value.{Value}
@@ -101,6 +102,17 @@ word-told Block4 n s spot h = absurd n
 word-told Data8 n s spot h = absurd n
 word-told String n s spot h = absurd n
 word-told Undefined n s spot h = absurd n
+
+-- and a reference whose value ends inside is one
+reference-is : (e own : Endian) (s attrs : List ℕ) (k : ℕ) → isAt (valueEnd Ref own s (attrAt attrs k .value)) ≡ true
+    → referenceBy e s attrs (At k) ≡ reference.Nothing → ⊥
+unfolding valueEnd referenceBy asReference
+reference-is e own s attrs k h p =
+    let q : reference.To (valueOf e 4 s (attrAt attrs k .value)) ≡ reference.Nothing =
+    sym (ap asReference (fixed-read read32.Value read32.Short e 4 s (attrAt attrs k .value) h)) ∙ p
+    in
+    let z : _≡_ {A = ℕ} 0 1 = cc in
+    absurd (omega arith)
 
 -- ---- texts and blocks
 
@@ -177,6 +189,16 @@ module _ {s vendors rows attrs : List ℕ} {counts : Counts} (checked : Checked 
       → Told (wordAt form s (record { at = attrAt attrs k .value; ends = endsOf e rows i }))
   unfolding endsOf
   number-there n e {k} formed found = word-told form n s (record { at = attrAt attrs k .value; ends = endsOf e rows i }) (ends-inside formed found)
+
+-- a row's reference, as the walks over rows read it, is nothing only where the row has no such attribute
+pub reference-there : {s vendors rows attrs : List ℕ} {counts : Counts} → Checked s vendors rows attrs counts → (e : Endian) (i : ℕ) → i < counts .rows → (number : ℕ)
+    → isForm Ref number ≡ true → referenceOf e s rows attrs i number ≡ reference.Nothing → attributeOf rows attrs i (wanted.Number number) ≡ Nothing
+unfolding referenceOf
+reference-there {s} {rows = rows} {attrs = attrs} checked e i here number formed = go (attributeOf rows attrs i (wanted.Number number)) refl
+  where
+    go : (found : Found) → attributeOf rows attrs i (wanted.Number number) ≡ found → referenceBy e s attrs found ≡ reference.Nothing → found ≡ Nothing
+    go (At k) p q = absurd (reference-is e (endianOf (rowAt rows i .flags)) s attrs k (ends-inside checked i here number Ref formed p) q)
+    go Nothing p q = refl
 
 -- ---- the place that a lookup comes to
 
