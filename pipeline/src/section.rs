@@ -6,6 +6,11 @@ use crate::{
     raw::{self, Answer, Table},
 };
 
+/// Tags that the room for all layouts is counted by.
+const CLASS_TYPE: u16 = 0x02;
+const MEMBER: u16 = 0x0d;
+const STRUCTURE_TYPE: u16 = 0x13;
+
 /// A section's bytes with the tables that were read from them.
 #[derive(Debug, Clone)]
 pub struct Section {
@@ -216,10 +221,11 @@ impl Section {
         let ask = |structures: &mut [u64], members: &mut [u64]| {
             raw::layouts(&self.bytes, &self.settings, self.table(), structures, members)
         };
-        let mut structures = vec![0; raw::STRUCTURE_WIDTH * self.row_count];
-        let mut members = vec![0; raw::LAID_WIDTH * self.row_count];
+        let count = |tags: &[u16]| self.entries().filter(|entry| tags.contains(&entry.tag)).count();
+        let mut structures = vec![0; raw::STRUCTURE_WIDTH * count(&[CLASS_TYPE, STRUCTURE_TYPE])];
+        let mut members = vec![0; raw::LAID_WIDTH * count(&[MEMBER])];
         let mut answer = ask(&mut structures, &mut members);
-        // References can make one row a member of several structures.
+        // References can make one row a member of several structures; more than the rows' own counts are asked for only then.
         if let Answer { number: 8, results: [_, count, _], .. } = answer {
             members.resize(raw::LAID_WIDTH * count as usize, 0);
             answer = ask(&mut structures, &mut members);
