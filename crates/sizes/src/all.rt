@@ -57,6 +57,7 @@ const KNOWN_WORDS: usize = 12288;
 // Three answers for each.
 const KEPT_WORDS: usize = 36864;
 
+// One structure more, with so many members.
 fn one_more(counts: LayoutCounts, members: usize) -> LayoutCounts
     requires { ⌜ OneMore counts members ⌝ }
     ensures { λ r. ⌜ r ≡ countedOn counts members ⌝ }
@@ -67,6 +68,7 @@ fn one_more(counts: LayoutCounts, members: usize) -> LayoutCounts
     }
 }
 
+// What is kept of a layout between counting and writing: its size, or why it is refused.
 fn size_told(answer: LayoutWhole) -> Sized
     ensures { λ r. ⌜ r ≡ sizeTold answer ⌝ }
 {
@@ -118,6 +120,7 @@ fn count_row(
     }
 }
 
+// How many structures and members there are, whatever the room.
 fn count_layouts(
     s: &[u8],
     settings: Settings,
@@ -262,6 +265,7 @@ fn put_row(
     }
 }
 
+// All of them written; the rooms were found long enough.
 fn put_layouts(
     s: &[u8],
     settings: Settings,

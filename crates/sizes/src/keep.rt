@@ -42,6 +42,7 @@ fn row_named(rows: &[u32], n: usize, key: u32) -> Sized
     }
 }
 
+// The size of a type, an entry that it names told by its row.
 fn type_named(sizes: &[u32], rows: &[u32], n: usize, of: Type) -> Sized
     requires { ⌜ Rising (now rows) n ⌝ }
     ensures { λ r. ⌜ r ≡ typeSizeBy (now (sizes .entry)) (rowNamed (now (rows .entry)) n) of ⌝ }
@@ -56,6 +57,7 @@ fn type_named(sizes: &[u32], rows: &[u32], n: usize, of: Type) -> Sized
     }
 }
 
+// A member's size likewise: its own ByteSize, else its type's.
 fn size_named(sizes: &[u32], rows: &[u32], n: usize, member: Member) -> Sized
     requires { ⌜ Rising (now rows) n ⌝ }
     ensures { λ r. ⌜ r ≡ sizeNamed (now (sizes .entry)) (now (rows .entry)) n member ⌝ }
@@ -117,6 +119,7 @@ fn keep_row(
     }
 }
 
+// All rows one after the other: members and siblings.
 fn keep_members(
     s: &[u8],
     settings: Settings,
@@ -136,6 +139,7 @@ fn keep_members(
     }
 }
 
+// A fault in the words of known sizes.
 fn fault_size(fault: Fault) -> Sized
     ensures { λ r. ⌜ r ≡ faultSize fault ⌝ }
 {
@@ -165,6 +169,7 @@ fn keep_fault(
     }
 }
 
+// Then the structures, whose members are kept by now.
 fn keep_faults(
     s: &[u8],
     settings: Settings,

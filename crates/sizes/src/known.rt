@@ -15,6 +15,7 @@ ghost use Rattle.sizes.specs.declared.sized.Sized.the-variants.{Is, Refu
 // The words of a size.
 pub const KNOWN_WIDTH: usize = 3;
 
+// A word; 0 past the end.
 fn word_at(t: &[u64], i: usize) -> u64
     ensures { λ r. ⌜ r ≡ getD (now (t .entry)) i 0 ⌝ }
 {
@@ -42,6 +43,7 @@ pub fn known_at(known: &[u64], i: usize) -> Sized
 
 // ---- writing them
 
+// The three words of a row.
 fn put_three(known: &mut [u64], at: usize, number: u64, size: u64, place: u64)
     requires { ⌜ at + 3 ≤ length (now known) ⌝ }
     ensures { λ _. ⌜ now (known .exit) ≡ sets (now (known .entry)) at (number ∷ size ∷ place ∷ []) ⌝ }
