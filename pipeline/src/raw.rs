@@ -341,7 +341,13 @@ pub fn layout(s: &[u8], settings: &Settings, table: Table, key: u32, room: &mut 
 }
 
 /// All layouts; results: structures and members.
-pub fn layouts(s: &[u8], settings: &Settings, table: Table, structures: &mut [u64], members: &mut [u64]) -> Answer {
+pub fn layouts(
+    s: &[u8],
+    settings: &Settings,
+    table: Table,
+    structures: &mut [u64],
+    members: &mut [u64],
+) -> Answer {
     let mut answer = Answer::default();
     let [structure_count, member_count, _] = &mut answer.results;
     answer.number = call!(

@@ -7,9 +7,9 @@ use crate::{
 };
 
 /// Tags that the room for all layouts is counted by.
-const CLASS_TYPE: u16 = 0x02;
-const MEMBER: u16 = 0x0d;
-const STRUCTURE_TYPE: u16 = 0x13;
+const CLASS_TYPE: u32 = 0x02;
+const MEMBER: u32 = 0x0d;
+const STRUCTURE_TYPE: u32 = 0x13;
 
 /// A section's bytes with the tables that were read from them.
 #[derive(Debug, Clone)]
@@ -221,9 +221,15 @@ impl Section {
         let ask = |structures: &mut [u64], members: &mut [u64]| {
             raw::layouts(&self.bytes, &self.settings, self.table(), structures, members)
         };
-        let count = |tags: &[u16]| self.entries().filter(|entry| tags.contains(&entry.tag)).count();
-        let mut structures = vec![0; raw::STRUCTURE_WIDTH * count(&[CLASS_TYPE, STRUCTURE_TYPE])];
-        let mut members = vec![0; raw::LAID_WIDTH * count(&[MEMBER])];
+        let tags = self.rows.chunks_exact(raw::ROW_WIDTH).take(self.row_count).map(|words| words[1]);
+        let count = |[structures, members]: [usize; 2], tag| match tag {
+            CLASS_TYPE | STRUCTURE_TYPE => [structures + 1, members],
+            MEMBER => [structures, members + 1],
+            _ => [structures, members],
+        };
+        let [structures, members] = tags.fold([0; 2], count);
+        let mut structures = vec![0; raw::STRUCTURE_WIDTH * structures];
+        let mut members = vec![0; raw::LAID_WIDTH * members];
         let mut answer = ask(&mut structures, &mut members);
         // References can make one row a member of several structures; more than the rows' own counts are asked for only then.
         if let Answer { number: 8, results: [_, count, _], .. } = answer {

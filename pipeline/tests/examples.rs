@@ -145,7 +145,8 @@ fn all_layouts() {
         let key = section.entries().nth(structure.row).unwrap().key;
         assert_eq!(structure.layout, section.layout(key));
     }
-    let sizes: Vec<_> = layouts.iter().map(|s| s.layout.as_ref().map(|l| l.size).map_err(|e| e.number)).collect();
+    let sizes: Vec<_> =
+        layouts.iter().map(|s| s.layout.as_ref().map(|l| l.size).map_err(|e| e.number)).collect();
     assert_eq!(sizes, [Ok(12), Ok(89), Ok(104), Err(11), Ok(0)]);
 }
 

@@ -127,9 +127,12 @@ fn agree(section: &Section, info: &DwarfInfo) {
 
 fn main() {
     let rounds = env::args().nth(1).map_or(101, |word| word.parse().expect("a number"));
-    println!("section                   rows  call             ours us   Rust us  ours/Rust  ours, twice the section");
+    println!(
+        "section                   rows  call             ours us   Rust us  ours/Rust  ours, twice the section"
+    );
     let shapes = [("flat", 580, 1), ("nested 4 deep", 512, 4), ("nested 16 deep", 512, 16)];
-    for ((shape, count, depth), sized) in shapes.into_iter().flat_map(|shape| [(shape, false), (shape, true)]) {
+    for ((shape, count, depth), sized) in shapes.into_iter().flat_map(|shape| [(shape, false), (shape, true)])
+    {
         let name = if sized { format!("{shape}, ByteSize") } else { shape.to_string() };
         let [whole, half] = [count, count / 2].map(|n| {
             let bytes = structures(n, depth, sized);
@@ -139,7 +142,11 @@ fn main() {
         agree(&whole.0, &whole.1);
         let rows = whole.0.entries().count();
         let line = |call: &str, [us, rust]: [f64; 2], [twice, once]: [f64; 2]| {
-            println!("{name:24} {rows:5}  {call:14} {us:9.1} {rust:9.1} {:10.3} {:24.2}", us / rust, twice / once);
+            println!(
+                "{name:24} {rows:5}  {call:14} {us:9.1} {rust:9.1} {:10.3} {:24.2}",
+                us / rust,
+                twice / once
+            );
         };
         let tree = |s: &Section| timed(|| s.tree().unwrap());
         let ratio = in_turns(rounds, || tree(&whole.0), || timed(|| all_children(&whole.1)));
