@@ -132,9 +132,11 @@ fn main() {
     let rounds = env::args().nth(1).map_or(401, |word| word.parse().expect("a number"));
     let only = env::args().nth(2);
     let reader = RefCell::new(Reader::new(0));
-    let shapes: [(&str, Shape, usize); 6] = [
+    let shapes: [(&str, Shape, usize); 7] = [
         ("sparse", sparse, 4000),
         ("dense", dense, 4000),
+        // As many rows and attributes as are allowed.
+        ("full", dense, 4096),
         ("long strings", long_strings, 4000),
         ("short strings", short_strings, 4000),
         ("vendor-heavy", vendor_heavy, 4000),
