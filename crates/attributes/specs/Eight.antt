@@ -1,4 +1,4 @@
--- A look at n bytes at once: is one of them zero, and where is the first?
+-- A look at n bytes at once: is one of them zero (`someIs`), and where is the first?
 use Prim.Native.Nat.{ℕ, zero, suc, _+_, _≤_}
 use native.Mathlib.Nat.{add-zero, add-assoc}
 use native.Mathlib.Omega.{arith}
@@ -8,13 +8,9 @@ use mathlib.Core.List.{List}
 use lib.ListN.{length, getD}
 use lib.Dec.{eqb}
 use borrow.Author.Tests.{eqb-true, eqb-false}
+use Rattle.format.specs.Sixteen.{someIs}
 use Rattle.attributes.specs.Text.{zeroFrom}
 use Rattle.attributes.specs.TextLaws.{zero-here, zero-next}
-
--- one of the n bytes from i on is zero
-unfoldable pub someZero : List ℕ → ℕ → ℕ → Bool
-someZero s i zero = false
-someZero s i (suc n) = eqb (getD s i 0) 0 || someZero s (i + 1) n
 
 -- i where it holds a zero, else a later place
 unfoldable pub hereOr : List ℕ → ℕ → ℕ → ℕ
@@ -26,8 +22,8 @@ firstZero s i zero = i
 firstZero s i (suc n) = hereOr s i (firstZero s (i + 1) n)
 
 -- where one is zero, the first of them is the first from i on
-pub zero-among : (s : List ℕ) (n i : ℕ) → i + n ≤ length s → someZero s i n ≡ true → firstZero s i n ≡ zeroFrom s i
-unfolding someZero hereOr firstZero
+pub zero-among : (s : List ℕ) (n i : ℕ) → i + n ≤ length s → someIs s 0 i n ≡ true → firstZero s i n ≡ zeroFrom s i
+unfolding someIs hereOr firstZero
 zero-among s zero i h p = let z : _≡_ {A = ℕ} 0 1 = cc in absurd (omega arith)
 zero-among s (suc n) i h p = first (eqb (getD s i 0) 0) (zero-among s n (i + 1) (omega arith)) (eqb-true _ _) (eqb-false _ _) p
   where
@@ -37,8 +33,8 @@ zero-among s (suc n) i h p = first (eqb (getD s i 0) 0) (zero-among s n (i + 1) 
     first false l t f q = l q ∙ sym (zero-next s i (omega arith) (f refl))
 
 -- where none is, the first zero stands after them
-pub zero-past : (s : List ℕ) (n i : ℕ) → i + n ≤ length s → someZero s i n ≡ false → zeroFrom s i ≡ zeroFrom s (i + n)
-unfolding someZero
+pub zero-past : (s : List ℕ) (n i : ℕ) → i + n ≤ length s → someIs s 0 i n ≡ false → zeroFrom s i ≡ zeroFrom s (i + n)
+unfolding someIs
 zero-past s zero i h p = ap (zeroFrom s) (sym (add-zero i))
 zero-past s (suc n) i h p =
     let after : i + 1 + n ≡ i + suc n = omega arith in
@@ -55,8 +51,8 @@ module _ (s : List ℕ) (i : ℕ) where
   pub some-of-eight :
       (((((((eqb (getD s i 0) 0 || eqb (getD s (i + 1) 0) 0) || eqb (getD s (i + 2) 0) 0) || eqb (getD s (i + 3) 0) 0) || eqb (getD s (i + 4) 0) 0)
       || eqb (getD s (i + 5) 0) 0) || eqb (getD s (i + 6) 0) 0) || eqb (getD s (i + 7) 0) 0)
-      ≡ someZero s i 8
-  unfolding someZero
+      ≡ someIs s 0 i 8
+  unfolding someIs
   some-of-eight = simp (or-assoc, or-false, add-assoc)
 
   pub first-of-eight : {p₀ p₁ p₂ p₃ p₄ p₅ p₆ p₇ : ℕ} → p₇ ≡ hereOr s (i + 7) (i + 8) → p₆ ≡ hereOr s (i + 6) p₇ → p₅ ≡ hereOr s (i + 5) p₆

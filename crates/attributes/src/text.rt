@@ -3,7 +3,8 @@ ghost use mathlib.Core.Path.{_≡_};
 ghost use Prim.Native.Nat.{_+_, _≤_, _<_};
 ghost use lib.ListN.{length};
 ghost use Rattle.attributes.specs.Text.{zeroFrom};
-ghost use Rattle.attributes.specs.Eight.{someZero, hereOr, firstZero};
+ghost use Rattle.format.specs.Sixteen.{someIs};
+ghost use Rattle.attributes.specs.Eight.{hereOr, firstZero};
 
 // One byte a turn.
 fn zero_in_rest(s: &[u8], from: usize) -> usize
@@ -22,7 +23,7 @@ fn zero_in_rest(s: &[u8], from: usize) -> usize
 // Is one of the eight bytes from i on zero?
 fn zero_in_eight(s: &[u8], i: usize) -> bool
     requires { ⌜ i + 8 ≤ length (now s) ⌝ }
-    ensures { λ r. ⌜ r ≡ someZero (now (s .entry)) i 8 ⌝ }
+    ensures { λ r. ⌜ r ≡ someIs (now (s .entry)) 0 i 8 ⌝ }
 {
     (s[i] == 0)
         | (s[i + 1] == 0)
