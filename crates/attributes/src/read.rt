@@ -10,7 +10,7 @@ ghost use mathlib.Core.Path.{_≡_};
 ghost use Prim.Native.Nat.{_+_, _≤_};
 ghost use lib.ListN.{length};
 ghost use Rattle.attributes.specs.Read.{numbered, readAttribute};
-ghost use Rattle.attributes.specs.ReadWays.{knownEnd};
+ghost use Rattle.attributes.specs.Inside.Read.{knownEnd};
 
 pub enum Attribute {
     // Its number, the place of its value, where the next field begins.

@@ -3,8 +3,8 @@ ghost use mathlib.Core.Path.{_≡_};
 ghost use Prim.Native.Nat.{_+_, _≤_, _<_};
 ghost use lib.ListN.{length};
 ghost use Rattle.attributes.specs.Text.{zeroFrom};
-ghost use Rattle.format.specs.Sixteen.{someIs};
-ghost use Rattle.attributes.specs.Eight.{hereOr, firstZero};
+ghost use Rattle.format.specs.Inside.Sixteen.{someIs};
+ghost use Rattle.attributes.specs.Inside.Eight.{hereOr, firstZero};
 
 // One byte a turn.
 fn zero_in_rest(s: &[u8], from: usize) -> usize

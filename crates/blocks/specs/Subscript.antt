@@ -1,5 +1,5 @@
 -- One subscript (document 01, 'Types, records, sizes'): formats 0, 1 and 8, judged field by field. Byte 0 is the format.
-use Prim.Native.Nat.{ℕ, _+_}
+use Prim.Native.Nat.{ℕ, _+_, _-_, _≤_}
 use mathlib.Core.Bool.{cond}
 use mathlib.Core.List.{List, []}
 use lib.ListN.{length, getD}
@@ -125,3 +125,11 @@ subscriptAs e block Unknown = Refused (refusedBlock reason.Block)
 -- nothing is no subscript
 unfoldable pub subscriptOf : Endian → List ℕ → Subscript
 subscriptOf e block = cond (eqb (length block) 0) (Refused (refusedBlock reason.Block)) (subscriptAs e block (subscriptFormatOf (getD block 0 0)))
+
+-- ---- what a subscript takes
+
+-- a subscript takes at least a byte, and all its bytes are inside
+abbrev pub Takes : List ℕ → Subscript → Type 0
+Takes block (Dimension t size used) = (1 ≤ used) × (used ≤ length block)
+Takes block (Element t used) = (1 ≤ used) × (used ≤ length block)
+Takes block (Refused why) = Unit

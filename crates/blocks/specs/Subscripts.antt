@@ -61,11 +61,6 @@ wholeBlock e block = subscriptsFrom e (length block) element.Nothing 0 block
 unfoldable pub countSubscripts : Endian → List ℕ → Counted
 countSubscripts e block = wholeBlock e block .answer
 
--- what the walk leaves in a room: the words in their order, as far as they fit
-pub record Walked (e : Endian) (block : List ℕ) (r : Counted) (room room′ : List ℕ) : Type 0 where
-  pub answer-is : r ≡ countSubscripts e block
-  pub room-is : room′ ≡ sets room 0 (wholeBlock e block .words)
-
 -- ---- into lent room: 8 last, with the count; on a refusal the room stays as it was
 
 -- an outcome: the answer, and what the lent room then holds

@@ -10,7 +10,8 @@ ghost use mathlib.Core.Path.{_≡_};
 ghost use Prim.Native.Nat.{_*_};
 ghost use lib.ListN.{set};
 ghost use lib.Seq.{sets};
-ghost use Rattle.blocks.specs.Subscripts.{dimensionWords, Walked, elementOr, countSubscripts, readSubscripts, SubscriptsRead};
+ghost use Rattle.blocks.specs.Subscripts.{dimensionWords, elementOr, countSubscripts, readSubscripts, SubscriptsRead};
+ghost use Rattle.blocks.specs.Inside.Subscripts.{Walked};
 
 // The words of a dimension: its index type, its size (0 is unbounded).
 pub const DIMENSION_WIDTH: usize = 2;

@@ -1,35 +1,18 @@
--- A table that reading filled: it holds the rows and attributes that the walk gave, no more rows than the section has groups of four bytes, and it passes
--- the table test with the same section and vendor list.
-use Prim.Native.Nat.{ℕ, suc, _+_, _*_, _≤_}
-use native.Mathlib.Nat.{add-zero}
-use native.Mathlib.Omega.{arith}
-use mathlib.Core.Path.{_≡_, refl, sym, subst, ap, _∙_}
-use mathlib.Core.Bool.{Bool, true, false}
-use mathlib.Core.List.{List, [], _∷_, _++_}
-use lib.ListN.{length, length-append}
-use lib.Seq.{sets, length-sets}
-use lib.Dec.{ltb}
-use borrow.Author.Tests.{eq-eqb}
-use Rattle.numbers.specs.Tests.{cond-all}
-use Rattle.numbers.specs.declared.Endian.{Endian}
-use Rattle.format.specs.Limits.{sectionLimit, erasedLimit}
-use Rattle.format.specs.Settings.{settingsHold}
+-- What the rows of a table that was read keep to.
+use Prim.Native.Nat.{ℕ, _+_, _≤_}
+use mathlib.Core.Path.{_≡_}
+use mathlib.Core.Bool.{true}
+use mathlib.Core.List.{List, [], _∷_}
+use lib.ListN.{length}
+use lib.Seq.{sets}
 use Rattle.format.specs.declared.settings.Settings.{Settings}
-use Rattle.format.specs.declared.refusal.Reason.{Reason}
-use Rattle.format.specs.declared.refusal.Reason.the-variants as reason
-use Rattle.tables.specs.Row.{rowsWords, attrsWords, rowAt, attrAt, rowsFrom, attrsFrom, endianOf}
-use Rattle.tables.specs.RowLaws.{rows-back, attrs-back}
-use Rattle.tables.specs.Test.{fitting, runHolds, rowHolds, rowsHold, tableHolds}
-use Rattle.tables.specs.TestLaws.{row-passes, table-rows, Fits, fits-all}
-use Rattle.tables.specs.CheckedLaws.{attr-passes}
+use Rattle.tables.specs.Row.{rowsWords, attrsWords, rowsFrom, attrsFrom}
+use Rattle.tables.specs.Test.{fitting}
 use Rattle.tables.specs.declared.row.Row.{Row}
 use Rattle.tables.specs.declared.row.Attr.{Attr}
 use Rattle.tables.specs.declared.row.Counts.{Counts}
-use Rattle.entries.specs.Walk.{Walk, walked, refused, walkAt}
-use Rattle.entries.specs.Section.{wholeWalk, refusal, counts, Outcome, untouched, stored, readSection}
-use Rattle.entries.specs.KnownRun.{AllKnown, none-known, more-known}
-use Rattle.entries.specs.RowsRead.{RowRead, RowsRead, no-rows, more-rows, WalkRows, walk-rows}
-use Rattle.entries.specs.declared.section.Section.the-variants.{Read, Room}
+use Rattle.entries.specs.Walk.{walked}
+use Rattle.entries.specs.Section.{wholeWalk, counts, Outcome}
 
 -- ---- keys
 
@@ -37,87 +20,6 @@ use Rattle.entries.specs.declared.section.Section.the-variants.{Read, Ro
 abbrev pub KeysRise : ℕ → ℕ → List Row → Type 0
 KeysRise top least [] = Unit
 KeysRise top least (r ∷ rs) = (least ≤ r .key) × (r .key + 4 ≤ top) × KeysRise top (r .key + 4) rs
-
--- rows that were read have such keys
-rows-rise : {s vendors : List ℕ} {least run place : ℕ} {rs : List Row} {xs : List Attr} → RowsRead s vendors least run rs xs place → KeysRise (length s) least rs
-rows-rise (no-rows h) = tt
-rows-rise (more-rows h r later) = (h, r .fits, rows-rise later)
-
--- so there is a row for every four bytes at most
-rise-few : (top least : ℕ) (rs : List Row) → least ≤ top → KeysRise top least rs → least + length rs * 4 ≤ top
-rise-few top least [] h rise = omega arith
-rise-few top least (r ∷ rs) h rise =
-    let later : r .key + 4 + length rs * 4 ≤ top = rise-few top (r .key + 4) rs (rise .1) (rise .2) in
-    omega arith
-
--- they so rise in the rows that a walk gives, from the place where it began
-pub keys-rise : (vendors : List ℕ) (global : ℕ) (erased : Bool) (s : List ℕ) (levels : ℕ) (isErased : Bool) (e : Endian) (end a at : ℕ) {rs : List Row}
-    {xs : List Attr} {place : ℕ} → walkAt vendors global erased s levels isErased e end a at ≡ walked rs xs place → KeysRise (length s) at rs
-keys-rise vendors global erased s levels isErased e end a at whole =
-    rows-rise (subst (WalkRows s vendors at a) whole (walk-rows s vendors global erased levels isErased e end a at))
-
-module _ (settings : Settings) (vendors s : List ℕ) {rs : List Row} {xs : List Attr} {place : ℕ} (whole : wholeWalk settings vendors s ≡ walked rs xs place) where
-  -- the rows of the whole walk
-  pub whole-rows : RowsRead s vendors 0 0 rs xs place
-  unfolding wholeWalk
-  whole-rows =
-      subst (WalkRows s vendors 0 0) whole
-      (walk-rows s vendors (settings .roles .«global_ref») (settings .erased) erasedLimit false (settings .endian) (length s) 0 0)
-
-  pub whole-keys-rise : KeysRise (length s) 0 rs
-  whole-keys-rise = rows-rise whole-rows
-
--- ---- the table test
-
--- attributes that a table holds, and those behind them
-held-apart : (t : List ℕ) (i : ℕ) (xs ys : List Attr) → attrsFrom t i (length (xs ++ ys)) ≡ xs ++ ys
-    → (attrsFrom t i (length xs) ≡ xs) × (attrsFrom t (i + length xs) (length ys) ≡ ys)
-unfolding attrsFrom
-held-apart t i [] ys p = (refl, rw add-zero p)
-held-apart t i (x ∷ xs) ys p =
-    let later : attrsFrom t (suc i) (length (xs ++ ys)) ≡ xs ++ ys = cc in
-    let parts = held-apart t (suc i) xs ys later in
-    let place : i + suc (length xs) ≡ suc i + length xs = omega arith in
-    (cc (parts .0), rw place (parts .1))
-
-module _ (s vendors rows attrs : List ℕ) where
-  -- a run that the table holds passes
-  held-run-passes : (e : Endian) (first : ℕ) {xs : List Attr} → AllKnown s vendors e xs → attrsFrom attrs first (length xs) ≡ xs
-      → runHolds s vendors e attrs first (length xs) ≡ true
-  unfolding runHolds attrsFrom
-  held-run-passes e first none-known p = refl
-  held-run-passes e first (more-known {a} {xs} x known) p =
-      let here : attrAt attrs first ≡ a = cc in
-      let later : attrsFrom attrs (suc first) (length xs) ≡ xs = cc in
-      rw (here, attr-passes x, held-run-passes e (suc first) known later)
-
-  -- and so does a row
-  held-row-passes : {total least run : ℕ} {r : Row} {own : List Attr} → least ≤ r .key → RowRead s vendors run r own
-      → attrsFrom attrs run (length own) ≡ own → run + length own ≤ total → rowHolds s vendors attrs total least run r ≡ true
-  held-row-passes {r = r} h known p fits =
-      row-passes record {
-        above = h;
-        inside = omega arith;
-        is-tag = known .is-tag;
-        flags-small = known .flags-small;
-        run-begins = known .run-begins;
-        run-inside = omega arith;
-        run-holds = rw (known .run-long) (held-run-passes (endianOf (r .flags)) _ (known .all-known) p);
-      }
-
-  -- and so do rows one after the other
-  held-rows-pass : (total i : ℕ) {least run place : ℕ} {rs : List Row} {xs : List Attr} → RowsRead s vendors least run rs xs place
-      → rowsFrom rows i (length rs) ≡ rs → attrsFrom attrs run (length xs) ≡ xs → run + length xs ≡ total
-      → rowsHold s vendors rows attrs total i (length rs) least run ≡ true
-  unfolding rowsHold rowsFrom
-  held-rows-pass total i (no-rows {run = run} h) p q t = eq-eqb run total (omega arith)
-  held-rows-pass total i (more-rows {run = run} {r = r} {own = own} {xs = xs} {rs = rs} h known later) p q t =
-      let here : rowAt rows i ≡ r = cc in
-      let others : rowsFrom rows (suc i) (length rs) ≡ rs = cc in
-      let parts = held-apart attrs run own xs q in
-      let whole : length (own ++ xs) ≡ length own + length xs = length-append own xs in
-      let room : run + length own ≤ total = omega arith in
-      rw (here, held-row-passes h known (parts .0) room, known .run-long) (held-rows-pass total (suc i) later others (parts .1) (omega arith))
 
 -- ---- the answer
 
@@ -133,78 +35,3 @@ pub record Filled (settings : Settings) (vendors s rows attrs : List ℕ) (c : C
   pub attrs-stored : o .attrs ≡ sets attrs 0 (attrsWords xs)
   pub rows-held : rowsFrom (o .rows) 0 (length rs) ≡ rs
   pub attrs-held : attrsFrom (o .attrs) 0 (length xs) ≡ xs
-
-module _ (settings : Settings) (vendors s rows attrs : List ℕ) (c : Counts) where
-  -- an outcome that answers with these counts filled the tables
-  abbrev Fills : Outcome → Type 0
-  Fills o = o .answer ≡ Read c → Filled settings vendors s rows attrs c o
-
-  -- a refusal answers no counts, nor does 8
-  refused-fills : (why : Reason) (at : ℕ) → Fills (untouched (refusal why at) rows attrs)
-  refused-fills why at p = let z : _≡_ {A = ℕ} 0 1 = cc in absurd (omega arith)
-
-  room-fills : (n m : ℕ) → Fills (untouched (Room (counts n m)) rows attrs)
-  room-fills n m p = let z : _≡_ {A = ℕ} 0 1 = cc in absurd (omega arith)
-
-  -- what the walk gave, where it fits
-  stored-fills : (w : Walk) → wholeWalk settings vendors s ≡ w → Fills (stored w rows attrs)
-  unfolding stored
-  stored-fills (walked rs xs place) whole =
-      let d : Counts = counts (length rs) (length xs) in
-      cond-all Fills (fitting d (length rows) (length attrs))
-      (λ t p. (let same : d ≡ c = cc in
-      let room : Fits d (length rows) (length attrs) = fits-all d (length rows) (length attrs) t in
-      record {
-        rs = rs;
-        xs = xs;
-        place = place;
-        whole = whole;
-        counted = sym same;
-        fits = rw (← same) t;
-        rows-stored = refl;
-        attrs-stored = refl;
-        rows-held = rows-back rows rs (room .rows-lent);
-        attrs-held = attrs-back attrs xs (room .attrs-lent);
-      }))
-      (λ t. room-fills (length rs) (length xs))
-  stored-fills (refused why at) whole = refused-fills why at
-
--- ---- the theorems
-
-module _ {settings : Settings} {vendors s rows attrs : List ℕ} {c : Counts} {o : Outcome} (filled : Filled settings vendors s rows attrs c o) where
-  filled-few : c .rows * 4 ≤ length s
-  filled-few =
-      let few : 0 + length (filled .rs) * 4 ≤ length s =
-      rise-few (length s) 0 (filled .rs) (omega arith) (whole-keys-rise settings vendors s (filled .whole))
-      in
-      let count : c .rows ≡ length (filled .rs) = ap (λ (d : Counts). d .rows) (filled .counted) in
-      omega arith
-
-  filled-passes : tableHolds s vendors (o .rows) (o .attrs) c ≡ true
-  filled-passes =
-      let room : Fits c (length rows) (length attrs) = fits-all c (length rows) (length attrs) (filled .fits) in
-      let rows-long : length (o .rows) ≡ length rows = ap length (filled .rows-stored) ∙ length-sets rows 0 (rowsWords (filled .rs)) in
-      let attrs-long : length (o .attrs) ≡ length attrs = ap length (filled .attrs-stored) ∙ length-sets attrs 0 (attrsWords (filled .xs)) in
-      let rows-counted : c .rows ≡ length (filled .rs) = ap (λ (d : Counts). d .rows) (filled .counted) in
-      let attrs-counted : c .attrs ≡ length (filled .xs) = ap (λ (d : Counts). d .attrs) (filled .counted) in
-      sym (table-rows s vendors (o .rows) (o .attrs) c (room .rows-few) (omega arith) (room .attrs-few) (omega arith))
-      ∙ rw rows-counted
-      (held-rows-pass s vendors (o .rows) (o .attrs) (c .attrs) 0 (whole-rows settings vendors s (filled .whole)) (filled .rows-held) (filled .attrs-held) (omega arith))
-
-module _ (settings : Settings) (vendors sizes s rows attrs : List ℕ) (c : Counts) (answers : readSection settings vendors sizes s rows attrs .answer ≡ Read c) where
-  -- an answer of counts filled the tables
-  pub answer-read : Filled settings vendors s rows attrs c (readSection settings vendors sizes s rows attrs)
-  unfolding readSection
-  answer-read =
-      let P : Outcome → Type 0 = Fills settings vendors s rows attrs c in
-      cond-all P (settingsHold settings vendors sizes)
-      (λ t. cond-all P (ltb (length s) sectionLimit) (λ u. stored-fills settings vendors s rows attrs c (wholeWalk settings vendors s) refl)
-      (λ u. refused-fills settings vendors s rows attrs c reason.Long 0)) (λ t. refused-fills settings vendors s rows attrs c reason.Settings 0) answers
-
-  -- there are no more rows than a quarter of the bytes
-  pub rows-at-most-quarter : c .rows * 4 ≤ length s
-  rows-at-most-quarter = filled-few answer-read
-
-  -- and the table passes the test, with the same section and vendor list
-  pub filled-holds : tableHolds s vendors (readSection settings vendors sizes s rows attrs .rows) (readSection settings vendors sizes s rows attrs .attrs) c ≡ true
-  filled-holds = filled-passes answer-read

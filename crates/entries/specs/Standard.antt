@@ -1,13 +1,12 @@
 -- How the standard writes entries, in either endianness (facts of DWARF 1.1, not the reader): a null entry of 4 to 7 bytes; padding; an entry as its exact
 -- size, its tag, and its attributes, each a 2-byte number and a value in the number's form. Every number in one endianness.
-use Prim.Native.Nat.{ℕ, zero, suc, _+_, _/_, _%_, _^_, _≤_, _<_}
+use Prim.Native.Nat.{ℕ, zero, _+_, _^_, _≤_, _<_}
 use mathlib.Core.Path.{_≡_}
 use mathlib.Core.Bool.{true, false}
 use mathlib.Core.List.{List, [], _∷_, _++_}
 use lib.ListN.{length, getD}
 use Rattle.numbers.specs.Written.{bytesOf, Bytes}
 use Rattle.numbers.specs.declared.Endian.{Endian}
-use Rattle.numbers.specs.declared.Endian.the-variants.{Big, Little}
 use Rattle.format.specs.Lookup.{member}
 use Rattle.format.specs.Known.{known}
 use Rattle.format.specs.TagKind.{tags}
@@ -112,3 +111,10 @@ module _ (vendors : List ℕ) (e : Endian) where
   unfoldable pub rowsOf : ℕ → ℕ → List Die → List Row
   rowsOf at a [] = []
   rowsOf at a (d ∷ rest) = dieRows at a d ++ rowsOf (at + length (writtenDie d)) (a + length (dieAttrs at d)) rest
+
+-- entries that the standard writes as this section, with these rows and attributes
+pub record WrittenAs (vendors : List ℕ) (e : Endian) (s : List ℕ) (rs : List Row) (xs : List Attr) : Type 0 where
+  pub dies : List (Die vendors e)
+  pub written : writtenDies vendors e dies ≡ s
+  pub rows : rowsOf vendors e 0 0 dies ≡ rs
+  pub attributes : attrsOf vendors e 0 dies ≡ xs

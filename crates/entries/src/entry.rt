@@ -18,7 +18,7 @@ ghost use Prim.Native.Nat.{_+_, _≤_};
 ghost use lib.ListN.{length};
 ghost use mathlib.Core.Bool.{false};
 ghost use Rattle.entries.specs.Entry.{flip, littleFlag, flagOf, flagsOf, kindOf, ordinary, attributes, rootEndian, entryFrom, entryAt};
-ghost use Rattle.entries.specs.Promise.{Ready, farthest, NullReady, NullRead, BodyReady, BodyRead, EntryRead};
+ghost use Rattle.entries.specs.Inside.Promise.{Ready, farthest, NullReady, NullRead, BodyReady, BodyRead, EntryRead};
 
 // Where reading stands: the place, and how many rows and attributes were read.
 pub struct State {

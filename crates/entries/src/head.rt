@@ -11,7 +11,7 @@ ghost use mathlib.Core.Path.{_≡_};
 ghost use Prim.Native.Nat.{_+_, _^_, _≤_, _<_};
 ghost use lib.ListN.{length};
 ghost use Rattle.entries.specs.Head.{nullEnd, tagHead, sizeHead, headAt};
-ghost use Rattle.entries.specs.Promise.{HeadRead};
+ghost use Rattle.entries.specs.Inside.Promise.{HeadRead};
 
 pub enum Head {
     // A null entry, and padding that is stepped over: where the next entry begins.

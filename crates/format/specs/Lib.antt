@@ -1,7 +1,6 @@
--- The format's numbers, the limits, the refusals and the settings. What must be believed: the tables (`TagKind` to `SubscriptFormat`), named as in the
--- Rust; `Known`, `Limits`, `Refusal` and `Settings`, from document 01; `Lookup`, the three ways to ask a table. The rest are laws: `NamedWords` (the
--- attribute numbers as bits), `LookupLaws`, `Sixteen` (so many numbers of a list at once), `Computed` (a test that is computed over a whole table),
--- `FormLaws`, `SettingsLaws`, and `Only` (no second answer fits). `InputA` is document 01's example, for the crates above.
+-- The format's numbers, the limits, the refusals and the settings. The tables (`TagKind` to `SubscriptFormat`) are named as in the Rust; `Known`,
+-- `Limits`, `Refusal` and `Settings` are document 01's; `Lookup` has the three ways to ask a table; `InputA` is document 01's example, for the crates
+-- above.
 pub mod Lookup
 pub mod TagKind
 pub mod AttributeKind
@@ -14,11 +13,6 @@ pub mod SubscriptFormat
 pub mod Limits
 pub mod Refusal
 pub mod Settings
-pub mod NamedWords
-pub mod LookupLaws
-pub mod Sixteen
-pub mod Computed
-pub mod FormLaws
-pub mod SettingsLaws
-pub mod Only
 pub mod InputA
+-- What functions inside promise. Nothing public rests on it.
+pub mod Inside

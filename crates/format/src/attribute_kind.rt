@@ -4,7 +4,7 @@ ghost use mathlib.Core.Path.{_≡_};
 ghost use Rattle.format.specs.Lookup.{member, lookup};
 ghost use Rattle.format.specs.AttributeKind.{attributeKinds};
 ghost use Rattle.format.specs.Known.{known};
-ghost use Rattle.format.specs.NamedWords.{namedWords};
+ghost use Rattle.format.specs.Inside.NamedWords.{namedWords};
 
 pub const SIBLING: u16 = 0x0012;
 

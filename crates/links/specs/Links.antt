@@ -1,13 +1,12 @@
 -- Next row, sibling, children (document 01, 'Links'). A row is its number in the table; a row that is not there is the count of rows.
-use Prim.Native.Nat.{ℕ, zero, suc, _-_, _≤_, _<_}
+use Prim.Native.Nat.{ℕ, zero, suc, _-_}
 use mathlib.Core.Bool.{Bool, cond, not, _||_}
 use mathlib.Core.List.{List, [], _∷_}
 use lib.Dec.{eqb}
 use Rattle.format.specs.TagKind as tag
 use Rattle.numbers.specs.declared.Endian.{Endian}
-use Rattle.format.specs.Limits.{entryLimit}
 use Rattle.tables.specs.Row.{rowAt, erasedRow}
-use Rattle.tables.specs.Find.{rowOfKey, Rising}
+use Rattle.tables.specs.Find.{rowOfKey}
 use Rattle.tables.specs.declared.find.Found.{Found}
 use Rattle.tables.specs.declared.find.Found.the-variants.{At, Nothing}
 use Rattle.links.specs.Attribute.{siblingNumber, referenceOf}
@@ -52,13 +51,3 @@ nullRow rows c = eqb (rowAt rows c .kind) tag.Padding
 unfoldable pub nonNull : List ℕ → List ℕ → List ℕ
 nonNull rows [] = []
 nonNull rows (c ∷ cs) = cond (nullRow rows c) (nonNull rows cs) (c ∷ nonNull rows cs)
-
--- what the functions on a row require
-pub record AtRow (rows : List ℕ) (n i : ℕ) : Type 0 where
-  pub rising : Rising rows n
-  pub there : i < n
-
--- what the functions on a whole table require
-pub record Rows (rows : List ℕ) (n : ℕ) : Type 0 where
-  pub rising : Rising rows n
-  pub few : n ≤ entryLimit

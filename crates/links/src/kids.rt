@@ -3,7 +3,7 @@ use crate::link::sibling_row;
 use numbers::Endian;
 use tables::row::row_at;
 ghost use mathlib.Core.Path.{_≡_};
-ghost use Rattle.links.specs.Kids.{firstOr, kidsFrom, Ends};
+ghost use Rattle.links.specs.Inside.Kids.{firstOr, kidsFrom, Ends};
 
 // The first child that the walk from `from` on meets, or n where it meets none before `end`.
 pub fn child_from(

@@ -9,7 +9,8 @@ use tables::row::row_at;
 ghost use mathlib.Core.Path.{_≡_};
 ghost use Prim.Native.Nat.{_-_, _≤_};
 ghost use Rattle.tables.specs.Find.{rowOfKey};
-ghost use Rattle.links.specs.Links.{nextFrom, nextRow, rowNumber, siblingRow, AtRow};
+ghost use Rattle.links.specs.Links.{nextFrom, nextRow, rowNumber, siblingRow};
+ghost use Rattle.links.specs.Inside.Links.{AtRow};
 
 const SIBLING: u32 = 0x12;
 

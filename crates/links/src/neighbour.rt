@@ -13,7 +13,8 @@ use tables::row::Counts;
 ghost use mathlib.Core.Path.{_≡_};
 ghost use Rattle.tables.specs.Check.{refusedAt};
 ghost use Rattle.tables.specs.Find.{rowOfKey};
-ghost use Rattle.links.specs.Links.{nextRow, siblingRow, Rows};
+ghost use Rattle.links.specs.Links.{nextRow, siblingRow};
+ghost use Rattle.links.specs.Inside.Links.{Rows};
 ghost use Rattle.links.specs.Neighbour.{answerOf, neighbourBy, nextOf, siblingOf};
 
 pub enum Neighbour {

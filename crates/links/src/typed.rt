@@ -29,7 +29,8 @@ use tables::row::endian_of;
 use tables::row::row_at;
 ghost use mathlib.Core.Path.{_≡_};
 ghost use Rattle.tables.specs.Check.{refusedAt};
-ghost use Rattle.tables.specs.Find.{rowOfKey, Rising};
+ghost use Rattle.tables.specs.Find.{rowOfKey};
+ghost use Rattle.tables.specs.Inside.Find.{Rising};
 ghost use Rattle.links.specs.Typed.{rowBy, inRow, lookedIn, attributeBy, blockForm, endsOf, spotAt, spotIn, placeOf, asValue, asWidened, wordAt, valueBy, partAs, partOf, toldWords, Handed};
 
 // The attribute that was looked for; or the row has none.

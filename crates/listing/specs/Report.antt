@@ -1,6 +1,5 @@
 -- What the listing program prints for a section: document 01, 'Modules, leaves first'.
-use Prim.Native.Nat.{ℕ, _≤_}
-use mathlib.Core.Path.{_≡_}
+use Prim.Native.Nat.{ℕ}
 use mathlib.Core.Bool.{Bool, false, cond}
 use mathlib.Core.List.{List, []}
 use lib.ListN.{replicate}
@@ -75,11 +74,3 @@ reportText s =
 -- the text for an input, of which s is all or, where it is longer, the beginning
 unfoldable pub inputText : Bool → List ℕ → List ℕ
 inputText longer s = cond longer roomText (reportText s)
-
--- what the writers require: a page holds the lines of no more rows than these
-pub record FewRead (answer : Section) : Type 0 where
-  pub few : (counts : Counts) → answer ≡ Read counts → counts .rows ≤ 1024
-
--- and no more places
-pub record FewListed (answer : Listing) : Type 0 where
-  pub few : (n : ℕ) → answer ≡ listing.Listed n → n ≤ 1024

@@ -20,7 +20,8 @@ ghost use Rattle.listing.specs.Text.{refusalText};
 ghost use Rattle.listing.specs.Put.{Printed};
 ghost use Rattle.format.specs.Refusal.{numberOf};
 ghost use Rattle.tree.specs.Tree.{Given};
-ghost use Rattle.listing.specs.Report.{FewRead, FewListed, listingSettings, listingRead, listingTree, roomText, placesText, treeText, answerText, reportText, inputText};
+ghost use Rattle.listing.specs.Inside.Report.{FewRead, FewListed};
+ghost use Rattle.listing.specs.Report.{listingSettings, listingRead, listingTree, roomText, placesText, treeText, answerText, reportText, inputText};
 
 // Big-endian, erased entries out, no vendor numbers.
 fn listing_settings() -> Settings

@@ -29,7 +29,6 @@ use Rattle.records.specs.declared.scan.Run.{Run}
 use Rattle.records.specs.declared.fields.Name.{Name}
 use Rattle.records.specs.declared.fields.Sought.the-variants as sought
 use Rattle.records.specs.declared.fields.Word.{Word}
-use Rattle.records.specs.declared.enumeration.Enumeration.{Enumeration}
 use Rattle.records.specs.declared.enumeration.EnumerationWhole.{EnumerationWhole}
 use Rattle.records.specs.declared.enumeration.EnumerationWhole.the-variants as whole
 use Rattle.records.specs.declared.enumeration.EnumerationRead.{EnumerationRead}

@@ -15,8 +15,7 @@ use Rattle.tables.specs.Row.{rowAt}
 use Rattle.tables.specs.Check.{refusedAt}
 use Rattle.links.specs.Walk.{Walk, ends, endless}
 use Rattle.links.specs.Links.{childWalk, nonNull}
-use Rattle.links.specs.ChildrenWays.{Asked}
-use Rattle.records.specs.Scan.{runOf, faultAt, faultsFrom, orElse, Plain}
+use Rattle.records.specs.Scan.{runOf, faultAt, faultsFrom, orElse}
 use Rattle.records.specs.declared.taken.Record.{Record}
 use Rattle.records.specs.declared.taken.Record.the-variants.{Member, Union, Enumeration, Typedef, Variable, Label, PtrToMember, OverlayBranch}
 use Rattle.records.specs.declared.scan.Fault.{Fault}
@@ -64,8 +63,3 @@ frontOf settings s rows attrs n r i =
 unfoldable pub unless : {A : Type 0} → Fault → (Refusal → A) → A → A
 unless Clear refused answer = answer
 unless (Refused why) refused answer = refused why
-
--- what a record without attributes of its own requires
-pub record PlainAt (r : Record) (rows : List ℕ) (n i : ℕ) : Type 0 where
-  pub plain : Plain r
-  pub asked : Asked rows n i

@@ -1,6 +1,6 @@
--- The records (document 01, 'Types, records, sizes').
--- What must be believed: `Taken` (which attributes each record takes), `Scan` (an attribute's faults), `Fields` (the last of a kind counts), `Front` (kind and
--- children), then a file for each record; `MemberWords` and `Elements` for the lists in lent room. Files that end in `Ways` say how the code goes about it.
+-- The records (document 01, 'Types, records, sizes'): `Taken` (which attributes each record takes), `Scan` (an attribute's faults), `Fields` (the last
+-- of a kind counts), `Front` (kind and children), then a file for each record; `MemberWords` and `Elements` for the lists in lent room. For theorems:
+-- `UnionFilled` and `EnumerationFilled` (what a room then holds), `TypedefWords` (document 01's own words of a typedef).
 pub mod Taken
 pub mod Scan
 pub mod Fields
@@ -15,28 +15,8 @@ pub mod Unions
 pub mod Elements
 pub mod Enumeration
 pub mod Typedef
--- How the code goes about it.
-pub mod ElementsWays
-pub mod EnumerationWays
-pub mod UnionsWays
--- Laws.
-pub mod TakenLaws
-pub mod ScanLaws
-pub mod FieldsLaws
-pub mod FrontLaws
-pub mod RecordLaws
-pub mod MemberLaws
-pub mod VariableLaws
-pub mod OverlayBranchLaws
-pub mod MemberWordsLaws
-pub mod UnionsLaws
-pub mod ElementsLaws
-pub mod EnumerationLaws
-pub mod TypedefLaws
--- No second answer fits.
-pub mod Only
--- What a room then holds.
 pub mod UnionFilled
 pub mod EnumerationFilled
--- Document 01's own words of a typedef come to the same.
 pub mod TypedefWords
+-- What functions inside promise. Nothing public rests on it.
+pub mod Inside

@@ -2,8 +2,7 @@
 -- the record must take (13), in the form that is expected (14), and whose type or location must be one (17, 18). The first fault met counts; its place is the
 -- row's key.
 use Prim.Native.Nat.{ℕ, zero, suc, _+_, _%_}
-use mathlib.Core.Path.{_≡_}
-use mathlib.Core.Bool.{Bool, false, cond, _||_}
+use mathlib.Core.Bool.{Bool, cond, _||_}
 use mathlib.Core.List.{List, [], _∷_}
 use lib.Dec.{eqb}
 use Rattle.numbers.specs.declared.Endian.{Endian}
@@ -25,15 +24,13 @@ use Rattle.tables.specs.Row.{rowAt, attrAt}
 use Rattle.tables.specs.Check.{refusedAt}
 use Rattle.links.specs.Typed.{endsOf}
 use Rattle.format.specs.Settings.{plays}
-use Rattle.records.specs.Taken.{takes, special}
+use Rattle.records.specs.Taken.{takes}
 use Rattle.records.specs.declared.taken.Record.{Record}
 use Rattle.records.specs.declared.taken.Record.the-variants as record′
 use Rattle.records.specs.declared.scan.Run.{Run}
 use Rattle.records.specs.declared.scan.Attribute.{Attribute}
 use Rattle.records.specs.declared.scan.Fault.{Fault}
 use Rattle.records.specs.declared.scan.Fault.the-variants.{Clear, Refused}
-use Rattle.records.specs.declared.scan.Scan.{Scan}
-use Rattle.records.specs.declared.scan.Scan.the-variants as scan
 
 -- row i's attributes, its key, the endiannesses
 unfoldable pub runOf : Endian → List ℕ → ℕ → Run
@@ -132,17 +129,3 @@ module _ (roles : Roles) (r : Record) (run : Run) (s attrs : List ℕ) where
   -- the number of attribute j
   unfoldable pub numberAt : ℕ → ℕ
   numberAt j = attributeAt attrs (run .first + j) .number
-
-  -- a fault ends the scan
-  unfoldable pub passes : Fault → Scan → Scan
-  passes Clear next = next
-  passes (Refused why) next = scan.Refused why
-
-  -- n attributes from number j on, up to the next that the record reads itself
-  unfoldable pub scanFrom : ℕ → ℕ → Scan
-  scanFrom j zero = scan.Stop j
-  scanFrom j (suc n) = cond (special r (numberAt j)) (scan.Stop j) (passes (faultAt j) (scanFrom (suc j) n))
-
--- the record reads no attribute itself
-pub record Plain (r : Record) : Type 0 where
-  pub plain : (number : ℕ) → special r number ≡ false

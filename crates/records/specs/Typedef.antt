@@ -4,7 +4,7 @@
 use Prim.Native.Nat.{ℕ, zero, suc, _+_, _-_}
 use mathlib.Core.Bool.{true, false, cond}
 use mathlib.Core.List.{List}
-use lib.Dec.{eqb, leb}
+use lib.Dec.{eqb}
 use Rattle.numbers.specs.Value.{readAt}
 use Rattle.format.specs.AttributeKind as attribute
 use Rattle.format.specs.Limits.{specificationLimit}
@@ -21,13 +21,11 @@ use Rattle.tables.specs.declared.find.Found.the-variants as found
 use Rattle.links.specs.Links.{childWalk}
 use Rattle.links.specs.Typed.{inRow}
 use Rattle.records.specs.Taken.{special}
-use Rattle.records.specs.Scan.{runOf, attributeAt, numberAt, faultAt, scanFrom}
+use Rattle.records.specs.Scan.{runOf, attributeAt, numberAt, faultAt}
 use Rattle.records.specs.Fields.{lastOf, nameOf, typeBy}
 use Rattle.records.specs.Front.{kindFault, childlessFault, unless}
 use Rattle.records.specs.declared.taken.Record.the-variants as record′
 use Rattle.records.specs.declared.scan.Run.{Run}
-use Rattle.records.specs.declared.scan.Scan.{Scan}
-use Rattle.records.specs.declared.scan.Scan.the-variants as scan
 use Rattle.records.specs.declared.fields.Sought.the-variants as sought
 use Rattle.records.specs.declared.fields.Text.{Text}
 use Rattle.records.specs.declared.fields.Name.{Name}
@@ -39,8 +37,6 @@ use Rattle.records.specs.declared.typedef.Filling.{Filling}
 use Rattle.records.specs.declared.typedef.Filling.the-variants as filling
 use Rattle.records.specs.declared.typedef.Specified.{Specified}
 use Rattle.records.specs.declared.typedef.Specified.the-variants as specified′
-use Rattle.records.specs.declared.typedef.Pause.{Pause}
-use Rattle.records.specs.declared.typedef.Pause.the-variants as pause
 
 -- ---- name and type
 
@@ -105,20 +101,6 @@ module _ (settings : Settings) (s rows attrs : List ℕ) (n : ℕ) (run : Run) (
       unless (faultAt (settings .roles) record′.Typedef run s attrs j) specified′.Refused
       (readAt (specifiedBy settings rows n levels) (specified′.Refused (refusedAt (run .key) reason.Block)) (run .ends .section) 4 s
       (attributeAt attrs (run .first + j) .value))
-
-  -- how the code goes on: up to the next specification
-  unfoldable pub pauseAt : ℕ → Specified → Pause
-  pauseAt j (specified′.Row r) = pause.At j r
-  pauseAt j (specified′.Refused why) = pause.Refused why
-
-  -- where the scan stopped: after the last attribute, or at a specification
-  unfoldable pub pauseBy : Scan → Pause
-  pauseBy (scan.Stop j) = cond (leb (run .count) j) pause.End (pauseAt j (specified j))
-  pauseBy (scan.Refused why) = pause.Refused why
-
-  -- from attribute j on
-  unfoldable pub pauseFrom : ℕ → Pause
-  pauseFrom j = pauseBy (scanFrom (settings .roles) record′.Typedef run s attrs j (run .count - j))
 
 -- ---- the attributes in their order
 

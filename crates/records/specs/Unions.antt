@@ -29,7 +29,6 @@ use Rattle.records.specs.declared.fields.Name.{Name}
 use Rattle.records.specs.declared.member.Member.{Member}
 use Rattle.records.specs.declared.member.MemberRead.{MemberRead}
 use Rattle.records.specs.declared.member.MemberRead.the-variants as read
-use Rattle.records.specs.declared.unions.Union.{Union}
 use Rattle.records.specs.declared.unions.UnionWhole.{UnionWhole}
 use Rattle.records.specs.declared.unions.UnionWhole.the-variants as whole
 use Rattle.records.specs.declared.unions.UnionRead.{UnionRead}

@@ -14,7 +14,7 @@ use numbers::signed::i32_at;
 ghost use mathlib.Core.Path.{_≡_};
 ghost use Prim.Native.Nat.{_+_, _^_, _<_};
 ghost use Rattle.records.specs.Elements.{listWidth, valueAt, nameFrom, namedFrom, elementAt, elementsIn};
-ghost use Rattle.records.specs.ElementsWays.{slotOf, listedAs, Stored, Addable, asLists, StoredFrom};
+ghost use Rattle.records.specs.Inside.Elements.{slotOf, listedAs, Stored, Addable, asLists, StoredFrom};
 
 // A value and the name at `place`, of `length` bytes; where the next element begins.
 pub enum Element {

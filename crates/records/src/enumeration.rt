@@ -35,11 +35,11 @@ use tables::row::attr_at;
 ghost use mathlib.Core.Path.{_≡_};
 ghost use Prim.Native.Nat.{_<_};
 ghost use lib.ListN.{length};
-ghost use Rattle.links.specs.ChildrenWays.{Asked};
+ghost use Rattle.links.specs.Inside.Children.{Asked};
 ghost use Rattle.format.specs.Limits.{sectionLimit};
 ghost use Rattle.records.specs.Enumeration.{sizeBefore, isGcc, sizedBy, enumerationEnd, rowLists, enumerationAt, listsFrom, intoRooms, enumerationBy, EnumerationGiven};
-ghost use Rattle.records.specs.ElementsWays.{StoredFrom};
-ghost use Rattle.records.specs.EnumerationWays.{Countable, oneList, Stepping, Steps, AskedShort, WholeStored};
+ghost use Rattle.records.specs.Inside.Elements.{StoredFrom};
+ghost use Rattle.records.specs.Inside.Enumeration.{Countable, oneList, Stepping, Steps, AskedShort, WholeStored};
 
 pub struct Enumeration {
     pub name: Name,

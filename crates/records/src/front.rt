@@ -13,9 +13,10 @@ use numbers::Endian;
 use tables::row::row_at;
 ghost use mathlib.Core.Path.{_≡_};
 ghost use Rattle.links.specs.Links.{childWalk};
-ghost use Rattle.links.specs.ChildrenWays.{Asked};
-ghost use Rattle.records.specs.Scan.{Plain};
-ghost use Rattle.records.specs.Front.{isMwcc, kindTaken, kindFault, childlessFault, headOf, frontOf, PlainAt};
+ghost use Rattle.links.specs.Inside.Children.{Asked};
+ghost use Rattle.records.specs.Inside.Scan.{Plain};
+ghost use Rattle.records.specs.Front.{isMwcc, kindTaken, kindFault, childlessFault, headOf, frontOf};
+ghost use Rattle.records.specs.Inside.Front.{PlainAt};
 
 fn is_mwcc(producer: Producer) -> bool
     ensures { λ r. ⌜ r ≡ isMwcc producer ⌝ }

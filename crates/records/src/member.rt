@@ -27,7 +27,7 @@ use links::typed::Keyed;
 use links::typed::row_of;
 use tables::row::Counts;
 ghost use mathlib.Core.Path.{_≡_};
-ghost use Rattle.links.specs.ChildrenWays.{Asked};
+ghost use Rattle.links.specs.Inside.Children.{Asked};
 ghost use Rattle.records.specs.Member.{bitsBy, memberWith, memberPlaced, memberFields, memberAt, memberBy};
 
 // The bits of a bit field, if it is one.

@@ -17,7 +17,7 @@ use links::typed::Keyed;
 use links::typed::row_of;
 use tables::row::Counts;
 ghost use mathlib.Core.Path.{_≡_};
-ghost use Rattle.links.specs.ChildrenWays.{Asked};
+ghost use Rattle.links.specs.Inside.Children.{Asked};
 ghost use Rattle.records.specs.PtrToMember.{ptrTyped, ptrFields, ptrAt, ptrBy};
 
 // The type that is pointed to, and the key of the type that contains it.

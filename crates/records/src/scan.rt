@@ -24,7 +24,8 @@ use tables::row::row_at;
 ghost use mathlib.Core.Path.{_≡_};
 ghost use Prim.Native.Nat.{_-_};
 ghost use Rattle.tables.specs.Check.{refusedAt};
-ghost use Rattle.records.specs.Scan.{runOf, attributeAt, expected, expectedForm, isType, typedFault, locatedFault, locationFault, contentFault, formFault, attributeFault, faultAt, scanFrom, faultsFrom, Plain};
+ghost use Rattle.records.specs.Scan.{runOf, attributeAt, expected, expectedForm, isType, typedFault, locatedFault, locationFault, contentFault, formFault, attributeFault, faultAt, faultsFrom};
+ghost use Rattle.records.specs.Inside.Scan.{scanFrom, Plain};
 
 // A row's attributes: where they begin, how many there are; its key; the endiannesses.
 pub struct Run {

@@ -32,9 +32,10 @@ use tables::find::Found;
 use tables::find::find_row;
 use tables::row::Counts;
 ghost use mathlib.Core.Path.{_≡_};
-ghost use Rattle.links.specs.Links.{Rows};
-ghost use Rattle.links.specs.ChildrenWays.{Asked};
-ghost use Rattle.records.specs.Typedef.{firstFilling, typedefName, typedefType, typedefWith, typedefFields, typedefEnd, specifiedRow, specifiedBy, specified, pauseFrom, typedefRun, typedefAt, typedefOf};
+ghost use Rattle.links.specs.Inside.Links.{Rows};
+ghost use Rattle.links.specs.Inside.Children.{Asked};
+ghost use Rattle.records.specs.Typedef.{firstFilling, typedefName, typedefType, typedefWith, typedefFields, typedefEnd, specifiedRow, specifiedBy, specified, typedefRun, typedefAt, typedefOf};
+ghost use Rattle.records.specs.Inside.Typedef.{pauseFrom};
 
 pub struct Typedef {
     pub name: Text,

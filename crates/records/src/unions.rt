@@ -30,10 +30,10 @@ use links::typed::row_of;
 use tables::row::Counts;
 use tables::row::row_at;
 ghost use mathlib.Core.Path.{_≡_};
-ghost use Rattle.links.specs.ChildrenWays.{Asked};
+ghost use Rattle.links.specs.Inside.Children.{Asked};
 ghost use Rattle.records.specs.Unions.{ignored, sizedBy, membersFrom, rowMembers, unionAt, intoRoom, unionBy, UnionGiven};
-ghost use Rattle.records.specs.UnionsWays.{TakeAsked, Takes, EndsAt, MembersStored, WholeStored};
-ghost use Rattle.links.specs.Kids.{kidsOf};
+ghost use Rattle.records.specs.Inside.Unions.{TakeAsked, Takes, EndsAt, MembersStored, WholeStored};
+ghost use Rattle.links.specs.Inside.Kids.{kidsOf};
 ghost use Rattle.tables.specs.Row.{rowAt};
 
 pub struct Union {

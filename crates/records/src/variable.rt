@@ -20,7 +20,7 @@ use links::typed::row_of;
 use tables::row::Counts;
 use tables::row::row_at;
 ghost use mathlib.Core.Path.{_≡_};
-ghost use Rattle.links.specs.ChildrenWays.{Asked};
+ghost use Rattle.links.specs.Inside.Children.{Asked};
 ghost use Rattle.records.specs.Variable.{variableFields, variableAt, variableBy};
 
 pub struct Variable {

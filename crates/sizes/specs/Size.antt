@@ -2,7 +2,7 @@
 -- other: here the entry's size is a function of "the size of a type", and the levels that are left fall from an entry to those it names.
 -- The tests in their order: 1, 2, 3; of the entry 11, 10, 12; what its row refuses, all of it read whole; what the sizes that it asks for refuse, and 20.
 -- `sizeOfKey` and `sizeOfType`, at the end, are the public calls.
-use Prim.Native.Nat.{ℕ, zero, suc, _+_, _*_}
+use Prim.Native.Nat.{ℕ, zero, suc, _+_, _*_, _-_}
 use mathlib.Core.Bool.{true, false, cond}
 use mathlib.Core.List.{List, [], _∷_}
 use lib.ListN.{length, getD, drop}
@@ -273,3 +273,7 @@ sizeOfKey settings vendors sizes s rows attrs counts key =
 unfoldable pub sizeOfType : Settings → List ℕ → List ℕ → List ℕ → List ℕ → List ℕ → Counts → «Type» → Sized
 sizeOfType settings vendors sizes s rows attrs counts t =
     tested settings vendors sizes s rows attrs counts Refused (typeSize settings sizes s rows attrs (counts .rows) depthLimit t)
+
+-- the size of a type that the entry asked for names: one level down
+abbrev pub innerSize : Settings → List ℕ → List ℕ → List ℕ → List ℕ → Counts → «Type» → Sized
+innerSize settings sizes s rows attrs counts = typeSize settings sizes s rows attrs (counts .rows) (depthLimit - 1)

@@ -28,12 +28,12 @@ ghost use Prim.Native.Nat.{_*_, _≤_};
 ghost use lib.ListN.{length};
 ghost use lib.Seq.{sets};
 ghost use Rattle.sizes.specs.Size.{typeSize};
-ghost use Rattle.sizes.specs.SizeWays.{Ready, typeFrom};
-ghost use Rattle.sizes.specs.Known.{knownWidth};
-ghost use Rattle.sizes.specs.LevelsWays.{deepest, FillAsked};
-ghost use Rattle.sizes.specs.KeptWays.{AllKept};
+ghost use Rattle.sizes.specs.Inside.Size.{Ready, typeFrom};
+ghost use Rattle.sizes.specs.Inside.Known.{knownWidth};
+ghost use Rattle.sizes.specs.Inside.Levels.{deepest, FillAsked};
+ghost use Rattle.sizes.specs.Inside.Kept.{AllKept};
 ghost use Rattle.sizes.specs.All.{structureWidth, structuresFrom, allOf, intoRooms, AllGiven};
-ghost use Rattle.sizes.specs.AllWays.{OneMore, CountAsked, PutAsked, PutsAsked, eightWords, sizeTold, countedOn, rowStructures, Told, RowCounted, AllCounted, Puts, PutAll};
+ghost use Rattle.sizes.specs.Inside.All.{OneMore, CountAsked, PutAsked, PutsAsked, eightWords, sizeTold, countedOn, rowStructures, Told, RowCounted, AllCounted, Puts, PutAll};
 
 pub struct LayoutCounts {
     pub structures: usize,

@@ -23,10 +23,10 @@ use tables::row::row_at;
 ghost use mathlib.Core.Path.{_≡_};
 ghost use Prim.Native.Nat.{_+_, _*_, _≤_};
 ghost use lib.ListN.{length};
-ghost use Rattle.tables.specs.Find.{Rising};
-ghost use Rattle.links.specs.ChildrenWays.{Asked};
+ghost use Rattle.tables.specs.Inside.Find.{Rising};
+ghost use Rattle.links.specs.Inside.Children.{Asked};
 ghost use Rattle.sizes.specs.Size.{typeSizeBy};
-ghost use Rattle.sizes.specs.KeptWays.{keptWidth, rowNamed, sizeNamed, firstOf, secondOf, faultSize, PutTwo, PutRow, PutFault, KeepAsked, FaultAsked, MembersKept, PartsKept};
+ghost use Rattle.sizes.specs.Inside.Kept.{keptWidth, rowNamed, sizeNamed, firstOf, secondOf, faultSize, PutTwo, PutRow, PutFault, KeepAsked, FaultAsked, MembersKept, PartsKept};
 
 // The row of an entry that has the size, told as 10 at it; 11 where there is none.
 fn row_named(rows: &[u32], n: usize, key: u32) -> Sized

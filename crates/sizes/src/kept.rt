@@ -8,10 +8,10 @@ use links::link::sibling_row;
 use numbers::Endian;
 ghost use mathlib.Core.Path.{_≡_};
 ghost use Rattle.links.specs.Links.{siblingRow};
-ghost use Rattle.links.specs.ChildrenWays.{Asked};
-ghost use Rattle.sizes.specs.Ways.{SmallPlace};
-ghost use Rattle.sizes.specs.SizeWays.{withSize};
-ghost use Rattle.sizes.specs.KeptWays.{sizeKept, addedKept, SiblingsKept};
+ghost use Rattle.links.specs.Inside.Children.{Asked};
+ghost use Rattle.sizes.specs.Inside.Prepare.{SmallPlace};
+ghost use Rattle.sizes.specs.Inside.Size.{withSize};
+ghost use Rattle.sizes.specs.Inside.Kept.{sizeKept, addedKept, SiblingsKept};
 
 // What a member adds to its structure.
 pub enum Added {

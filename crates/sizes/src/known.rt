@@ -9,7 +9,7 @@ ghost use Prim.Native.Nat.{_+_, _*_, _≤_};
 ghost use mathlib.Core.List.{[], _∷_};
 ghost use lib.ListN.{length, getD};
 ghost use lib.Seq.{sets};
-ghost use Rattle.sizes.specs.Known.{knownAt, knownWidth, PutKnown};
+ghost use Rattle.sizes.specs.Inside.Known.{knownAt, knownWidth, PutKnown};
 ghost use Rattle.sizes.specs.declared.sized.Sized.the-variants.{Is, Refused};
 
 // The words of a size.

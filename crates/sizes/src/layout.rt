@@ -33,14 +33,14 @@ ghost use mathlib.Core.Path.{_≡_};
 ghost use Prim.Native.Nat.{_+_, _*_, _^_, _<_};
 ghost use lib.Seq.{sets};
 ghost use mathlib.Core.List.{[], _∷_};
-ghost use Rattle.records.specs.EnumerationWays.{AskedShort};
+ghost use Rattle.records.specs.Inside.Enumeration.{AskedShort};
 ghost use Rattle.tables.specs.Row.{rowAt};
-ghost use Rattle.links.specs.Kids.{kidsOf};
+ghost use Rattle.links.specs.Inside.Kids.{kidsOf};
 ghost use Rattle.sizes.specs.Size.{shapeOf};
-ghost use Rattle.sizes.specs.KeptWays.{AllKept, LayoutAsked};
-ghost use Rattle.sizes.specs.SizeWays.{EndsShort, typeFrom};
+ghost use Rattle.sizes.specs.Inside.Kept.{AllKept, LayoutAsked};
+ghost use Rattle.sizes.specs.Inside.Size.{EndsShort, typeFrom};
 ghost use Rattle.sizes.specs.Layout.{laidWidth, laidWords, isStructure, isBounded, sizeOrLargest, endOr, rowLay, layoutAt, intoRoom, layoutOf, LayoutGiven};
-ghost use Rattle.sizes.specs.LayoutWays.{laidAt, sizedLaid, childLaid, childrenLaid, structureLaid, LayAsked, Lays, WholeLaid};
+ghost use Rattle.sizes.specs.Inside.Layout.{laidAt, sizedLaid, childLaid, childrenLaid, structureLaid, LayAsked, Lays, WholeLaid};
 
 pub struct Layout {
     pub row: usize,

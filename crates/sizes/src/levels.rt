@@ -17,10 +17,10 @@ ghost use mathlib.Core.Path.{_≡_};
 ghost use mathlib.Core.Bool.{false, cond};
 ghost use Prim.Native.Nat.{_*_, _≤_};
 ghost use lib.ListN.{length};
-ghost use Rattle.records.specs.EnumerationWays.{AskedShort};
-ghost use Rattle.sizes.specs.Known.{knownWidth};
-ghost use Rattle.sizes.specs.KeptWays.{PartsKept, AllKept};
-ghost use Rattle.sizes.specs.LevelsWays.{deepest, lastLevel, settled, nextLevel, sizeLeft, Filled, LevelFilled, FillAsked, TakenOver};
+ghost use Rattle.records.specs.Inside.Enumeration.{AskedShort};
+ghost use Rattle.sizes.specs.Inside.Known.{knownWidth};
+ghost use Rattle.sizes.specs.Inside.Kept.{PartsKept, AllKept};
+ghost use Rattle.sizes.specs.Inside.Levels.{deepest, lastLevel, settled, nextLevel, sizeLeft, Filled, LevelFilled, FillAsked, TakenOver};
 
 // Where no level is left every row is past the limit.
 fn last_level(rows: &[u32], n: usize, known: &mut [u64])

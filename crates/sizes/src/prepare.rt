@@ -34,16 +34,16 @@ use records::unions::UnionWhole;
 use records::unions::union_at;
 use tables::row::row_at;
 ghost use mathlib.Core.Path.{_≡_};
-ghost use Rattle.links.specs.ChildrenWays.{Asked};
-ghost use Rattle.records.specs.EnumerationWays.{AskedShort};
+ghost use Rattle.links.specs.Inside.Children.{Asked};
+ghost use Rattle.records.specs.Inside.Enumeration.{AskedShort};
 ghost use Rattle.sizes.specs.Size.{shapeOf, subscriptBlock};
-ghost use Rattle.links.specs.Kids.{kidsOf};
+ghost use Rattle.links.specs.Inside.Kids.{kidsOf};
 ghost use Rattle.records.specs.Enumeration.{enumerationAt};
 ghost use Rattle.records.specs.PtrToMember.{ptrAt};
 ghost use Rattle.records.specs.Unions.{unionAt};
-ghost use Rattle.records.specs.UnionsWays.{EndsAt};
-ghost use Rattle.sizes.specs.KeptWays.{faultKept, FaultsKept, RowsKept, StructureAsked};
-ghost use Rattle.sizes.specs.Ways.{SmallPlace, memberFault, membersFault, structureFault, preparedArray, preparedStructure, preparedEnumeration, preparedUnion, preparedPointer, preparedRow};
+ghost use Rattle.records.specs.Inside.Unions.{EndsAt};
+ghost use Rattle.sizes.specs.Inside.Kept.{faultKept, FaultsKept, RowsKept, StructureAsked};
+ghost use Rattle.sizes.specs.Inside.Prepare.{SmallPlace, memberFault, membersFault, structureFault, preparedArray, preparedStructure, preparedEnumeration, preparedUnion, preparedPointer, preparedRow};
 
 // How a row comes to its size.
 pub enum Shape {

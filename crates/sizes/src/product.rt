@@ -8,7 +8,7 @@ use records::scan::placed;
 use records::scan::refused;
 ghost use mathlib.Core.Path.{_≡_};
 ghost use Rattle.sizes.specs.Size.{productOf};
-ghost use Rattle.sizes.specs.Ways.{timesOf};
+ghost use Rattle.sizes.specs.Inside.Prepare.{timesOf};
 
 // size times many, or 20 at the array.
 fn times(key: u32, size: u32, many: u32) -> Sized

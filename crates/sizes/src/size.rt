@@ -30,11 +30,11 @@ use tables::find::find_row;
 use tables::row::Counts;
 use tables::row::row_at;
 ghost use mathlib.Core.Path.{_≡_};
-ghost use Rattle.links.specs.Kids.{kidsOf};
-ghost use Rattle.records.specs.EnumerationWays.{AskedShort};
+ghost use Rattle.links.specs.Inside.Kids.{kidsOf};
+ghost use Rattle.records.specs.Inside.Enumeration.{AskedShort};
 ghost use Rattle.sizes.specs.Size.{fundamentalSize, rowSize, sizeOfKey, sizeOfType};
-ghost use Rattle.sizes.specs.KeptWays.{AllKept, MemberAsked};
-ghost use Rattle.sizes.specs.SizeWays.{Ready, EndsShort, memberAdded, grown, arrayProduct, childEnd, endsOver, entryFrom, typeFrom};
+ghost use Rattle.sizes.specs.Inside.Kept.{AllKept, MemberAsked};
+ghost use Rattle.sizes.specs.Inside.Size.{Ready, EndsShort, memberAdded, grown, arrayProduct, childEnd, endsOver, entryFrom, typeFrom};
 
 // A fundamental type's line of the settings' table; 18 at 0 for a number that has none.
 pub fn fundamental_size(sizes: &[u32], number: u16) -> Sized

@@ -1,8 +1,7 @@
 -- The row of a key.
-use Prim.Native.Nat.{ℕ, zero, suc, _+_, _≤_, _<_}
+use Prim.Native.Nat.{ℕ, zero, suc}
 use mathlib.Core.Bool.{cond}
 use mathlib.Core.List.{List}
-use lib.ListN.{length}
 use lib.Dec.{eqb}
 use Rattle.tables.specs.Row.{rowAt}
 use Rattle.tables.specs.declared.find.Found.{Found}
@@ -16,8 +15,3 @@ rowFrom rows i (suc n) key = cond (eqb (rowAt rows i .key) key) (At i) (rowFrom 
 -- the row, of a table's n, that has this key
 unfoldable pub rowOfKey : List ℕ → ℕ → ℕ → Found
 rowOfKey rows n key = rowFrom rows 0 n key
-
--- the keys of n rows rise
-pub record Rising (rows : List ℕ) (n : ℕ) : Type 0 where
-  pub few : n ≤ length rows
-  pub rise : (i : ℕ) → i + 1 < n → rowAt rows i .key < rowAt rows (i + 1) .key

@@ -3,8 +3,9 @@ use crate::row::ROW_WIDTH;
 use crate::words::cell;
 ghost use mathlib.Core.Path.{_≡_};
 ghost use Prim.Native.Nat.{_<_};
-ghost use Rattle.tables.specs.Find.{rowOfKey, Rising};
-ghost use Rattle.tables.specs.FindLaws.{Between, FirstFrom};
+ghost use Rattle.tables.specs.Find.{rowOfKey};
+ghost use Rattle.tables.specs.Inside.Find.{Rising};
+ghost use Rattle.tables.specs.Inside.Find.{Between, FirstFrom};
 
 pub enum Found {
     At(usize),

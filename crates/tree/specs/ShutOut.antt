@@ -1,56 +1,11 @@
--- The wrong readers that document 01 shuts out ('Holding each promise to account'), by name: what each answers and leaves does not meet the contract. Sections are
--- small and computed, settings are the listing program's; the lent tables and rooms are any that are long enough.
-use Prim.Native.Nat.{ℕ, _*_, _≤_, _<_}
-use native.Mathlib.Omega.{arith}
-use mathlib.Core.Path.{_≡_, refl, sym, ap, _∙_, subst}
-use mathlib.Core.Bool.{Bool, true, cond}
-use mathlib.Core.List.{List, [], _∷_, _++_}
-use lib.ListN.{length, getD, drop, replicate}
-use lib.Seq.{sets, sets-eq}
-use borrow.Author.Tests.{le-leb, lt-ltb}
-use Rattle.numbers.specs.Value.{valueOf, there, readAt}
-use Rattle.numbers.specs.declared.Endian.the-variants.{Big}
-use Rattle.format.specs.Lookup.{member, indexOf, lookup}
-use Rattle.format.specs.TagKind.{tags}
+-- The sections on which the wrong readers of document 01 ('Holding each promise to account') are tried: small, with the listing program's settings.
+use Prim.Native.Nat.{ℕ}
+use mathlib.Core.List.{List, [], _∷_}
+use lib.ListN.{replicate}
 use Rattle.format.specs.TagKind as tag
-use Rattle.format.specs.AttributeKind.{used, alsoKnown, attributeKinds}
-use Rattle.format.specs.AttributeKind as number
-use Rattle.format.specs.Known.{known}
-use Rattle.format.specs.FormKind.{forms, formOf}
-use Rattle.format.specs.FundType.{fundTypes}
-use Rattle.format.specs.InputA.{inputA, settingsA as settings}
-use Rattle.format.specs.Limits.{sectionLimit, entryLimit, attributeLimit}
-use Rattle.format.specs.Settings.{plays, vendorsHold, roleHolds, roleForm, rolesDiffer, rolesHold, settingsHold}
-use Rattle.format.specs.declared.settings.Settings.{Settings}
-use Rattle.format.specs.declared.refusal.Refusal.{Refusal}
-use Rattle.attributes.specs.Text.{zeroFrom}
-use Rattle.attributes.specs.End.{fixedEnd, blockEnd, textEnd, valueEnd}
-use Rattle.attributes.specs.Read.{ending, numbered, readAttribute}
-use Rattle.tables.specs.Row.{rowWidth, attrWidth, rowWords, attrWords, rowsWords, attrsWords, rowAt, attrAt, rowsFrom, erasedRow}
-use Rattle.tables.specs.Flat.{sets-back}
-use Rattle.tables.specs.RowLaws.{rows-back}
+use Rattle.format.specs.InputA.{settingsA as settings}
 use Rattle.tables.specs.declared.row.Row.{Row}
-use Rattle.tables.specs.declared.row.Attr.{Attr}
-use Rattle.tables.specs.declared.row.Counts.{Counts}
-use Rattle.entries.specs.Head.{nullEnd, tagHead, sizeHead, headAt}
-use Rattle.entries.specs.Run.{attr, first, runEnds, readOn, runFrom}
-use Rattle.entries.specs.Entry.{littleFlag, flagOf, flagsOf, kindOf, ordinary, attributes, entryFrom, entryAt}
-use Rattle.entries.specs.Walk.{walked, join, andThen, onward, walkFrom, walkAt}
-use Rattle.tables.specs.Test.{fitting}
-use Rattle.entries.specs.Section.{Outcome, counts, stored, wholeWalk, readSection, SectionRead}
-use Rattle.entries.specs.SectionLaws.{attrs-decide}
-use Rattle.entries.specs.Only.{only-read}
-use Rattle.entries.specs.declared.section.Section.{Section}
-use Rattle.entries.specs.declared.section.Section.the-variants.{Read, Refused, Room}
-use Rattle.links.specs.Attribute.{wants, attrFrom, attributeOf, asReference, referenceBy, referenceOf}
-use Rattle.tree.specs.Pick.{countBelow, nearestBelow, firstFrom}
-use Rattle.tree.specs.Reach.{reachBy, reachEnd}
-use Rattle.tree.specs.Nest.{lies, depth, parent, crosses, faulty, deep, firstFault, firstDeep}
-use Rattle.tree.specs.Tree.{placeWidth, placesFrom, firstErased, Outcome as TreeOutcome, outcome, listed, treeOf, Given}
-use Rattle.tree.specs.Demand3.{tree-listed}
-use Rattle.tree.specs.declared.listing.Listing.{Listing}
-use Rattle.tree.specs.declared.listing.Listing.the-variants as listing
-use Rattle.tree.specs.declared.listing.Listing.the-variants.{Listed}
+use Rattle.entries.specs.Section.{Outcome, readSection}
 
 -- each size is 4, as in the listing program
 unfoldable pub sizes : List ℕ
@@ -60,39 +15,9 @@ sizes = replicate 28 4
 abbrev pub reading : List ℕ → List ℕ → List ℕ → Outcome
 reading s rows attrs = readSection settings [] sizes s rows attrs
 
-settings-hold : settingsHold settings [] sizes ≡ true
-unfolding sizes fundTypes vendorsHold roleHolds roleForm rolesDiffer rolesHold settingsHold
-settings-hold = refl
-
 -- an entry's row: big-endian, not erased
-abbrev rowOf : ℕ → ℕ → ℕ → ℕ → Row
+abbrev pub rowOf : ℕ → ℕ → ℕ → ℕ → Row
 rowOf key kind first count = record { key = key; kind = kind; flags = 0; first = first; count = count }
-
--- what a walk gives is stored in tables that are long enough
-abbrev storing : List Row → List Attr → List ℕ → List ℕ → Outcome
-storing rs xs rows attrs =
-    record { answer = Read (counts (length rs) (length xs)); rows = sets rows 0 (rowsWords rs); attrs = sets attrs 0 (attrsWords xs) }
-
-walk-stored : (s : List ℕ) (rs : List Row) (xs : List Attr) (place : ℕ) → wholeWalk settings [] s ≡ walked rs xs place → length s < sectionLimit
-    → length rs ≤ entryLimit → length xs ≤ attributeLimit → (rows attrs : List ℕ) → length rs * rowWidth ≤ length rows → length xs * attrWidth ≤ length attrs
-    → reading s rows attrs ≡ storing rs xs rows attrs
-unfolding readSection stored
-walk-stored s rs xs place walk short few-rows few-attrs rows attrs h k =
-    let fits : fitting (counts (length rs) (length xs)) (length rows) (length attrs) ≡ true =
-    sym (attrs-decide (counts (length rs) (length xs)) (length rows) (length attrs) few-rows h few-attrs) ∙ le-leb (length xs * attrWidth) (length attrs) k
-    in
-    rw (settings-hold, lt-ltb (length s) sectionLimit short, walk, fits)
-
--- whether an answer is rows that were read, and the counts that it tells
-abbrev isRead : Section → Type 0
-isRead (Read c) = Unit
-isRead (Refused why) = ⊥
-isRead (Room c) = ⊥
-
-abbrev countsOf : Section → Counts
-countsOf (Read c) = c
-countsOf (Refused why) = counts 0 0
-countsOf (Room c) = c
 
 -- ---- three sections, and the entries that reading finds in them
 
@@ -108,120 +33,3 @@ abbrev pub twoSection : List ℕ
 twoSection =
     0x00 ∷ 0x00 ∷ 0x00 ∷ 0x09 ∷ 0x00 ∷ 0x13 ∷ 0x00 ∷ 0x38 ∷ 0x00 ∷
     0x00 ∷ 0x00 ∷ 0x00 ∷ 0x09 ∷ 0x00 ∷ 0x14 ∷ 0x00 ∷ 0x38 ∷ 0x00 ∷ []
-
-abbrev twoRows : List Row
-twoRows = rowOf 0 tag.StructureType 0 1 ∷ rowOf 9 tag.Subroutine 1 1 ∷ []
-
-abbrev twoAttrs : List Attr
-twoAttrs = attr number.Name 8 ∷ attr number.Name 17 ∷ []
-
--- the rows and the attributes of document 01's input A
-abbrev rowsA : List Row
-rowsA = rowOf 0x00 tag.StructureType 0 2 ∷ rowOf 0x12 tag.Member 2 2 ∷ rowOf 0x26 tag.Padding 4 0 ∷ []
-
-abbrev attrsA : List Attr
-attrsA = attr number.Sibling 8 ∷ attr number.ByteSize 14 ∷ attr number.FundType 26 ∷ attr number.Location 30 ∷ []
-
-walks : (wholeWalk settings [] nullSection ≡ walked (nullRow ∷ []) [] 4) × (wholeWalk settings [] twoSection ≡ walked twoRows twoAttrs 18)
-    × (wholeWalk settings [] inputA ≡ walked rowsA attrsA 42)
-unfolding valueOf there readAt member indexOf lookup tags used alsoKnown attributeKinds known forms formOf zeroFrom fixedEnd blockEnd textEnd valueEnd ending numbered readAttribute nullEnd tagHead sizeHead headAt first plays runEnds readOn runFrom littleFlag flagOf flagsOf kindOf ordinary attributes entryFrom entryAt join andThen onward walkFrom walkAt wholeWalk
-walks = (refl, refl, refl)
-
--- ---- one null entry
-
-module _ (rows attrs : List ℕ) (enough : 5 ≤ length rows) where
-  null-stored : reading nullSection rows attrs ≡ storing (nullRow ∷ []) [] rows attrs
-  null-stored = walk-stored nullSection (nullRow ∷ []) [] 4 (walks .0) (omega arith) (omega arith) (omega arith) rows attrs enough (omega arith)
-
-  null-answer : {r : Section} {rows′ attrs′ : List ℕ} → SectionRead (reading nullSection rows attrs) r rows′ attrs′ → r ≡ Read (counts 1 0)
-  null-answer p = p .answer-is ∙ ap (λ (o : Outcome). o .answer) null-stored
-
-  -- a reader that refuses all
-  pub refuses-all : (why : Refusal) {rows′ attrs′ : List ℕ} → SectionRead (reading nullSection rows attrs) (Refused why) rows′ attrs′ → ⊥
-  refuses-all why p = subst isRead (sym (null-answer p)) tt
-
-  -- or that finds no room enough
-  pub refuses-room : (needed : Counts) {rows′ attrs′ : List ℕ} → SectionRead (reading nullSection rows attrs) (Room needed) rows′ attrs′ → ⊥
-  refuses-room needed p = subst isRead (sym (null-answer p)) tt
-
-  -- one that answers no rows for everything
-  pub no-rows : (n : ℕ) {rows′ attrs′ : List ℕ} → SectionRead (reading nullSection rows attrs) (Read (counts 0 n)) rows′ attrs′ → ⊥
-  no-rows n p = let none : _≡_ {A = ℕ} 0 1 = ap (λ (r : Section). countsOf r .rows) (null-answer p) in absurd (omega arith)
-
-  -- one that writes nothing, where the row does not stand in the table already
-  pub writes-nothing : (rowAt rows 0 ≡ nullRow → ⊥) → {r : Section} {attrs′ : List ℕ} → SectionRead (reading nullSection rows attrs) r rows attrs′ → ⊥
-  unfolding rowsFrom
-  writes-nothing other p =
-      let held : rowsFrom rows 0 1 ≡ nullRow ∷ [] =
-      ap (λ (t : List ℕ). rowsFrom t 0 1) (p .rows-are ∙ ap (λ (o : Outcome). o .rows) null-stored) ∙ rows-back rows (nullRow ∷ []) enough
-      in
-      other cc
-
--- ---- two entries
-
--- one that reads the first entry and pads the rest
-pub first-and-padding : (rows attrs : List ℕ) → 10 ≤ length rows → 4 ≤ length attrs → {r : Section} {rows′ attrs′ : List ℕ} → rowAt rows′ 1 .kind ≡ tag.Padding
-    → SectionRead (reading twoSection rows attrs) r rows′ attrs′ → ⊥
-unfolding rowsFrom
-first-and-padding rows attrs h k {r} {rows′} padded p =
-    let whole = walk-stored twoSection twoRows twoAttrs 18 (walks .1) (omega arith) (omega arith) (omega arith) rows attrs h k in
-    let held : rowsFrom rows′ 0 2 ≡ twoRows =
-    ap (λ (t : List ℕ). rowsFrom t 0 2) (p .rows-are ∙ ap (λ (o : Outcome). o .rows) whole) ∙ rows-back rows twoRows h
-    in
-    let second : rowAt rows′ 1 ≡ rowOf 9 tag.Subroutine 1 1 = cc in
-    let kind : rowAt rows′ 1 .kind ≡ tag.Subroutine = ap (λ (r : Row). r .kind) second in
-    absurd (omega arith)
-
--- ---- any input
-
-module _ (settings : Settings) (vendors sizes s rows attrs : List ℕ) {c c′ : Counts} {rows₁ rows₁′ attrs₁ attrs₁′ : List ℕ} where
-  -- invented row counts: two answers that both meet the contract have the same counts
-  pub invented-counts : SectionRead (readSection settings vendors sizes s rows attrs) (Read c) rows₁ attrs₁
-      → SectionRead (readSection settings vendors sizes s rows attrs) (Read c′) rows₁′ attrs₁′ → c ≡ c′
-  invented-counts p q = ap countsOf (only-read settings vendors sizes s rows attrs p q .0)
-
-  -- invented needed counts: so have two that tell what room is needed
-  pub invented-needed : SectionRead (readSection settings vendors sizes s rows attrs) (Room c) rows₁ attrs₁
-      → SectionRead (readSection settings vendors sizes s rows attrs) (Room c′) rows₁′ attrs₁′ → c ≡ c′
-  invented-needed p q = ap countsOf (only-read settings vendors sizes s rows attrs p q .0)
-
--- ---- the listing of input A
-
--- its three rows' depths and parents, whatever lies behind them in the tables
-abbrev placesA : List ℕ
-placesA = 0 ∷ 0 ∷ 1 ∷ 1 ∷ 1 ∷ 1 ∷ []
-
-A-listed : (rows attrs room : List ℕ) → 6 ≤ length room
-    → listed (rowsWords rowsA ++ rows) 3 (λ i. reachEnd Big inputA (rowsWords rowsA ++ rows) (attrsWords attrsA ++ attrs) 3 i) room
-    ≡ outcome (Listed 3) (sets room 0 placesA)
-unfolding valueOf there readAt rowWords attrWords rowsWords attrsWords rowAt attrAt erasedRow wants attrFrom attributeOf asReference referenceBy referenceOf countBelow nearestBelow firstFrom reachBy reachEnd lies depth parent crosses faulty deep firstFault firstDeep placesFrom firstErased listed
-A-listed rows attrs room h = ap (λ (b : Bool). cond b (outcome (Listed 3) (sets room 0 placesA)) (outcome (listing.Room 3) room)) (le-leb 6 (length room) h)
-
-module _ (rows₀ attrs₀ : List ℕ) (rows-enough : 15 ≤ length rows₀) (attrs-enough : 8 ≤ length attrs₀) {c : Counts} {rows attrs : List ℕ}
-    (read : SectionRead (reading inputA rows₀ attrs₀) (Read c) rows attrs) where
-  A-stored : reading inputA rows₀ attrs₀ ≡ storing rowsA attrsA rows₀ attrs₀
-  A-stored = walk-stored inputA rowsA attrsA 42 (walks .2) (omega arith) (omega arith) (omega arith) rows₀ attrs₀ rows-enough attrs-enough
-
-  A-counts : c ≡ counts 3 4
-  A-counts = ap countsOf (read .answer-is ∙ ap (λ (o : Outcome). o .answer) A-stored)
-
-  A-rows : rows ≡ rowsWords rowsA ++ drop 15 rows₀
-  unfolding rowWords rowsWords
-  A-rows = read .rows-are ∙ ap (λ (o : Outcome). o .rows) A-stored ∙ sets-eq (rowsWords rowsA) rows₀ 0 rows-enough
-
-  A-attrs : attrs ≡ attrsWords attrsA ++ drop 8 attrs₀
-  unfolding attrWords attrsWords
-  A-attrs = read .attrs-are ∙ ap (λ (o : Outcome). o .attrs) A-stored ∙ sets-eq (attrsWords attrsA) attrs₀ 0 attrs-enough
-
-  -- a listing of file order with depth 0 everywhere
-  pub depth-zero : (room : List ℕ) → 6 ≤ length room → {r : Listing} {room′ : List ℕ} → ((j : ℕ) → j < 3 → getD room′ (j * placeWidth) 0 ≡ 0)
-      → Given (treeOf settings [] sizes inputA rows attrs c room) r room′ → ⊥
-  depth-zero room h {r} {room′} zeros given =
-      let tree : treeOf settings [] sizes inputA rows attrs c room ≡ outcome (Listed 3) (sets room 0 placesA) =
-      tree-listed settings [] sizes inputA rows₀ attrs₀ c refl read room ∙ rw (A-counts, A-rows, A-attrs) (A-listed (drop 15 rows₀) (drop 8 attrs₀) room h)
-      in
-      let inside : getD room′ 2 0 ≡ 1 =
-      ap (λ (t : List ℕ). getD t 2 0) (given .room-is ∙ ap (λ (o : TreeOutcome). o .room) tree) ∙ sets-back room 0 placesA 2 h (omega arith)
-      in
-      let zero : getD room′ 2 0 ≡ 0 = zeros 1 (omega arith) in
-      absurd (omega arith)

@@ -3,11 +3,11 @@ use crate::reach::end_of;
 use numbers::Endian;
 ghost use mathlib.Core.Path.{_≡_};
 ghost use Prim.Native.Nat.{suc};
-ghost use Rattle.tables.specs.Find.{Rising};
-ghost use Rattle.links.specs.Links.{AtRow};
+ghost use Rattle.tables.specs.Inside.Find.{Rising};
+ghost use Rattle.links.specs.Inside.Links.{AtRow};
 ghost use Rattle.tree.specs.Reach.{reachEnd};
-ghost use Rattle.tree.specs.FaultWays.{Inside};
-ghost use Rattle.tree.specs.Ways.{chain, faultAt, faultFrom};
+ghost use Rattle.tree.specs.Inside.Fault.{Inside};
+ghost use Rattle.tree.specs.Inside.Passing.{chain, faultAt, faultFrom};
 
 // Along the rows inside row i's reach, which ends at `end`, from one to where its own reach ends: the first that goes past `end`, if it stands before b;
 // else b.

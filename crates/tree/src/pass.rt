@@ -9,11 +9,11 @@ ghost use mathlib.Core.Path.{_≡_};
 ghost use mathlib.Core.List.{[], _∷_};
 ghost use Prim.Native.Nat.{_*_};
 ghost use lib.Seq.{sets};
-ghost use Rattle.links.specs.Links.{Rows};
+ghost use Rattle.links.specs.Inside.Links.{Rows};
 ghost use Rattle.tree.specs.Reach.{reachEnd};
 ghost use Rattle.tree.specs.Tree.{placeWidth};
-ghost use Rattle.tree.specs.Ways.{OpenListed};
-ghost use Rattle.tree.specs.Stack.{topOf, heightAt};
+ghost use Rattle.tree.specs.Inside.Passing.{OpenListed};
+ghost use Rattle.tree.specs.Inside.Stack.{topOf, heightAt};
 
 // A row that lies at the greatest depth is still opened.
 const OPEN_LIMIT: usize = DEPTH_LIMIT + 1;

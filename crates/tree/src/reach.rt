@@ -7,7 +7,7 @@ use tables::find::find_row_near;
 ghost use mathlib.Core.Path.{_≡_};
 ghost use Prim.Native.Nat.{_<_};
 ghost use Rattle.tables.specs.Find.{rowOfKey};
-ghost use Rattle.links.specs.Links.{AtRow};
+ghost use Rattle.links.specs.Inside.Links.{AtRow};
 ghost use Rattle.tree.specs.Reach.{laterRow, reachEnd};
 
 const SIBLING: u32 = 0x12;

@@ -1,5 +1,5 @@
 use lib.ListN.{length-replicate}
-use Rattle.listing.specs.PageLaws.{printed-shown}
+use Rattle.listing.proofs.Laws.Page.{printed-shown}
 use borrow.Author.Needs.{needs}
 use Prim.Native.Nat.{ℕ}
 use Rattle.listing.proofs.main.Statement.{statement}

@@ -1,5 +1,5 @@
-use Rattle.attributes.specs.PartLaws.{part-there, part-missing}
-use Rattle.numbers.specs.ValueLaws.{there-inside}
+use Rattle.attributes.proofs.Laws.Part.{part-there, part-missing}
+use Rattle.numbers.proofs.Laws.Value.{there-inside}
 use borrow.Author.Needs.{needs}
 use native.Mathlib.Omega.{arith}
 use denote.Ref.{now}

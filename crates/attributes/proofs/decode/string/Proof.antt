@@ -1,5 +1,5 @@
-use Rattle.attributes.specs.PartLaws.{text-there, text-missing}
-use Rattle.attributes.specs.TextLaws.{zero-after}
+use Rattle.attributes.proofs.Laws.Part.{text-there, text-missing}
+use Rattle.attributes.proofs.Laws.Text.{zero-after}
 use borrow.Author.Needs.{needs}
 use Rattle.attributes.proofs.decode.string.Statement.{statement}
 use Rattle.attributes.proofs.decode.string.Tie as tie

@@ -1,4 +1,5 @@
-use Rattle.attributes.specs.ReadWays.{ended, end-known, end-unknown}
+use Rattle.attributes.specs.Inside.Read.{ended}
+use Rattle.attributes.proofs.Laws.Read.{end-known, end-unknown}
 use borrow.Author.Needs.{needs}
 use mathlib.Core.Path.{sym, _∙_}
 use Rattle.attributes.proofs.read.known_end.Statement.{statement}

@@ -1,4 +1,4 @@
-use Rattle.attributes.specs.ReadWays.{asAttribute, numbered-told}
+use Rattle.attributes.proofs.Laws.Read.{asAttribute, numbered-told}
 use borrow.Author.Needs.{needs}
 use Rattle.attributes.proofs.read.numbered_at.Statement.{statement}
 use Rattle.attributes.proofs.read.numbered_at.Tie as tie

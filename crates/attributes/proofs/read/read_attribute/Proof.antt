@@ -1,6 +1,6 @@
 use Rattle.attributes.specs.Read.{readAttribute}
-use Rattle.numbers.specs.ValueLaws.{reads-short}
-use Rattle.numbers.specs.ReadLaws.{says16, short16, goes-on, says-inside}
+use Rattle.numbers.proofs.Laws.Value.{reads-short}
+use Rattle.numbers.proofs.Laws.Read.{says16, short16, goes-on, says-inside}
 use borrow.Author.Needs.{needs}
 use mathlib.Core.Path.{sym, _∙_}
 use Rattle.attributes.proofs.read.read_attribute.Statement.{statement}

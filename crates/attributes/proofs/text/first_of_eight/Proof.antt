@@ -1,4 +1,4 @@
-use Rattle.attributes.specs.Eight.{first-of-eight}
+use Rattle.attributes.proofs.Laws.Eight.{first-of-eight}
 use borrow.Author.Needs.{needs}
 use Rattle.attributes.proofs.text.first_of_eight.Statement.{statement}
 use Rattle.attributes.proofs.text.first_of_eight.Tie as tie

@@ -1,4 +1,4 @@
-use Rattle.attributes.specs.Eight.{hereOr}
+use Rattle.attributes.specs.Inside.Eight.{hereOr}
 use borrow.Author.Tests.{eq-eqb, ne-eqb}
 use borrow.Author.Needs.{needs}
 use Rattle.attributes.proofs.text.here_or.Statement.{statement}

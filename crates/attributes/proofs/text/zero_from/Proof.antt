@@ -1,6 +1,6 @@
-use Rattle.attributes.specs.Eight.{zero-among, zero-past}
+use Rattle.attributes.proofs.Laws.Eight.{zero-among, zero-past}
 use Rattle.attributes.specs.Text.{zeroFrom}
-use Rattle.attributes.specs.TextLaws.{zero-end}
+use Rattle.attributes.proofs.Laws.Text.{zero-end}
 use borrow.Author.Needs.{needs}
 use native.Mathlib.Omega.{arith}
 use Prim.Native.Nat.{_-_}

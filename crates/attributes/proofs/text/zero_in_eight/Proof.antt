@@ -1,4 +1,4 @@
-use Rattle.attributes.specs.Eight.{some-of-eight}
+use Rattle.attributes.proofs.Laws.Eight.{some-of-eight}
 use borrow.Author.Needs.{needs}
 use Rattle.attributes.proofs.text.zero_in_eight.Statement.{statement}
 use Rattle.attributes.proofs.text.zero_in_eight.Tie as tie

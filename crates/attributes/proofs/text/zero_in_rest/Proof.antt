@@ -1,4 +1,4 @@
-use Rattle.attributes.specs.TextLaws.{zero-here, zero-next, zero-end}
+use Rattle.attributes.proofs.Laws.Text.{zero-here, zero-next, zero-end}
 use Rattle.attributes.specs.Text.{zeroFrom}
 use borrow.Author.Needs.{needs}
 use Prim.Native.Nat.{_-_}

@@ -1,4 +1,4 @@
-use Rattle.attributes.specs.EndLaws.{text-ends, text-short}
+use Rattle.attributes.proofs.Laws.End.{text-ends, text-short}
 use borrow.Author.Needs.{needs}
 use Rattle.attributes.proofs.value.text_end.Statement.{statement}
 use Rattle.attributes.proofs.value.text_end.Tie as tie

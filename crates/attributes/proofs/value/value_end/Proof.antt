@@ -1,5 +1,5 @@
 use Rattle.attributes.specs.End.{valueEnd}
-use Rattle.attributes.specs.EndLaws.{of-form}
+use Rattle.attributes.proofs.Laws.End.{of-form}
 use borrow.Author.Needs.{needs}
 use mathlib.Core.Path.{_∙_}
 use Rattle.attributes.proofs.value.value_end.Statement.{statement}

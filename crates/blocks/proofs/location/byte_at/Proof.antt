@@ -1,4 +1,4 @@
-use Rattle.blocks.specs.LocationLaws.{byte-none}
+use Rattle.blocks.proofs.Laws.Location.{byte-none}
 use borrow.Author.Needs.{needs}
 use denote.Ref.{now}
 use Prim.Native.Nat.{_-_}

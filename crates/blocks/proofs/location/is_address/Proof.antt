@@ -1,4 +1,4 @@
-use Rattle.blocks.specs.LocationLaws.{address-made}
+use Rattle.blocks.proofs.Laws.Location.{address-made}
 use borrow.Author.Needs.{needs}
 use Prim.Native.Nat.{_-_}
 use Rattle.blocks.proofs.location.is_address.Statement.{statement}

@@ -1,4 +1,4 @@
-use Rattle.blocks.specs.LocationLaws.{offset-made}
+use Rattle.blocks.proofs.Laws.Location.{offset-made}
 use borrow.Author.Needs.{needs}
 use Prim.Native.Nat.{_-_}
 use Rattle.blocks.proofs.location.is_offset.Statement.{statement}

@@ -1,4 +1,4 @@
-use Rattle.blocks.specs.LocationLaws.{register-plus-made}
+use Rattle.blocks.proofs.Laws.Location.{register-plus-made}
 use borrow.Author.Needs.{needs}
 use Prim.Native.Nat.{_-_}
 use Rattle.blocks.proofs.location.is_register_plus.Statement.{statement}

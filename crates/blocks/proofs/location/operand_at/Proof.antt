@@ -1,4 +1,4 @@
-use Rattle.blocks.specs.LocationLaws.{operand-there, operand-none}
+use Rattle.blocks.proofs.Laws.Location.{operand-there, operand-none}
 use borrow.Author.Needs.{needs}
 use Prim.Native.Nat.{_-_}
 use Rattle.blocks.proofs.location.operand_at.Statement.{statement}

@@ -1,4 +1,4 @@
-use Rattle.blocks.specs.LocationLaws.{operand-taken, operand-refused}
+use Rattle.blocks.proofs.Laws.Location.{operand-taken, operand-refused}
 use borrow.Author.Needs.{needs}
 use Prim.Native.Nat.{_-_}
 use Rattle.blocks.proofs.location.process_address.Statement.{statement}

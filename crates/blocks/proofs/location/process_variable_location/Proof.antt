@@ -1,4 +1,4 @@
-use Rattle.blocks.specs.LocationLaws.{in-register, at-address, at-register-plus, nowhere}
+use Rattle.blocks.proofs.Laws.Location.{in-register, at-address, at-register-plus, nowhere}
 use borrow.Author.Needs.{needs}
 use Prim.Native.Nat.{_-_}
 use Rattle.blocks.proofs.location.process_variable_location.Statement.{statement}

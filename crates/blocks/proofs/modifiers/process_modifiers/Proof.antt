@@ -1,6 +1,6 @@
 use Rattle.blocks.specs.declared.modifiers.Modifiers.the-variants.{Refused}
 use borrow.Author.Tests.{not-true, not-false}
-use Rattle.blocks.specs.ModifiersLaws.{modifiersFrom, begin, unknown, again, done}
+use Rattle.blocks.proofs.Laws.Modifiers.{modifiersFrom, begin, unknown, again, done}
 use Rattle.blocks.specs.Modifiers.{modifiersOf}
 use borrow.Author.Needs.{needs}
 use Prim.Native.Nat.{_-_}

@@ -1,4 +1,4 @@
-use Rattle.blocks.specs.ProducerLaws.{by-mwcc, by-gcc, by-other}
+use Rattle.blocks.proofs.Laws.Producer.{by-mwcc, by-gcc, by-other}
 use borrow.Author.Needs.{needs}
 use Prim.Native.Nat.{_-_}
 use Rattle.blocks.proofs.producer.parse_producer.Statement.{statement}

@@ -1,4 +1,4 @@
-use Rattle.blocks.specs.SubscriptLaws.{indexed-is, indexed-refused}
+use Rattle.blocks.proofs.Laws.Subscript.{indexed-is, indexed-refused}
 use Rattle.blocks.specs.Subscript.{constBound}
 use borrow.Author.Needs.{needs}
 use Rattle.blocks.proofs.subscript.const_bound.Statement.{statement}

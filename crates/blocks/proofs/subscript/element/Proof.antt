@@ -1,5 +1,5 @@
 use Rattle.blocks.specs.declared.subscript.Subscript.the-variants.{Refused}
-use Rattle.blocks.specs.SubscriptLaws.{element-of}
+use Rattle.blocks.proofs.Laws.Subscript.{element-of}
 use Rattle.blocks.specs.Subscript.{elementAs}
 use borrow.Author.Needs.{needs}
 use mathlib.Core.Path.{ap}

@@ -1,4 +1,4 @@
-use Rattle.blocks.specs.SubscriptLaws.{element-typed, element-untyped}
+use Rattle.blocks.proofs.Laws.Subscript.{element-typed, element-untyped}
 use borrow.Author.Needs.{needs}
 use Rattle.blocks.proofs.subscript.element_type.Statement.{statement}
 use Rattle.blocks.proofs.subscript.element_type.Tie as tie

@@ -1,7 +1,7 @@
 use Rattle.blocks.specs.declared.subscript.Subscript.the-variants.{Refused}
-use Rattle.numbers.specs.ValueLaws.{reads-short}
-use Rattle.numbers.specs.ReadLaws.{says32, short32}
-use Rattle.blocks.specs.SubscriptLaws.{high-read}
+use Rattle.numbers.proofs.Laws.Value.{reads-short}
+use Rattle.numbers.proofs.Laws.Read.{says32, short32}
+use Rattle.blocks.proofs.Laws.Subscript.{high-read}
 use Rattle.blocks.specs.Subscript.{highBound}
 use borrow.Author.Needs.{needs}
 use mathlib.Core.Path.{sym, ap, _∙_}

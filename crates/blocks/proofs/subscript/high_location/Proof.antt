@@ -1,6 +1,6 @@
 use Rattle.blocks.specs.declared.subscript.Subscript.the-variants.{Refused}
-use Rattle.numbers.specs.ValueLaws.{reads-short}
-use Rattle.numbers.specs.ReadLaws.{says16, short16, goes-on}
+use Rattle.numbers.proofs.Laws.Value.{reads-short}
+use Rattle.numbers.proofs.Laws.Read.{says16, short16, goes-on}
 use Rattle.blocks.specs.Subscript.{highLocation}
 use borrow.Author.Needs.{needs}
 use mathlib.Core.Path.{sym, ap, _∙_}

@@ -1,4 +1,4 @@
-use Rattle.blocks.specs.SubscriptLaws.{index-known, index-unknown}
+use Rattle.blocks.proofs.Laws.Subscript.{index-known, index-unknown}
 use borrow.Author.Needs.{needs}
 use Rattle.blocks.proofs.subscript.known_index.Statement.{statement}
 use Rattle.blocks.proofs.subscript.known_index.Tie as tie

@@ -1,4 +1,4 @@
-use Rattle.blocks.specs.SubscriptLaws.{size-none, size-offset}
+use Rattle.blocks.proofs.Laws.Subscript.{size-none, size-offset}
 use borrow.Author.Needs.{needs}
 use Rattle.blocks.proofs.subscript.location_size.Statement.{statement}
 use Rattle.blocks.proofs.subscript.location_size.Tie as tie

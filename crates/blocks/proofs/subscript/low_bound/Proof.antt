@@ -1,7 +1,7 @@
 use Rattle.blocks.specs.declared.subscript.Index.the-variants.{Refused}
-use Rattle.numbers.specs.ValueLaws.{reads-short}
-use Rattle.numbers.specs.ReadLaws.{says32, short32}
-use Rattle.blocks.specs.SubscriptLaws.{low-zero, low-other}
+use Rattle.numbers.proofs.Laws.Value.{reads-short}
+use Rattle.numbers.proofs.Laws.Read.{says32, short32}
+use Rattle.blocks.proofs.Laws.Subscript.{low-zero, low-other}
 use Rattle.blocks.specs.Subscript.{lowBound}
 use borrow.Author.Needs.{needs}
 use mathlib.Core.Path.{sym, ap, _∙_}

@@ -1,4 +1,4 @@
-use Rattle.blocks.specs.SubscriptLaws.{no-subscript, begins-with}
+use Rattle.blocks.proofs.Laws.Subscript.{no-subscript, begins-with}
 use borrow.Author.Needs.{needs}
 use Rattle.blocks.proofs.subscript.next_subscript.Statement.{statement}
 use Rattle.blocks.proofs.subscript.next_subscript.Tie as tie

@@ -1,4 +1,4 @@
-use Rattle.blocks.specs.SubscriptLaws.{sized-there, sized-missing}
+use Rattle.blocks.proofs.Laws.Subscript.{sized-there, sized-missing}
 use borrow.Author.Needs.{needs}
 use mathlib.Core.Path.{sym, _∙_}
 use Rattle.blocks.proofs.subscript.sized_by.Statement.{statement}

@@ -1,4 +1,4 @@
-use Rattle.blocks.specs.SubscriptLaws.{sized, unsized}
+use Rattle.blocks.proofs.Laws.Subscript.{sized, unsized}
 use borrow.Author.Needs.{needs}
 use Rattle.blocks.proofs.subscript.sized_dimension.Statement.{statement}
 use Rattle.blocks.proofs.subscript.sized_dimension.Tie as tie

@@ -1,4 +1,4 @@
-use Rattle.blocks.specs.SubscriptsLaws.{element-is, element-none}
+use Rattle.blocks.proofs.Laws.Subscripts.{element-is, element-none}
 use borrow.Author.Needs.{needs}
 use Rattle.blocks.proofs.subscripts.element_or.Statement.{statement}
 use Rattle.blocks.proofs.subscripts.element_or.Tie as tie

@@ -1,4 +1,4 @@
-use Rattle.blocks.specs.SubscriptsLaws.{all-read, no-room, read-refused}
+use Rattle.blocks.proofs.Laws.Subscripts.{all-read, no-room, read-refused}
 use borrow.Author.Needs.{needs}
 use Rattle.blocks.proofs.subscripts.process_array_subscript_data.Statement.{statement}
 use Rattle.blocks.proofs.subscripts.process_array_subscript_data.Tie as tie

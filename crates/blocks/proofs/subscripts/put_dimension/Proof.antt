@@ -1,4 +1,4 @@
-use Rattle.blocks.specs.SubscriptsLaws.{dimension-stored, dimension-unstored}
+use Rattle.blocks.proofs.Laws.Subscripts.{dimension-stored, dimension-unstored}
 use borrow.Author.Needs.{needs}
 use Rattle.blocks.proofs.subscripts.put_dimension.Statement.{statement}
 use Rattle.blocks.proofs.subscripts.put_dimension.Tie as tie

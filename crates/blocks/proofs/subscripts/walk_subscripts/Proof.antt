@@ -1,6 +1,6 @@
 use borrow.Author.Needs.{needs}
 use lib.ListN.{length}
-use Rattle.blocks.specs.SubscriptsLaws.{Left, begin, walk-done, dimension-inside, element-inside, dimension-less, element-less, again-dimension, again-element, walk-refused}
+use Rattle.blocks.proofs.Laws.Subscripts.{Left, begin, walk-done, dimension-inside, element-inside, dimension-less, element-less, again-dimension, again-element, walk-refused}
 use Rattle.blocks.proofs.subscripts.walk_subscripts.Statement.{statement}
 use Rattle.blocks.proofs.subscripts.walk_subscripts.Tie as tie
 

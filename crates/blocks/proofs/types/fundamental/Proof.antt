@@ -1,4 +1,4 @@
-use Rattle.blocks.specs.TypesLaws.{fundamental-known, fundamental-unknown}
+use Rattle.blocks.proofs.Laws.Types.{fundamental-known, fundamental-unknown}
 use borrow.Author.Needs.{needs}
 use Rattle.blocks.proofs.types.fundamental.Statement.{statement}
 use Rattle.blocks.proofs.types.fundamental.Tie as tie

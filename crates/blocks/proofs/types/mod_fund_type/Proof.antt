@@ -1,6 +1,6 @@
 use lib.Seq.{length-take-le}
-use Rattle.numbers.specs.ReadLaws.{says16, short16}
-use Rattle.blocks.specs.TypesLaws.{last-there, last-missing, last-short}
+use Rattle.numbers.proofs.Laws.Read.{says16, short16}
+use Rattle.blocks.proofs.Laws.Types.{last-there, last-missing, last-short}
 use Rattle.blocks.specs.Types.{modFundType}
 use borrow.Author.Needs.{needs}
 use native.Mathlib.Omega.{arith}

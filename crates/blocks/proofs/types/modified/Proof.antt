@@ -1,4 +1,4 @@
-use Rattle.blocks.specs.TypesLaws.{modified-known, modified-refused}
+use Rattle.blocks.proofs.Laws.Types.{modified-known, modified-refused}
 use borrow.Author.Needs.{needs}
 use Rattle.blocks.proofs.types.modified.Statement.{statement}
 use Rattle.blocks.proofs.types.modified.Tie as tie

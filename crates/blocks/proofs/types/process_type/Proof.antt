@@ -1,4 +1,4 @@
-use Rattle.blocks.specs.TypesLaws.{type-of, no-type, past-end}
+use Rattle.blocks.proofs.Laws.Types.{type-of, no-type, past-end}
 use Rattle.blocks.specs.Types.{typeAt, modFundType, modUDType}
 use borrow.Author.Needs.{needs}
 use mathlib.Core.Path.{ap, _∙_}

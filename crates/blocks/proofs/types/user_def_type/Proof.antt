@@ -1,6 +1,6 @@
 use Rattle.blocks.specs.declared.types.Typed.the-variants.{Refused}
-use Rattle.numbers.specs.ValueLaws.{reads-short}
-use Rattle.numbers.specs.ReadLaws.{says32, short32, goes-on}
+use Rattle.numbers.proofs.Laws.Value.{reads-short}
+use Rattle.numbers.proofs.Laws.Read.{says32, short32, goes-on}
 use Rattle.blocks.specs.Types.{userDefType}
 use borrow.Author.Needs.{needs}
 use mathlib.Core.Path.{sym, ap, _∙_}

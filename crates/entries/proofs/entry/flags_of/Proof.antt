@@ -1,4 +1,4 @@
-use Rattle.entries.specs.EntryLaws.{flag-small, little-small}
+use Rattle.entries.proofs.Laws.Entry.{flag-small, little-small}
 use Rattle.entries.specs.Entry.{flagsOf}
 use borrow.Author.Needs.{needs}
 use native.Mathlib.Omega.{arith}

@@ -1,5 +1,5 @@
 use Rattle.entries.specs.Entry.{attributes}
-use Rattle.entries.specs.EntryLaws.{body-read, body-refused, run-few}
+use Rattle.entries.proofs.Laws.Entry.{body-read, body-refused, run-few}
 use borrow.Author.Needs.{needs}
 use native.Mathlib.Omega.{arith}
 use Rattle.entries.proofs.entry.read_body.Statement.{statement}

@@ -1,5 +1,5 @@
 use Rattle.entries.specs.Entry.{entryFrom}
-use Rattle.entries.specs.EntryLaws.{entry-null, entry-skipped, at-head, head-bounds, renamed, stopped}
+use Rattle.entries.proofs.Laws.Entry.{entry-null, entry-skipped, at-head, head-bounds, renamed, stopped}
 use borrow.Author.Needs.{needs}
 use native.Mathlib.Omega.{arith}
 use Rattle.entries.proofs.entry.read_entry.Statement.{statement}

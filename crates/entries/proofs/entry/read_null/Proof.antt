@@ -1,4 +1,4 @@
-use Rattle.entries.specs.EntryLaws.{null-read}
+use Rattle.entries.proofs.Laws.Entry.{null-read}
 use borrow.Author.Needs.{needs}
 use Rattle.entries.proofs.entry.read_null.Statement.{statement}
 use Rattle.entries.proofs.entry.read_null.Tie as tie

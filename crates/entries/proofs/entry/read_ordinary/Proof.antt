@@ -1,4 +1,4 @@
-use Rattle.entries.specs.EntryLaws.{ordinary-read, ordinary-refused}
+use Rattle.entries.proofs.Laws.Entry.{ordinary-read, ordinary-refused}
 use borrow.Author.Needs.{needs}
 use Rattle.entries.proofs.entry.read_ordinary.Statement.{statement}
 use Rattle.entries.proofs.entry.read_ordinary.Tie as tie

@@ -1,4 +1,4 @@
-use Rattle.entries.specs.EntryLaws.{rooted-read, rooted-refused, stopped, renamed, nested, root-is, root-short}
+use Rattle.entries.proofs.Laws.Entry.{rooted-read, rooted-refused, stopped, renamed, nested, root-is, root-short}
 use borrow.Author.Needs.{needs}
 use mathlib.Core.Path.{sym, _∙_}
 use Rattle.entries.proofs.entry.read_root.Statement.{statement}

@@ -1,6 +1,6 @@
-use Rattle.entries.specs.EntryLaws.{endian-inside, endian-known, endian-flipped, endian-short}
-use Rattle.numbers.specs.ValueLaws.{reads-short}
-use Rattle.numbers.specs.ReadLaws.{says16, short16, goes-on}
+use Rattle.entries.proofs.Laws.Entry.{endian-inside, endian-known, endian-flipped, endian-short}
+use Rattle.numbers.proofs.Laws.Value.{reads-short}
+use Rattle.numbers.proofs.Laws.Read.{says16, short16, goes-on}
 use borrow.Author.Needs.{needs}
 use mathlib.Core.Path.{sym, _∙_}
 use Rattle.entries.proofs.entry.root_endian.Statement.{statement}

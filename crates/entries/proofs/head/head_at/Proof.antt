@@ -1,6 +1,6 @@
-use Rattle.entries.specs.HeadLaws.{head-sized, head-short}
-use Rattle.numbers.specs.ValueLaws.{reads-short}
-use Rattle.numbers.specs.ReadLaws.{says32, short32, goes-on, says-inside}
+use Rattle.entries.proofs.Laws.Head.{head-sized, head-short}
+use Rattle.numbers.proofs.Laws.Value.{reads-short}
+use Rattle.numbers.proofs.Laws.Read.{says32, short32, goes-on, says-inside}
 use borrow.Author.Needs.{needs}
 use mathlib.Core.Path.{sym, _∙_}
 use Rattle.entries.proofs.head.head_at.Statement.{statement}

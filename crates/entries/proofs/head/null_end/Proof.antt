@@ -1,4 +1,4 @@
-use Rattle.entries.specs.HeadLaws.{null-four, null-stretched}
+use Rattle.entries.proofs.Laws.Head.{null-four, null-stretched}
 use borrow.Author.Needs.{needs}
 use Rattle.entries.proofs.head.null_end.Statement.{statement}
 use Rattle.entries.proofs.head.null_end.Tie as tie

@@ -1,6 +1,6 @@
-use Rattle.entries.specs.HeadLaws.{size-null, size-tag, size-short}
-use Rattle.numbers.specs.ValueLaws.{reads-short}
-use Rattle.numbers.specs.ReadLaws.{says16, short16, goes-on, says-inside}
+use Rattle.entries.proofs.Laws.Head.{size-null, size-tag, size-short}
+use Rattle.numbers.proofs.Laws.Value.{reads-short}
+use Rattle.numbers.proofs.Laws.Read.{says16, short16, goes-on, says-inside}
 use borrow.Author.Needs.{needs}
 use native.Mathlib.Omega.{arith}
 use denote.Ref.{now}

@@ -1,4 +1,4 @@
-use Rattle.entries.specs.HeadLaws.{tag-root, tag-skipped, tag-ordinary, tag-unknown}
+use Rattle.entries.proofs.Laws.Head.{tag-root, tag-skipped, tag-ordinary, tag-unknown}
 use borrow.Author.Needs.{needs}
 use mathlib.Core.Path.{sym, _∙_}
 use Rattle.entries.proofs.head.tag_head.Statement.{statement}

@@ -1,4 +1,4 @@
-use Rattle.entries.specs.RunLaws.{Loop, begin, again, done, ends, short, unknown, kept, value-small, falls}
+use Rattle.entries.proofs.Laws.Run.{Loop, begin, again, done, ends, short, unknown, kept, value-small, falls}
 use borrow.Author.Needs.{needs}
 use Prim.Native.Nat.{_-_}
 use mathlib.Core.Path.{sym, _∙_}

@@ -1,6 +1,6 @@
-use Rattle.entries.specs.RunLaws.{ends-not-high, ends-read, ends-short}
-use Rattle.numbers.specs.ValueLaws.{reads-short}
-use Rattle.numbers.specs.ReadLaws.{says16, short16, goes-on}
+use Rattle.entries.proofs.Laws.Run.{ends-not-high, ends-read, ends-short}
+use Rattle.numbers.proofs.Laws.Value.{reads-short}
+use Rattle.numbers.proofs.Laws.Read.{says16, short16, goes-on}
 use borrow.Author.Needs.{needs}
 use mathlib.Core.Path.{sym, _∙_}
 use Rattle.entries.proofs.run.run_ends.Statement.{statement}

@@ -1,5 +1,5 @@
 use borrow.Author.Tests.{not-true, not-false}
-use Rattle.entries.specs.SectionLaws.{count-settings, count-long, count-read, count-refused}
+use Rattle.entries.proofs.Laws.Section.{count-settings, count-long, count-read, count-refused}
 use borrow.Author.Needs.{needs}
 use mathlib.Core.Path.{sym, _∙_}
 use Rattle.entries.proofs.section.count_debug_section.Statement.{statement}

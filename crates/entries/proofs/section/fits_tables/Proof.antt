@@ -1,4 +1,4 @@
-use Rattle.entries.specs.SectionLaws.{too-many-rows, rows-short, too-many-attrs, attrs-decide}
+use Rattle.entries.proofs.Laws.Section.{too-many-rows, rows-short, too-many-attrs, attrs-decide}
 use borrow.Author.Needs.{needs}
 use Rattle.entries.proofs.section.fits_tables.Statement.{statement}
 use Rattle.entries.proofs.section.fits_tables.Tie as tie

@@ -1,4 +1,4 @@
-use Rattle.entries.specs.SectionLaws.{countable, read-done, read-room, read-refused}
+use Rattle.entries.proofs.Laws.Section.{countable, read-done, read-room, read-refused}
 use borrow.Author.Needs.{needs}
 use mathlib.Core.Path.{sym, _∙_}
 use Rattle.entries.proofs.section.read_debug_section.Statement.{statement}

@@ -1,4 +1,4 @@
-use Rattle.entries.specs.WalkLaws.{Loop, begin, done, again, falls as forward, refused-here, inside-ready, inside-near, level-left, again-inside, falls-inside, refused-inside, rows-kept, attrs-kept}
+use Rattle.entries.proofs.Laws.Walk.{Loop, begin, done, again, falls as forward, refused-here, inside-ready, inside-near, level-left, again-inside, falls-inside, refused-inside, rows-kept, attrs-kept}
 use borrow.Author.Needs.{needs}
 use native.Mathlib.Omega.{arith}
 use Prim.Native.Nat.{ℕ, _-_, _<_}

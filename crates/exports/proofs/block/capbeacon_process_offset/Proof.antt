@@ -1,4 +1,4 @@
-use Rattle.exports.specs.CrossingLaws.{offset-crosses}
+use Rattle.exports.proofs.Laws.Crossing.{offset-crosses}
 use borrow.Author.Needs.{needs}
 use Rattle.exports.proofs.block.capbeacon_process_offset.Statement.{statement}
 use Rattle.exports.proofs.block.capbeacon_process_offset.Tie as tie

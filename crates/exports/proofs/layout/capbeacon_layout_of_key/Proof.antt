@@ -1,4 +1,4 @@
-use Rattle.exports.specs.CrossingLaws.{layout-crosses}
+use Rattle.exports.proofs.Laws.Crossing.{layout-crosses}
 use borrow.Author.Needs.{needs}
 use Rattle.exports.proofs.layout.capbeacon_layout_of_key.Statement.{statement}
 use Rattle.exports.proofs.layout.capbeacon_layout_of_key.Tie as tie

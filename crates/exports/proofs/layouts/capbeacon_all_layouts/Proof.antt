@@ -1,4 +1,4 @@
-use Rattle.exports.specs.CrossingLaws.{layouts-cross}
+use Rattle.exports.proofs.Laws.Crossing.{layouts-cross}
 use borrow.Author.Needs.{needs}
 use Rattle.exports.proofs.layouts.capbeacon_all_layouts.Statement.{statement}
 use Rattle.exports.proofs.layouts.capbeacon_all_layouts.Tie as tie

@@ -1,4 +1,4 @@
-use Rattle.exports.specs.CrossingLaws.{tree-crosses}
+use Rattle.exports.proofs.Laws.Crossing.{tree-crosses}
 use borrow.Author.Needs.{needs}
 use Rattle.exports.proofs.listing.capbeacon_list_tree.Statement.{statement}
 use Rattle.exports.proofs.listing.capbeacon_list_tree.Tie as tie

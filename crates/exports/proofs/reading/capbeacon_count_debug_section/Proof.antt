@@ -1,4 +1,4 @@
-use Rattle.exports.specs.CrossingLaws.{count-crosses}
+use Rattle.exports.proofs.Laws.Crossing.{count-crosses}
 use borrow.Author.Needs.{needs}
 use Rattle.exports.proofs.reading.capbeacon_count_debug_section.Statement.{statement}
 use Rattle.exports.proofs.reading.capbeacon_count_debug_section.Tie as tie

@@ -1,4 +1,4 @@
-use Rattle.exports.specs.CrossingLaws.{read-crosses}
+use Rattle.exports.proofs.Laws.Crossing.{read-crosses}
 use borrow.Author.Needs.{needs}
 use Rattle.exports.proofs.reading.capbeacon_read_debug_section.Statement.{statement}
 use Rattle.exports.proofs.reading.capbeacon_read_debug_section.Tie as tie

@@ -1,4 +1,4 @@
-use Rattle.exports.specs.CrossingLaws.{size-crosses}
+use Rattle.exports.proofs.Laws.Crossing.{size-crosses}
 use borrow.Author.Needs.{needs}
 use Rattle.exports.proofs.size.capbeacon_size_of_key.Statement.{statement}
 use Rattle.exports.proofs.size.capbeacon_size_of_key.Tie as tie

@@ -1,8 +1,8 @@
 use Prim.Native.Nat.{_/_, _%_, _^_}
 use lib.Dec.{eqb}
-use Rattle.format.specs.Computed.{below, same-below, allBelow, beyond}
+use Rattle.format.proofs.Laws.Computed.{below, same-below, allBelow, beyond}
 use Rattle.format.specs.Lookup.{member, lookup}
-use Rattle.format.specs.NamedWords.{namedWords}
+use Rattle.format.specs.Inside.NamedWords.{namedWords}
 use Rattle.format.specs.AttributeKind.{used, alsoKnown, attributeKinds}
 use borrow.Author.Needs.{needs}
 use mathlib.Core.Path.{refl, sym, ap, _∙_}

@@ -1,6 +1,6 @@
 use Rattle.format.specs.Lookup.{lookup}
-use Rattle.format.specs.LookupLaws.{lookup-none}
-use Rattle.format.specs.NamedWords.{namedWords}
+use Rattle.format.proofs.Laws.Lookup.{lookup-none}
+use Rattle.format.specs.Inside.NamedWords.{namedWords}
 use mathlib.Core.Path.{sym, ap}
 use Rattle.format.proofs.attribute_kind.named_word.Statement.{statement}
 use Rattle.format.proofs.attribute_kind.named_word.Tie as tie

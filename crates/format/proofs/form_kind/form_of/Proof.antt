@@ -1,5 +1,5 @@
 use Rattle.format.specs.Lookup.{lookup}
-use Rattle.format.specs.LookupLaws.{lookup-none}
+use Rattle.format.proofs.Laws.Lookup.{lookup-none}
 use Rattle.format.specs.FormKind.{forms, formOf}
 use Rattle.format.specs.declared.form_kind.FormKind.the-variants.{Undefined}
 use mathlib.Core.Path.{sym, ap}

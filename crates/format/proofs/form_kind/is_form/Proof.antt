@@ -1,4 +1,4 @@
-use Rattle.format.specs.FormLaws.{is-form}
+use Rattle.format.proofs.Laws.Form.{is-form}
 use borrow.Author.Needs.{needs}
 use Rattle.format.proofs.form_kind.is_form.Statement.{statement}
 use Rattle.format.proofs.form_kind.is_form.Tie as tie

@@ -1,5 +1,5 @@
 use Rattle.format.specs.Lookup.{indexOf}
-use Rattle.format.specs.LookupLaws.{unplaced}
+use Rattle.format.proofs.Laws.Lookup.{unplaced}
 use Rattle.format.specs.FundType.{fundTypes}
 use mathlib.Core.Path.{sym, ap}
 use Rattle.format.proofs.fund_type.order_of.Statement.{statement}

@@ -1,5 +1,5 @@
 use borrow.Author.Tests.{lt-ltb, le-ltb}
-use Rattle.format.specs.LookupLaws.{member-index}
+use Rattle.format.proofs.Laws.Lookup.{member-index}
 use Rattle.format.specs.FundType.{fundTypes, fundTypeOf}
 use borrow.Author.Needs.{needs}
 use Rattle.format.proofs.fund_type.try_from.Statement.{statement}

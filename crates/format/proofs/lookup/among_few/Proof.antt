@@ -1,4 +1,4 @@
-use Rattle.format.specs.LookupLaws.{scan-next, scan-end}
+use Rattle.format.proofs.Laws.Lookup.{scan-next, scan-end}
 use Rattle.format.specs.Lookup.{member}
 use mathlib.Core.Bool.{_||_}
 use borrow.Author.Needs.{needs}

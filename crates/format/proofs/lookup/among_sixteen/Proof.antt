@@ -1,4 +1,4 @@
-use Rattle.format.specs.Sixteen.{some-of-sixteen}
+use Rattle.format.proofs.Laws.Sixteen.{some-of-sixteen}
 use borrow.Author.Needs.{needs}
 use Rattle.format.proofs.lookup.among_sixteen.Statement.{statement}
 use Rattle.format.proofs.lookup.among_sixteen.Tie as tie

@@ -1,4 +1,4 @@
-use Rattle.format.specs.Sixteen.{Sought, sought-first, sought-next, sought-end}
+use Rattle.format.proofs.Laws.Sixteen.{Sought, sought-first, sought-next, sought-end}
 use borrow.Author.Needs.{needs}
 use native.Mathlib.Omega.{arith}
 use Prim.Native.Nat.{_-_}

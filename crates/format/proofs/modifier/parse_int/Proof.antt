@@ -1,5 +1,5 @@
 use Rattle.format.specs.Lookup.{lookup}
-use Rattle.format.specs.LookupLaws.{lookup-none}
+use Rattle.format.proofs.Laws.Lookup.{lookup-none}
 use Rattle.format.specs.Modifier.{modifiers, modifierOf}
 use Rattle.format.specs.declared.modifier.Modifier.the-variants.{Unknown}
 use mathlib.Core.Path.{sym, ap}

@@ -1,5 +1,5 @@
 use Rattle.format.specs.Lookup.{lookup}
-use Rattle.format.specs.LookupLaws.{lookup-none}
+use Rattle.format.proofs.Laws.Lookup.{lookup-none}
 use Rattle.format.specs.Refusal.{reasons, reasonOf}
 use Rattle.format.specs.declared.refusal.Reason.the-variants.{Settings}
 use mathlib.Core.Path.{sym, ap}

@@ -1,5 +1,5 @@
 use borrow.Author.Tests.{not-true, not-false}
-use Rattle.format.specs.SettingsLaws.{vendors-low, vendors-bad, vendors-next, vendors-end}
+use Rattle.format.proofs.Laws.Settings.{vendors-low, vendors-bad, vendors-next, vendors-end}
 use Rattle.format.specs.Settings.{vendorsHold}
 use borrow.Author.Needs.{needs}
 use native.Mathlib.Omega.{arith}

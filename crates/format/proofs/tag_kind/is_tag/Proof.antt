@@ -1,7 +1,7 @@
 use mathlib.Core.Bool.{or-false}
 use Prim.Native.Nat.{_/_, _%_, _^_}
 use lib.Dec.{eqb}
-use Rattle.format.specs.Computed.{below, same-below, allBelow, beyond}
+use Rattle.format.proofs.Laws.Computed.{below, same-below, allBelow, beyond}
 use Rattle.format.specs.Lookup.{member}
 use Rattle.format.specs.TagKind.{tags}
 use borrow.Author.Needs.{needs}

@@ -1,4 +1,4 @@
-use Rattle.layouts.specs.GapsLaws.{gap-found, no-gap}
+use Rattle.layouts.proofs.Laws.Gaps.{gap-found, no-gap}
 use borrow.Author.Needs.{needs}
 use Rattle.layouts.proofs.gaps.gap_between.Statement.{statement}
 use Rattle.layouts.proofs.gaps.gap_between.Tie as tie

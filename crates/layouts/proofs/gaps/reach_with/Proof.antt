@@ -1,4 +1,4 @@
-use Rattle.layouts.specs.GapsLaws.{reach-grows, reach-stays}
+use Rattle.layouts.proofs.Laws.Gaps.{reach-grows, reach-stays}
 use borrow.Author.Needs.{needs}
 use Rattle.layouts.proofs.gaps.reach_with.Statement.{statement}
 use Rattle.layouts.proofs.gaps.reach_with.Tie as tie

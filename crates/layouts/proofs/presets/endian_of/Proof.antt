@@ -1,4 +1,4 @@
-use Rattle.layouts.specs.PresetsLaws.{little-endian, big-endian}
+use Rattle.layouts.proofs.Laws.Presets.{little-endian, big-endian}
 use Rattle.layouts.proofs.presets.endian_of.Statement.{statement}
 use Rattle.layouts.proofs.presets.endian_of.Tie as tie
 

@@ -1,4 +1,4 @@
-use Rattle.layouts.specs.PresetsLaws.{begins, other-length}
+use Rattle.layouts.proofs.Laws.Presets.{begins, other-length}
 use borrow.Author.Needs.{needs}
 use mathlib.Core.Path.{_∙_}
 use Rattle.layouts.proofs.presets.is_word.Statement.{statement}

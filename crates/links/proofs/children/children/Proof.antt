@@ -1,4 +1,4 @@
-use Rattle.links.specs.ChildrenLaws.{tested-rows, children-passed, children-refused}
+use Rattle.links.proofs.Laws.Children.{tested-rows, children-passed, children-refused}
 use borrow.Author.Needs.{needs}
 use Rattle.links.proofs.children.children.Statement.{statement}
 use Rattle.links.proofs.children.children.Tie as tie

@@ -1,4 +1,4 @@
-use Rattle.links.specs.ChildrenLaws.{children-there, children-nowhere, asked-there}
+use Rattle.links.proofs.Laws.Children.{children-there, children-nowhere, asked-there}
 use borrow.Author.Needs.{needs}
 use Rattle.links.proofs.children.children_by_key.Statement.{statement}
 use Rattle.links.proofs.children.children_by_key.Tie as tie

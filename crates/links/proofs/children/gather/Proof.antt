@@ -1,4 +1,4 @@
-use Rattle.links.specs.ChildrenLaws.{gathers-children}
+use Rattle.links.proofs.Laws.Children.{gathers-children}
 use borrow.Author.Needs.{needs}
 use Rattle.links.proofs.children.gather.Statement.{statement}
 use Rattle.links.proofs.children.gather.Tie as tie

@@ -1,4 +1,4 @@
-use Rattle.links.specs.ChildrenLaws.{given-listed, given-unfit, given-never}
+use Rattle.links.proofs.Laws.Children.{given-listed, given-unfit, given-never}
 use borrow.Author.Needs.{needs}
 use Rattle.links.proofs.children.give.Statement.{statement}
 use Rattle.links.proofs.children.give.Tie as tie

@@ -1,4 +1,4 @@
-use Rattle.links.specs.ChildrenLaws.{takes-null, takes-row}
+use Rattle.links.proofs.Laws.Children.{takes-null, takes-row}
 use borrow.Author.Needs.{needs}
 use Rattle.links.proofs.children.take_child.Statement.{statement}
 use Rattle.links.proofs.children.take_child.Tie as tie

@@ -1,4 +1,4 @@
-use Rattle.links.specs.ChildrenLaws.{small-turn, Walking, walking-begins, gathered-end, gathered-past, gathered-never, walking-on}
+use Rattle.links.proofs.Laws.Children.{small-turn, Walking, walking-begins, gathered-end, gathered-past, gathered-never, walking-on}
 use Rattle.links.specs.Links.{siblingRow}
 use borrow.Author.Needs.{needs}
 use Prim.Native.Nat.{_-_}

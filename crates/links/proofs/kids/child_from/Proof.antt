@@ -1,5 +1,5 @@
-use Rattle.links.specs.KidsLaws.{Seeking, seeking-begins, seeking-end, seeking-past, seeking-found, seeking-at, seeking-on, seeking-less}
-use Rattle.links.specs.Kids.{rowsMet, walkOn}
+use Rattle.links.proofs.Laws.Kids.{Seeking, seeking-begins, seeking-end, seeking-past, seeking-found, seeking-at, seeking-on, seeking-less}
+use Rattle.links.specs.Inside.Kids.{rowsMet, walkOn}
 use borrow.Author.Needs.{needs}
 use lib.ListN.{length}
 use Rattle.links.proofs.kids.child_from.Statement.{statement}

@@ -1,4 +1,4 @@
-use Rattle.links.specs.LinkLaws.{next-asked, next-here, next-passed, next-none}
+use Rattle.links.proofs.Laws.Link.{next-asked, next-here, next-passed, next-none}
 use Rattle.links.specs.Links.{nextFrom}
 use borrow.Author.Tests.{not-true, not-false}
 use borrow.Author.Needs.{needs}

@@ -1,4 +1,4 @@
-use Rattle.links.specs.LinkLaws.{next-after}
+use Rattle.links.proofs.Laws.Link.{next-after}
 use borrow.Author.Needs.{needs}
 use Rattle.links.proofs.link.next_row.Statement.{statement}
 use Rattle.links.proofs.link.next_row.Tie as tie

@@ -1,4 +1,4 @@
-use Rattle.links.specs.LinkLaws.{sibling-named, sibling-next}
+use Rattle.links.proofs.Laws.Link.{sibling-named, sibling-next}
 use borrow.Author.Needs.{needs}
 use Rattle.links.proofs.link.sibling_row.Statement.{statement}
 use Rattle.links.proofs.link.sibling_row.Tie as tie

@@ -1,4 +1,4 @@
-use Rattle.links.specs.AttributeLaws.{attribute-first}
+use Rattle.links.proofs.Laws.Attribute.{attribute-first}
 use borrow.Author.Needs.{needs}
 use Rattle.links.proofs.lookup.attribute_of.Statement.{statement}
 use Rattle.links.proofs.lookup.attribute_of.Tie as tie

@@ -1,4 +1,4 @@
-use Rattle.links.specs.AttributeLaws.{attr-wanted, attr-unwanted, attr-none}
+use Rattle.links.proofs.Laws.Attribute.{attr-wanted, attr-unwanted, attr-none}
 use Rattle.links.specs.Attribute.{attrFrom}
 use native.Mathlib.Nat.{add-zero, sub-zero}
 use borrow.Author.Needs.{needs}

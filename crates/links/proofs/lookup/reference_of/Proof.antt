@@ -1,4 +1,4 @@
-use Rattle.links.specs.AttributeLaws.{reference-there, reference-none}
+use Rattle.links.proofs.Laws.Attribute.{reference-there, reference-none}
 use borrow.Author.Needs.{needs}
 use Rattle.links.proofs.lookup.reference_of.Statement.{statement}
 use Rattle.links.proofs.lookup.reference_of.Tie as tie

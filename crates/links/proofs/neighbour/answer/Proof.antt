@@ -1,4 +1,4 @@
-use Rattle.links.specs.Neighbour.{answer-row, answer-none}
+use Rattle.links.proofs.Laws.Neighbour.{answer-row, answer-none}
 use Rattle.links.proofs.neighbour.answer.Statement.{statement}
 use Rattle.links.proofs.neighbour.answer.Tie as tie
 

@@ -1,5 +1,5 @@
-use Rattle.links.specs.Neighbour.{sibling-passed, sibling-refused}
-use Rattle.links.specs.ChildrenLaws.{tested-rows}
+use Rattle.links.proofs.Laws.Neighbour.{sibling-passed, sibling-refused}
+use Rattle.links.proofs.Laws.Children.{tested-rows}
 use borrow.Author.Needs.{needs}
 use Rattle.links.proofs.neighbour.next_sibling.Statement.{statement}
 use Rattle.links.proofs.neighbour.next_sibling.Tie as tie

@@ -1,5 +1,5 @@
-use Rattle.links.specs.Neighbour.{next-passed, next-refused}
-use Rattle.links.specs.ChildrenLaws.{tested-rows}
+use Rattle.links.proofs.Laws.Neighbour.{next-passed, next-refused}
+use Rattle.links.proofs.Laws.Children.{tested-rows}
 use borrow.Author.Needs.{needs}
 use Rattle.links.proofs.neighbour.next_tag.Statement.{statement}
 use Rattle.links.proofs.neighbour.next_tag.Tie as tie

@@ -1,5 +1,5 @@
-use Rattle.links.specs.Neighbour.{neighbour-there, neighbour-nowhere}
-use Rattle.tables.specs.FindLaws.{row-found}
+use Rattle.links.proofs.Laws.Neighbour.{neighbour-there, neighbour-nowhere}
+use Rattle.tables.proofs.Laws.Find.{row-found}
 use borrow.Author.Needs.{needs}
 use mathlib.Core.Path.{sym, _∙_}
 use Rattle.links.proofs.neighbour.sibling_by_key.Statement.{statement}

@@ -1,4 +1,4 @@
-use Rattle.links.specs.TypedLaws.{handed-block}
+use Rattle.links.proofs.Laws.Typed.{handed-block}
 use borrow.Author.Needs.{needs}
 use Rattle.links.proofs.typed.block_attribute.Statement.{statement}
 use Rattle.links.proofs.typed.block_attribute.Tie as tie

@@ -1,4 +1,4 @@
-use Rattle.links.specs.TypedLaws.{block-two, block-four}
+use Rattle.links.proofs.Laws.Typed.{block-two, block-four}
 use borrow.Author.Needs.{needs}
 use Rattle.links.proofs.typed.block_form.Statement.{statement}
 use Rattle.links.proofs.typed.block_form.Tie as tie

@@ -1,4 +1,4 @@
-use Rattle.links.specs.TypedLaws.{ends-of}
+use Rattle.links.proofs.Laws.Typed.{ends-of}
 use borrow.Author.Needs.{needs}
 use Rattle.links.proofs.typed.ends_of.Statement.{statement}
 use Rattle.links.proofs.typed.ends_of.Tie as tie

@@ -1,4 +1,4 @@
-use Rattle.links.specs.TypedLaws.{key-found, key-nowhere}
+use Rattle.links.proofs.Laws.Typed.{key-found, key-nowhere}
 use borrow.Author.Needs.{needs}
 use Rattle.links.proofs.typed.find_key.Statement.{statement}
 use Rattle.links.proofs.typed.find_key.Tie as tie

@@ -1,4 +1,4 @@
-use Rattle.links.specs.TypedLaws.{handed}
+use Rattle.links.proofs.Laws.Typed.{handed}
 use borrow.Author.Needs.{needs}
 use Rattle.links.proofs.typed.hand.Statement.{statement}
 use Rattle.links.proofs.typed.hand.Tie as tie

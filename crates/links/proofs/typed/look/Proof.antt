@@ -1,4 +1,4 @@
-use Rattle.links.specs.TypedLaws.{look-there, look-refused}
+use Rattle.links.proofs.Laws.Typed.{look-there, look-refused}
 use borrow.Author.Needs.{needs}
 use Rattle.links.proofs.typed.look.Statement.{statement}
 use Rattle.links.proofs.typed.look.Tie as tie

@@ -1,4 +1,4 @@
-use Rattle.links.specs.TypedLaws.{looked-there, looked-none}
+use Rattle.links.proofs.Laws.Typed.{looked-there, looked-none}
 use borrow.Author.Needs.{needs}
 use Rattle.links.proofs.typed.look_in.Statement.{statement}
 use Rattle.links.proofs.typed.look_in.Tie as tie

@@ -1,5 +1,5 @@
 use Rattle.links.specs.Typed.{partAs}
-use Rattle.links.specs.TypedLaws.{part-formed}
+use Rattle.links.proofs.Laws.Typed.{part-formed}
 use borrow.Author.Needs.{needs}
 use mathlib.Core.Path.{refl}
 use Rattle.links.proofs.typed.part_as.Statement.{statement}

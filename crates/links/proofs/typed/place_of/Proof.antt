@@ -1,4 +1,4 @@
-use Rattle.links.specs.TypedLaws.{place-there, place-refused}
+use Rattle.links.proofs.Laws.Typed.{place-there, place-refused}
 use borrow.Author.Needs.{needs}
 use Rattle.links.proofs.typed.place_of.Statement.{statement}
 use Rattle.links.proofs.typed.place_of.Tie as tie

@@ -1,5 +1,5 @@
-use Rattle.links.specs.ChildrenLaws.{tested-rows}
-use Rattle.links.specs.TypedLaws.{row-passed, row-refused}
+use Rattle.links.proofs.Laws.Children.{tested-rows}
+use Rattle.links.proofs.Laws.Typed.{row-passed, row-refused}
 use borrow.Author.Needs.{needs}
 use Rattle.links.proofs.typed.row_of.Statement.{statement}
 use Rattle.links.proofs.typed.row_of.Tie as tie

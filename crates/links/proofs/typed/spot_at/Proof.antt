@@ -1,4 +1,4 @@
-use Rattle.links.specs.TypedLaws.{spot-there, spot-none}
+use Rattle.links.proofs.Laws.Typed.{spot-there, spot-none}
 use borrow.Author.Needs.{needs}
 use Rattle.links.proofs.typed.spot_at.Statement.{statement}
 use Rattle.links.proofs.typed.spot_at.Tie as tie

@@ -1,4 +1,4 @@
-use Rattle.links.specs.TypedLaws.{spot-formed, spot-other}
+use Rattle.links.proofs.Laws.Typed.{spot-formed, spot-other}
 use borrow.Author.Needs.{needs}
 use Rattle.links.proofs.typed.spot_in.Statement.{statement}
 use Rattle.links.proofs.typed.spot_in.Tie as tie

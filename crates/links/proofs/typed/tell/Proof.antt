@@ -1,4 +1,4 @@
-use Rattle.links.specs.TypedLaws.{told-refused}
+use Rattle.links.proofs.Laws.Typed.{told-refused}
 use Rattle.links.specs.Typed.{toldWords}
 use borrow.Author.Needs.{needs}
 use mathlib.Core.Path.{sym, ap}

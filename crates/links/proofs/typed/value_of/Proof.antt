@@ -1,5 +1,5 @@
 use Rattle.links.specs.Typed.{valueBy}
-use Rattle.links.specs.TypedLaws.{word-there, word-none, word-refused}
+use Rattle.links.proofs.Laws.Typed.{word-there, word-none, word-refused}
 use borrow.Author.Needs.{needs}
 use Rattle.links.proofs.typed.value_of.Statement.{statement}
 use Rattle.links.proofs.typed.value_of.Tie as tie

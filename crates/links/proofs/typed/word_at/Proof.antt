@@ -1,5 +1,5 @@
 use Rattle.links.specs.Typed.{asValue, asWidened, wordAt}
-use Rattle.links.specs.TypedLaws.{word-formed}
+use Rattle.links.proofs.Laws.Typed.{word-formed}
 use borrow.Author.Needs.{needs}
 use mathlib.Core.Path.{refl, ap, _∙_}
 use Rattle.links.proofs.typed.word_at.Statement.{statement}

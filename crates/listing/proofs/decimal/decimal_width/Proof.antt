@@ -1,4 +1,4 @@
-use Rattle.listing.specs.TextLaws.{decimal-one, decimal-more}
+use Rattle.listing.proofs.Laws.Text.{decimal-one, decimal-more}
 use Rattle.listing.specs.Text.{decimalWidth}
 use borrow.Author.Needs.{needs}
 use native.Mathlib.Omega.{arith}

@@ -1,4 +1,4 @@
-use Rattle.listing.specs.TextLaws.{decimal-put}
+use Rattle.listing.proofs.Laws.Text.{decimal-put}
 use borrow.Author.Needs.{needs}
 use Rattle.listing.proofs.decimal.write_decimal.Statement.{statement}
 use Rattle.listing.proofs.decimal.write_decimal.Tie as tie

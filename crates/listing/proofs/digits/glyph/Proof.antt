@@ -1,4 +1,4 @@
-use Rattle.listing.specs.TextLaws.{glyph-low, glyph-high}
+use Rattle.listing.proofs.Laws.Text.{glyph-low, glyph-high}
 use borrow.Author.Needs.{needs}
 use Rattle.listing.proofs.digits.glyph.Statement.{statement}
 use Rattle.listing.proofs.digits.glyph.Tie as tie

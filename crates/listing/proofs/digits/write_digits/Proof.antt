@@ -1,6 +1,6 @@
-use Rattle.listing.specs.PutLaws.{set-length}
+use Rattle.listing.proofs.Laws.Put.{set-length}
 use native.Mathlib.Nat.{mod-lt}
-use Rattle.listing.specs.TextLaws.{digits-last, digits-none}
+use Rattle.listing.proofs.Laws.Text.{digits-last, digits-none}
 use lib.Seq.{sets}
 use Rattle.listing.specs.Text.{digits}
 use borrow.Author.Needs.{needs}

@@ -1,4 +1,4 @@
-use Rattle.listing.specs.TextLaws.{digits-put}
+use Rattle.listing.proofs.Laws.Text.{digits-put}
 use borrow.Author.Needs.{needs}
 use Rattle.listing.proofs.hex.write_hex.Statement.{statement}
 use Rattle.listing.proofs.hex.write_hex.Tie as tie

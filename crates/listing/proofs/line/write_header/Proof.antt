@@ -1,4 +1,4 @@
-use Rattle.listing.specs.TextLaws.{decimal-place, header-put}
+use Rattle.listing.proofs.Laws.Text.{decimal-place, header-put}
 use borrow.Author.Needs.{needs}
 use native.Mathlib.Omega.{arith}
 use Rattle.listing.proofs.line.write_header.Statement.{statement}

@@ -1,4 +1,4 @@
-use Rattle.listing.specs.TextLaws.{short-place, hex-place, refusal-put}
+use Rattle.listing.proofs.Laws.Text.{short-place, hex-place, refusal-put}
 use borrow.Author.Needs.{needs}
 use native.Mathlib.Omega.{arith}
 use Rattle.listing.proofs.line.write_refusal.Statement.{statement}

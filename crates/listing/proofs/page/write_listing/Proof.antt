@@ -1,5 +1,5 @@
-use Rattle.listing.specs.PageLaws.{listing-printed}
-use Rattle.listing.specs.TextLaws.{header-length}
+use Rattle.listing.proofs.Laws.Page.{listing-printed}
+use Rattle.listing.proofs.Laws.Text.{header-length}
 use borrow.Author.Needs.{needs}
 use native.Mathlib.Omega.{arith}
 use Rattle.listing.proofs.page.write_listing.Statement.{statement}

@@ -1,4 +1,4 @@
-use Rattle.listing.specs.PageLaws.{RowsLeft, rows-begin, rows-again, rows-done}
+use Rattle.listing.proofs.Laws.Page.{RowsLeft, rows-begin, rows-again, rows-done}
 use borrow.Author.Needs.{needs}
 use native.Mathlib.Omega.{arith}
 use Prim.Native.Nat.{_-_}

@@ -1,5 +1,5 @@
 use Rattle.listing.specs.Report.{rowRoom, attrRoom}
-use Rattle.listing.specs.ReportLaws.{few-read, section-reported}
+use Rattle.listing.proofs.Laws.Report.{few-read, section-reported}
 use borrow.Author.Needs.{needs}
 use Rattle.listing.proofs.report.report.Statement.{statement}
 use Rattle.listing.proofs.report.report.Tie as tie

@@ -1,4 +1,4 @@
-use Rattle.listing.specs.ReportLaws.{read-reported, refused-reported, room-reported}
+use Rattle.listing.proofs.Laws.Report.{read-reported, refused-reported, room-reported}
 use borrow.Author.Needs.{needs}
 use Rattle.listing.proofs.report.report_answer.Statement.{statement}
 use Rattle.listing.proofs.report.report_answer.Tie as tie

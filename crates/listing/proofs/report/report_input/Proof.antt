@@ -1,4 +1,4 @@
-use Rattle.listing.specs.ReportLaws.{longer-reported, whole-reported}
+use Rattle.listing.proofs.Laws.Report.{longer-reported, whole-reported}
 use borrow.Author.Needs.{needs}
 use Rattle.listing.proofs.report.report_input.Statement.{statement}
 use Rattle.listing.proofs.report.report_input.Tie as tie

@@ -1,4 +1,4 @@
-use Rattle.listing.specs.ReportLaws.{listed-printed, unlisted-printed, unfit-printed}
+use Rattle.listing.proofs.Laws.Report.{listed-printed, unlisted-printed, unfit-printed}
 use borrow.Author.Needs.{needs}
 use Rattle.listing.proofs.report.report_places.Statement.{statement}
 use Rattle.listing.proofs.report.report_places.Tie as tie

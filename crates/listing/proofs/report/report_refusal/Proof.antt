@@ -1,4 +1,4 @@
-use Rattle.listing.specs.ReportLaws.{refusal-reported}
+use Rattle.listing.proofs.Laws.Report.{refusal-reported}
 use borrow.Author.Needs.{needs}
 use Rattle.listing.proofs.report.report_refusal.Statement.{statement}
 use Rattle.listing.proofs.report.report_refusal.Tie as tie

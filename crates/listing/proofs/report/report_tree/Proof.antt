@@ -1,5 +1,5 @@
 use Rattle.listing.specs.Report.{placeRoom}
-use Rattle.listing.specs.ReportLaws.{few-listed, tree-printed}
+use Rattle.listing.proofs.Laws.Report.{few-listed, tree-printed}
 use borrow.Author.Needs.{needs}
 use Rattle.listing.proofs.report.report_tree.Statement.{statement}
 use Rattle.listing.proofs.report.report_tree.Tie as tie

@@ -1,4 +1,4 @@
-use Rattle.listing.specs.PutLaws.{text-next, text-done, set-length}
+use Rattle.listing.proofs.Laws.Put.{text-next, text-done, set-length}
 use lib.Seq.{sets}
 use borrow.Author.Needs.{needs}
 use native.Mathlib.Omega.{arith}

@@ -1,4 +1,4 @@
-use Rattle.numbers.specs.PrefixLaws.{too-few, unequal, equal, all-equal}
+use Rattle.numbers.proofs.Laws.Prefix.{too-few, unequal, equal, all-equal}
 use Rattle.numbers.specs.Prefix.{beginsWith}
 use borrow.Author.Needs.{needs}
 use native.Mathlib.Omega.{arith}

@@ -1,5 +1,5 @@
-use Rattle.numbers.specs.SignedLaws.{reads-signed}
-use Rattle.numbers.specs.ValueLaws.{there-inside, reads-short}
+use Rattle.numbers.proofs.Laws.Signed.{reads-signed}
+use Rattle.numbers.proofs.Laws.Value.{there-inside, reads-short}
 use borrow.Author.Needs.{needs}
 use mathlib.Core.Path.{sym, _∙_}
 use Rattle.numbers.proofs.signed.i32_at.Statement.{statement}

@@ -1,5 +1,5 @@
-use Rattle.numbers.specs.SignedLaws.{reads-signed}
-use Rattle.numbers.specs.ValueLaws.{there-inside, one-byte, reads-short}
+use Rattle.numbers.proofs.Laws.Signed.{reads-signed}
+use Rattle.numbers.proofs.Laws.Value.{there-inside, one-byte, reads-short}
 use borrow.Author.Needs.{needs}
 use native.Mathlib.Omega.{arith}
 use denote.Ref.{now}

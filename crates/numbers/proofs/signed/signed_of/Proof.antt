@@ -1,4 +1,4 @@
-use Rattle.numbers.specs.SignedLaws.{back-fits, signed-low, signed-high}
+use Rattle.numbers.proofs.Laws.Signed.{back-fits, signed-low, signed-high}
 use borrow.Author.Needs.{needs}
 use native.Mathlib.Omega.{arith}
 use Prim.Native.Nat.{_-_}

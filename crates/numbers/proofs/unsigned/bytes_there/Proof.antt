@@ -1,4 +1,4 @@
-use Rattle.numbers.specs.ValueLaws.{fits-there, not-there}
+use Rattle.numbers.proofs.Laws.Value.{fits-there, not-there}
 use borrow.Author.Needs.{needs}
 use Rattle.numbers.proofs.unsigned.bytes_there.Statement.{statement}
 use Rattle.numbers.proofs.unsigned.bytes_there.Tie as tie

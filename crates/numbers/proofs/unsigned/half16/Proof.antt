@@ -1,4 +1,4 @@
-use Rattle.numbers.specs.ValueLaws.{one-byte, joined-big, joined-little}
+use Rattle.numbers.proofs.Laws.Value.{one-byte, joined-big, joined-little}
 use borrow.Author.Needs.{needs}
 use native.Mathlib.Omega.{arith}
 use Prim.Native.Nat.{_+_}

@@ -1,4 +1,4 @@
-use Rattle.numbers.specs.ValueLaws.{joined-big, joined-little}
+use Rattle.numbers.proofs.Laws.Value.{joined-big, joined-little}
 use borrow.Author.Needs.{needs}
 use Rattle.numbers.proofs.unsigned.half32.Statement.{statement}
 use Rattle.numbers.proofs.unsigned.half32.Tie as tie

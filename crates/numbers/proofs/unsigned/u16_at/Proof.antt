@@ -1,4 +1,4 @@
-use Rattle.numbers.specs.ValueLaws.{there-inside, reads, reads-short}
+use Rattle.numbers.proofs.Laws.Value.{there-inside, reads, reads-short}
 use borrow.Author.Needs.{needs}
 use mathlib.Core.Path.{sym, _∙_}
 use Rattle.numbers.proofs.unsigned.u16_at.Statement.{statement}

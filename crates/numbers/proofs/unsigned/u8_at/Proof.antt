@@ -1,4 +1,4 @@
-use Rattle.numbers.specs.ValueLaws.{there-inside, one-byte, reads, reads-short}
+use Rattle.numbers.proofs.Laws.Value.{there-inside, one-byte, reads, reads-short}
 use borrow.Author.Needs.{needs}
 use native.Mathlib.Omega.{arith}
 use denote.Ref.{now}

@@ -1,6 +1,6 @@
 use mir.Syntax.{w32}
 use mir.Val.{toZ, ofZ}
-use Rattle.records.specs.ElementsLaws.{element-name, element-value, element-short}
+use Rattle.records.proofs.Laws.Elements.{element-name, element-value, element-short}
 use borrow.Author.Needs.{needs}
 use Prim.Native.Nat.{_-_}
 use mathlib.Core.Path.{_≡_}

@@ -1,7 +1,7 @@
-use Rattle.records.specs.ElementsLaws.{width-other}
+use Rattle.records.proofs.Laws.Elements.{width-other}
 use Rattle.records.specs.declared.fields.Word.the-variants as word
 use Rattle.records.specs.Elements.{listWidth}
-use Rattle.records.specs.TakenLaws.{by-case}
+use Rattle.records.proofs.Laws.Taken.{by-case}
 use borrow.Author.Needs.{needs}
 use Prim.Native.Nat.{_-_}
 use mathlib.Core.Path.{refl, ap, _∙_}

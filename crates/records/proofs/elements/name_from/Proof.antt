@@ -1,4 +1,4 @@
-use Rattle.records.specs.ElementsLaws.{name-there, name-missing}
+use Rattle.records.proofs.Laws.Elements.{name-there, name-missing}
 use borrow.Author.Needs.{needs}
 use Prim.Native.Nat.{_-_}
 use Rattle.records.proofs.elements.name_from.Statement.{statement}

@@ -1,7 +1,7 @@
 use mir.Syntax.{w32}
 use mir.Val.{toZ, ofZ}
-use Rattle.attributes.specs.TextLaws.{zero-after}
-use Rattle.records.specs.ElementsLaws.{named-there, named-missing}
+use Rattle.attributes.proofs.Laws.Text.{zero-after}
+use Rattle.records.proofs.Laws.Elements.{named-there, named-missing}
 use borrow.Author.Needs.{needs}
 use Prim.Native.Nat.{_-_}
 use mathlib.Core.Path.{_≡_}

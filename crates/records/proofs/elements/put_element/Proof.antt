@@ -1,5 +1,5 @@
-use Rattle.records.specs.ElementsWays.{listedAs}
-use Rattle.records.specs.ElementsLaws.{put-both, put-value-alone}
+use Rattle.records.specs.Inside.Elements.{listedAs}
+use Rattle.records.proofs.Laws.Elements.{put-both, put-value-alone}
 use mir.Syntax.{w32}
 use mir.Val.{toZ, ofZ}
 use borrow.Author.Needs.{needs}

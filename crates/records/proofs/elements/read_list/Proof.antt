@@ -1,6 +1,6 @@
 use mir.Syntax.{w32}
 use mir.Val.{toZ, ofZ}
-use Rattle.records.specs.ElementsLaws.{Loop, loop-begin, loop-values, loop-names, loop-done, loop-missing, name-less, name-again, element-less, element-place, element-count, element-again}
+use Rattle.records.proofs.Laws.Elements.{Loop, loop-begin, loop-values, loop-names, loop-done, loop-missing, name-less, name-again, element-less, element-place, element-count, element-again}
 use borrow.Author.Needs.{needs}
 use native.Mathlib.Omega.{arith}
 use Prim.Native.Nat.{_-_}

@@ -1,4 +1,4 @@
-use Rattle.records.specs.ElementsLaws.{slot-back, slot-none, slot-same}
+use Rattle.records.proofs.Laws.Elements.{slot-back, slot-none, slot-same}
 use borrow.Author.Needs.{needs}
 use Prim.Native.Nat.{_-_}
 use Rattle.records.proofs.elements.slot_of.Statement.{statement}

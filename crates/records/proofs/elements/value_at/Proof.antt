@@ -1,4 +1,4 @@
-use Rattle.records.specs.ElementsLaws.{value-one, value-two, value-four}
+use Rattle.records.proofs.Laws.Elements.{value-one, value-two, value-four}
 use borrow.Author.Needs.{needs}
 use Prim.Native.Nat.{_-_}
 use Rattle.records.proofs.elements.value_at.Statement.{statement}

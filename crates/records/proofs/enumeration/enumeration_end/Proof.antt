@@ -1,4 +1,4 @@
-use Rattle.records.specs.EnumerationLaws.{end-clear, end-refused}
+use Rattle.records.proofs.Laws.Enumeration.{end-clear, end-refused}
 use borrow.Author.Needs.{needs}
 use Prim.Native.Nat.{_-_}
 use Rattle.records.proofs.enumeration.enumeration_end.Statement.{statement}

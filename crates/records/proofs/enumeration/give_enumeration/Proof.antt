@@ -1,4 +1,4 @@
-use Rattle.records.specs.EnumerationLaws.{given-members, given-room, given-refused}
+use Rattle.records.proofs.Laws.Enumeration.{given-members, given-room, given-refused}
 use borrow.Author.Needs.{needs}
 use Prim.Native.Nat.{_-_}
 use Rattle.records.proofs.enumeration.give_enumeration.Statement.{statement}

@@ -1,6 +1,6 @@
 use mir.Syntax.{w32}
 use mir.Val.{Fits}
-use Rattle.records.specs.EnumerationLaws.{list-addable, list-clear, list-refused}
+use Rattle.records.proofs.Laws.Enumeration.{list-addable, list-clear, list-refused}
 use borrow.Author.Needs.{needs}
 use Prim.Native.Nat.{_-_}
 use Rattle.records.proofs.enumeration.list_at.Statement.{statement}

@@ -1,4 +1,4 @@
-use Rattle.records.specs.EnumerationLaws.{step-last, step-countable, step-list, step-list-refused, step-refused}
+use Rattle.records.proofs.Laws.Enumeration.{step-last, step-countable, step-list, step-list-refused, step-refused}
 use borrow.Author.Needs.{needs}
 use Prim.Native.Nat.{_-_}
 use Rattle.records.proofs.enumeration.list_step.Statement.{statement}

@@ -1,4 +1,4 @@
-use Rattle.records.specs.EnumerationLaws.{tag-asked, tag-there, tag-refused}
+use Rattle.records.proofs.Laws.Enumeration.{tag-asked, tag-there, tag-refused}
 use borrow.Author.Needs.{needs}
 use denote.Ref.{now}
 use Prim.Native.Nat.{_-_}

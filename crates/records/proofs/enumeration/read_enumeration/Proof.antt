@@ -1,4 +1,4 @@
-use Rattle.records.specs.EnumerationLaws.{whole-counted, whole-unread, whole-kind}
+use Rattle.records.proofs.Laws.Enumeration.{whole-counted, whole-unread, whole-kind}
 use borrow.Author.Needs.{needs}
 use Prim.Native.Nat.{_-_}
 use Rattle.records.proofs.enumeration.read_enumeration.Statement.{statement}

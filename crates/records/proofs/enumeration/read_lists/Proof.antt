@@ -1,4 +1,4 @@
-use Rattle.records.specs.EnumerationLaws.{ListsLoop, lists-begin, lists-stepping, lists-less, lists-again, lists-refused, lists-done, lists-values, lists-names}
+use Rattle.records.proofs.Laws.Enumeration.{ListsLoop, lists-begin, lists-stepping, lists-less, lists-again, lists-refused, lists-done, lists-values, lists-names}
 use borrow.Author.Needs.{needs}
 use Prim.Native.Nat.{_-_}
 use mathlib.Core.Path.{_∙_}

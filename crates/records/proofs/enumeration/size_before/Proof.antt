@@ -1,4 +1,4 @@
-use Rattle.records.specs.EnumerationLaws.{size-before}
+use Rattle.records.proofs.Laws.Enumeration.{size-before}
 use borrow.Author.Needs.{needs}
 use Prim.Native.Nat.{_-_}
 use Rattle.records.proofs.enumeration.size_before.Statement.{statement}

@@ -1,4 +1,4 @@
-use Rattle.records.specs.FieldsLaws.{address-is, address-refused}
+use Rattle.records.proofs.Laws.Fields.{address-is, address-refused}
 use borrow.Author.Needs.{needs}
 use Rattle.records.proofs.fields.address_in.Statement.{statement}
 use Rattle.records.proofs.fields.address_in.Tie as tie

@@ -1,4 +1,4 @@
-use Rattle.records.specs.FieldsLaws.{address-there, address-none}
+use Rattle.records.proofs.Laws.Fields.{address-there, address-none}
 use borrow.Author.Needs.{needs}
 use Rattle.records.proofs.fields.last_address.Statement.{statement}
 use Rattle.records.proofs.fields.last_address.Tie as tie

@@ -1,4 +1,4 @@
-use Rattle.records.specs.FieldsLaws.{last-here, last-before, last-nowhere}
+use Rattle.records.proofs.Laws.Fields.{last-here, last-before, last-nowhere}
 use Rattle.records.specs.Fields.{lastFrom}
 use borrow.Author.Needs.{needs}
 use native.Mathlib.Omega.{arith}

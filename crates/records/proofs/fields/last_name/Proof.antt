@@ -1,4 +1,4 @@
-use Rattle.records.specs.FieldsLaws.{name-there, name-none}
+use Rattle.records.proofs.Laws.Fields.{name-there, name-none}
 use borrow.Author.Needs.{needs}
 use Rattle.records.proofs.fields.last_name.Statement.{statement}
 use Rattle.records.proofs.fields.last_name.Tie as tie

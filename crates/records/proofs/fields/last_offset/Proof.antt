@@ -1,4 +1,4 @@
-use Rattle.records.specs.FieldsLaws.{offset-there, offset-none}
+use Rattle.records.proofs.Laws.Fields.{offset-there, offset-none}
 use borrow.Author.Needs.{needs}
 use Rattle.records.proofs.fields.last_offset.Statement.{statement}
 use Rattle.records.proofs.fields.last_offset.Tie as tie

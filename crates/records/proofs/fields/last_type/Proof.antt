@@ -1,4 +1,4 @@
-use Rattle.records.specs.FieldsLaws.{type-last}
+use Rattle.records.proofs.Laws.Fields.{type-last}
 use borrow.Author.Needs.{needs}
 use Prim.Native.Nat.{_-_}
 use Rattle.records.proofs.fields.last_type.Statement.{statement}

@@ -1,4 +1,4 @@
-use Rattle.records.specs.FieldsLaws.{visibility-there, visibility-none}
+use Rattle.records.proofs.Laws.Fields.{visibility-there, visibility-none}
 use borrow.Author.Needs.{needs}
 use Rattle.records.proofs.fields.last_visibility.Statement.{statement}
 use Rattle.records.proofs.fields.last_visibility.Tie as tie

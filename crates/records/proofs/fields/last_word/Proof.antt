@@ -1,4 +1,4 @@
-use Rattle.records.specs.FieldsLaws.{word-last}
+use Rattle.records.proofs.Laws.Fields.{word-last}
 use borrow.Author.Needs.{needs}
 use Prim.Native.Nat.{_-_}
 use Rattle.records.proofs.fields.last_word.Statement.{statement}

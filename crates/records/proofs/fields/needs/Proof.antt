@@ -1,4 +1,4 @@
-use Rattle.records.specs.FieldsLaws.{needed-none}
+use Rattle.records.proofs.Laws.Fields.{needed-none}
 use Rattle.records.specs.Fields.{needed}
 use borrow.Author.Needs.{needs}
 use mathlib.Core.Path.{sym, ap}

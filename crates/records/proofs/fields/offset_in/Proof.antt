@@ -1,4 +1,4 @@
-use Rattle.records.specs.FieldsLaws.{offset-is, offset-refused}
+use Rattle.records.proofs.Laws.Fields.{offset-is, offset-refused}
 use borrow.Author.Needs.{needs}
 use Rattle.records.proofs.fields.offset_in.Statement.{statement}
 use Rattle.records.proofs.fields.offset_in.Tie as tie

@@ -1,4 +1,4 @@
-use Rattle.records.specs.FieldsLaws.{replaced-refused}
+use Rattle.records.proofs.Laws.Fields.{replaced-refused}
 use Rattle.records.specs.Fields.{replaced}
 use borrow.Author.Needs.{needs}
 use mathlib.Core.Path.{sym, ap}

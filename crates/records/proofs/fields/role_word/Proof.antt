@@ -1,5 +1,5 @@
 use borrow.Author.Tests.{eq-eqb, ne-eqb}
-use Rattle.records.specs.TakenLaws.{test-passed, test-failed}
+use Rattle.records.proofs.Laws.Taken.{test-passed, test-failed}
 use Rattle.records.specs.Fields.{roleWord}
 use borrow.Author.Needs.{needs}
 use mathlib.Core.Path.{refl}

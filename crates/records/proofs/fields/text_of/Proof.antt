@@ -1,5 +1,5 @@
-use Rattle.records.specs.FieldsLaws.{text-is}
-use Rattle.attributes.specs.TextLaws.{zero-after}
+use Rattle.records.proofs.Laws.Fields.{text-is}
+use Rattle.attributes.proofs.Laws.Text.{zero-after}
 use borrow.Author.Needs.{needs}
 use Rattle.records.proofs.fields.text_of.Statement.{statement}
 use Rattle.records.proofs.fields.text_of.Tie as tie

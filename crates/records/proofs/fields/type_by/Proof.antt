@@ -1,4 +1,4 @@
-use Rattle.records.specs.FieldsLaws.{type-there, type-none}
+use Rattle.records.proofs.Laws.Fields.{type-there, type-none}
 use borrow.Author.Needs.{needs}
 use Prim.Native.Nat.{_-_}
 use Rattle.records.proofs.fields.type_by.Statement.{statement}

@@ -1,4 +1,4 @@
-use Rattle.records.specs.FieldsLaws.{is-private, is-protected, is-public}
+use Rattle.records.proofs.Laws.Fields.{is-private, is-protected, is-public}
 use Rattle.records.proofs.fields.visibility_by.Statement.{statement}
 use Rattle.records.proofs.fields.visibility_by.Tie as tie
 

@@ -1,4 +1,4 @@
-use Rattle.records.specs.FieldsLaws.{word-there, word-none}
+use Rattle.records.proofs.Laws.Fields.{word-there, word-none}
 use borrow.Author.Needs.{needs}
 use Prim.Native.Nat.{_-_}
 use Rattle.records.proofs.fields.word_by.Statement.{statement}

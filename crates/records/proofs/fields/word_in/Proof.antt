@@ -1,4 +1,4 @@
-use Rattle.records.specs.FieldsLaws.{word-in}
+use Rattle.records.proofs.Laws.Fields.{word-in}
 use borrow.Author.Needs.{needs}
 use Rattle.records.proofs.fields.word_in.Statement.{statement}
 use Rattle.records.proofs.fields.word_in.Tie as tie

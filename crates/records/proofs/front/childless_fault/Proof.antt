@@ -1,4 +1,4 @@
-use Rattle.records.specs.FrontLaws.{childless, has-children, endless-children}
+use Rattle.records.proofs.Laws.Front.{childless, has-children, endless-children}
 use borrow.Author.Needs.{needs}
 use Prim.Native.Nat.{_-_}
 use Rattle.records.proofs.front.childless_fault.Statement.{statement}

@@ -1,5 +1,5 @@
 use Rattle.records.specs.Front.{frontOf}
-use Rattle.records.specs.FrontLaws.{or-else-clear, or-else-refused}
+use Rattle.records.proofs.Laws.Front.{or-else-clear, or-else-refused}
 use borrow.Author.Needs.{needs}
 use Prim.Native.Nat.{_-_}
 use Rattle.records.proofs.front.front_fault.Statement.{statement}

@@ -1,4 +1,4 @@
-use Rattle.records.specs.FrontLaws.{head-clear, head-refused}
+use Rattle.records.proofs.Laws.Front.{head-clear, head-refused}
 use borrow.Author.Needs.{needs}
 use Prim.Native.Nat.{_-_}
 use Rattle.records.proofs.front.head_fault.Statement.{statement}

@@ -1,5 +1,5 @@
 use Rattle.records.specs.Front.{isMwcc}
-use Rattle.records.specs.TakenLaws.{by-case}
+use Rattle.records.proofs.Laws.Taken.{by-case}
 use borrow.Author.Needs.{needs}
 use Prim.Native.Nat.{_-_}
 use mathlib.Core.Path.{refl}

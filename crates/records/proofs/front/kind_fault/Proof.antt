@@ -1,4 +1,4 @@
-use Rattle.records.specs.FrontLaws.{kind-right, kind-wrong}
+use Rattle.records.proofs.Laws.Front.{kind-right, kind-wrong}
 use borrow.Author.Needs.{needs}
 use Prim.Native.Nat.{_-_}
 use Rattle.records.proofs.front.kind_fault.Statement.{statement}

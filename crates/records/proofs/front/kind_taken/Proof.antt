@@ -1,5 +1,5 @@
 use Rattle.records.specs.Front.{kindTaken}
-use Rattle.records.specs.FrontLaws.{kind-as, variable-kind}
+use Rattle.records.proofs.Laws.Front.{kind-as, variable-kind}
 use borrow.Author.Needs.{needs}
 use Prim.Native.Nat.{_-_}
 use mathlib.Core.Path.{refl}

@@ -1,5 +1,5 @@
 use Rattle.records.specs.declared.label.LabelRead.the-variants.{Refused}
-use Rattle.records.specs.FieldsLaws.{by-told}
+use Rattle.records.proofs.Laws.Fields.{by-told}
 use Rattle.records.specs.Label.{nameTaken, labelFields}
 use borrow.Author.Needs.{needs}
 use mathlib.Core.Path.{ap}

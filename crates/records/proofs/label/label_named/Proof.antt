@@ -1,4 +1,4 @@
-use Rattle.records.specs.FieldsLaws.{by-told, needed-told}
+use Rattle.records.proofs.Laws.Fields.{by-told, needed-told}
 use Rattle.records.specs.Label.{labelNamed, labelPlaced}
 use borrow.Author.Needs.{needs}
 use denote.Ref.{now}

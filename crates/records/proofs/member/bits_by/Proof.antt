@@ -1,5 +1,5 @@
 use Rattle.records.specs.declared.member.BitsRead.the-variants.{Refused}
-use Rattle.records.specs.MemberLaws.{bits-told}
+use Rattle.records.proofs.Laws.Member.{bits-told}
 use Rattle.records.specs.Member.{bitsBy}
 use borrow.Author.Needs.{needs}
 use mathlib.Core.Path.{refl, sym, ap}

@@ -1,7 +1,7 @@
 use Rattle.records.specs.Member.{memberAt, memberFields}
-use Rattle.records.specs.RecordLaws.{fields-clear}
-use Rattle.records.specs.FrontLaws.{unless-refused}
-use Rattle.records.specs.ScanLaws.{plain-member}
+use Rattle.records.proofs.Laws.Record.{fields-clear}
+use Rattle.records.proofs.Laws.Front.{unless-refused}
+use Rattle.records.proofs.Laws.Scan.{plain-member}
 use borrow.Author.Needs.{needs}
 use Rattle.records.proofs.member.member_at.Statement.{statement}
 use Rattle.records.proofs.member.member_at.Tie as tie

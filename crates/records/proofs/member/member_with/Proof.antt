@@ -1,5 +1,5 @@
-use Rattle.records.specs.MemberLaws.{bits-told, member-whole}
-use Rattle.records.specs.FieldsLaws.{by-told}
+use Rattle.records.proofs.Laws.Member.{bits-told, member-whole}
+use Rattle.records.proofs.Laws.Fields.{by-told}
 use Rattle.records.specs.Member.{withBits, memberWith}
 use borrow.Author.Needs.{needs}
 use mathlib.Core.Path.{refl}

@@ -1,4 +1,4 @@
-use Rattle.records.specs.MemberWordsLaws.{member-put, member-out}
+use Rattle.records.proofs.Laws.MemberWords.{member-put, member-out}
 use borrow.Author.Needs.{needs}
 use denote.Ref.{now}
 use Prim.Native.Nat.{_-_}

@@ -1,8 +1,8 @@
 use Rattle.records.specs.declared.scan.Run.{Run}
 use Rattle.records.specs.OverlayBranch.{overlayAt, overlayFields}
-use Rattle.records.specs.RecordLaws.{fields-clear}
-use Rattle.records.specs.FrontLaws.{unless-refused}
-use Rattle.records.specs.ScanLaws.{plain-overlay-branch}
+use Rattle.records.proofs.Laws.Record.{fields-clear}
+use Rattle.records.proofs.Laws.Front.{unless-refused}
+use Rattle.records.proofs.Laws.Scan.{plain-overlay-branch}
 use borrow.Author.Needs.{needs}
 use denote.Ref.{now}
 use Rattle.records.proofs.overlay_branch.overlay_at.Statement.{statement}

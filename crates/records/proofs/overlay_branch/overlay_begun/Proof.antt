@@ -1,4 +1,4 @@
-use Rattle.records.specs.FieldsLaws.{by-told, needed-told}
+use Rattle.records.proofs.Laws.Fields.{by-told, needed-told}
 use Rattle.records.specs.OverlayBranch.{startTaken, overlayBegun}
 use borrow.Author.Needs.{needs}
 use mathlib.Core.Path.{refl}

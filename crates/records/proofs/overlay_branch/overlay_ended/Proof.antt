@@ -1,5 +1,5 @@
-use Rattle.records.specs.OverlayBranchLaws.{overlay-whole}
-use Rattle.records.specs.FieldsLaws.{by-told, needed-told}
+use Rattle.records.proofs.Laws.OverlayBranch.{overlay-whole}
+use Rattle.records.proofs.Laws.Fields.{by-told, needed-told}
 use Rattle.records.specs.OverlayBranch.{endTaken, overlayEnded}
 use borrow.Author.Needs.{needs}
 use mathlib.Core.Path.{refl}

@@ -1,5 +1,5 @@
 use Rattle.records.specs.declared.overlay_branch.OverlayBranchRead.the-variants.{Refused}
-use Rattle.records.specs.FieldsLaws.{by-told}
+use Rattle.records.proofs.Laws.Fields.{by-told}
 use Rattle.records.specs.OverlayBranch.{overlayNamed, overlayFields}
 use borrow.Author.Needs.{needs}
 use mathlib.Core.Path.{ap}

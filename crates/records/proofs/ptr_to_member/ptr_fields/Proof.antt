@@ -1,4 +1,4 @@
-use Rattle.records.specs.FieldsLaws.{by-told}
+use Rattle.records.proofs.Laws.Fields.{by-told}
 use Rattle.records.specs.PtrToMember.{typeTaken, ptrFields}
 use borrow.Author.Needs.{needs}
 use mathlib.Core.Path.{refl}

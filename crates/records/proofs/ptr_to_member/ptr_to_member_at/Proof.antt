@@ -1,7 +1,7 @@
 use Rattle.records.specs.PtrToMember.{ptrAt, ptrFields}
-use Rattle.records.specs.RecordLaws.{fields-clear}
-use Rattle.records.specs.FrontLaws.{unless-refused}
-use Rattle.records.specs.ScanLaws.{plain-ptr-to-member}
+use Rattle.records.proofs.Laws.Record.{fields-clear}
+use Rattle.records.proofs.Laws.Front.{unless-refused}
+use Rattle.records.proofs.Laws.Scan.{plain-ptr-to-member}
 use borrow.Author.Needs.{needs}
 use Rattle.records.proofs.ptr_to_member.ptr_to_member_at.Statement.{statement}
 use Rattle.records.proofs.ptr_to_member.ptr_to_member_at.Tie as tie

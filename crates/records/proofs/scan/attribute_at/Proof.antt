@@ -1,4 +1,4 @@
-use Rattle.records.specs.ScanLaws.{attribute-read}
+use Rattle.records.proofs.Laws.Scan.{attribute-read}
 use borrow.Author.Needs.{needs}
 use Prim.Native.Nat.{_-_}
 use Rattle.records.proofs.scan.attribute_at.Statement.{statement}

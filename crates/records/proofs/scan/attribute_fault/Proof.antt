@@ -1,6 +1,6 @@
 use Rattle.records.specs.declared.scan.Fault.the-variants.{Refused}
 use Rattle.records.specs.Scan.{attributeFault}
-use Rattle.records.specs.TakenLaws.{test-passed, test-failed}
+use Rattle.records.proofs.Laws.Taken.{test-passed, test-failed}
 use borrow.Author.Needs.{needs}
 use Prim.Native.Nat.{_-_}
 use mathlib.Core.Path.{ap}

@@ -1,4 +1,4 @@
-use Rattle.records.specs.ScanLaws.{all-clear, all-refused}
+use Rattle.records.proofs.Laws.Scan.{all-clear, all-refused}
 use borrow.Author.Needs.{needs}
 use Prim.Native.Nat.{_-_}
 use Rattle.records.proofs.scan.attributes_fault.Statement.{statement}

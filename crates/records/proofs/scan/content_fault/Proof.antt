@@ -1,6 +1,6 @@
 use borrow.Author.Tests.{eq-eqb, ne-eqb}
 use Rattle.records.specs.Scan.{contentFault, typedFault, locationFault}
-use Rattle.records.specs.TakenLaws.{test-passed, test-failed}
+use Rattle.records.proofs.Laws.Taken.{test-passed, test-failed}
 use borrow.Author.Needs.{needs}
 use Prim.Native.Nat.{_-_}
 use mathlib.Core.Path.{refl, ap, _∙_}

@@ -1,5 +1,5 @@
 use Rattle.format.specs.FormKind.{formOf}
-use Rattle.format.specs.LookupLaws.{lookup-none}
+use Rattle.format.proofs.Laws.Lookup.{lookup-none}
 use Rattle.format.specs.Lookup.{lookup}
 use Rattle.records.specs.Scan.{expected, expectedForms}
 use borrow.Author.Needs.{needs}

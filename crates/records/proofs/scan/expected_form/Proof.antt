@@ -1,5 +1,5 @@
 use Rattle.records.specs.Scan.{expectedForm}
-use Rattle.records.specs.TakenLaws.{test-passed, test-failed}
+use Rattle.records.proofs.Laws.Taken.{test-passed, test-failed}
 use borrow.Author.Needs.{needs}
 use Prim.Native.Nat.{_-_}
 use mathlib.Core.Path.{refl}

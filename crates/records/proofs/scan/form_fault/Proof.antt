@@ -1,4 +1,4 @@
-use Rattle.records.specs.ScanLaws.{form-right, form-wrong}
+use Rattle.records.proofs.Laws.Scan.{form-right, form-wrong}
 use borrow.Author.Needs.{needs}
 use Prim.Native.Nat.{_-_}
 use Rattle.records.proofs.scan.form_fault.Statement.{statement}

@@ -1,6 +1,6 @@
 use Rattle.records.specs.declared.scan.Fault.the-variants.{Refused}
 use Rattle.records.specs.Scan.{locatedFault}
-use Rattle.records.specs.TakenLaws.{by-case}
+use Rattle.records.proofs.Laws.Taken.{by-case}
 use borrow.Author.Needs.{needs}
 use Prim.Native.Nat.{_-_}
 use mathlib.Core.Path.{refl, ap}

@@ -1,4 +1,4 @@
-use Rattle.records.specs.ScanLaws.{location-as}
+use Rattle.records.proofs.Laws.Scan.{location-as}
 use Rattle.records.specs.Scan.{locationFault, locatedFault}
 use borrow.Author.Needs.{needs}
 use Prim.Native.Nat.{_-_}

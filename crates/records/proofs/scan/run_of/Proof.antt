@@ -1,4 +1,4 @@
-use Rattle.records.specs.ScanLaws.{run-read}
+use Rattle.records.proofs.Laws.Scan.{run-read}
 use borrow.Author.Needs.{needs}
 use Prim.Native.Nat.{_-_}
 use Rattle.records.proofs.scan.run_of.Statement.{statement}

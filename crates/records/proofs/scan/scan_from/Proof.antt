@@ -1,5 +1,5 @@
-use Rattle.records.specs.ScanLaws.{scan-own, scan-clear, scan-fault, scan-end}
-use Rattle.records.specs.Scan.{scanFrom}
+use Rattle.records.proofs.Laws.Scan.{scan-own, scan-clear, scan-fault, scan-end}
+use Rattle.records.specs.Inside.Scan.{scanFrom}
 use borrow.Author.Needs.{needs}
 use Prim.Native.Nat.{_-_}
 use mathlib.Core.Path.{_≡_, refl, _∙_}

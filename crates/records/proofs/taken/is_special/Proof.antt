@@ -1,4 +1,4 @@
-use Rattle.records.specs.TakenLaws.{special-as}
+use Rattle.records.proofs.Laws.Taken.{special-as}
 use Rattle.records.specs.Taken.{special}
 use borrow.Author.Needs.{needs}
 use Prim.Native.Nat.{_-_}

@@ -1,4 +1,4 @@
-use Rattle.records.specs.TakenLaws.{taken-as}
+use Rattle.records.proofs.Laws.Taken.{taken-as}
 use Rattle.records.specs.Taken.{takenBy}
 use borrow.Author.Needs.{needs}
 use Prim.Native.Nat.{_-_}

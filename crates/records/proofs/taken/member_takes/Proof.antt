@@ -1,4 +1,4 @@
-use Rattle.format.specs.LookupLaws.{unlisted}
+use Rattle.format.proofs.Laws.Lookup.{unlisted}
 use Rattle.format.specs.Lookup.{member}
 use Rattle.records.specs.Taken.{takenBy}
 use Rattle.records.specs.declared.taken.Record.the-variants.{Member}

@@ -1,4 +1,4 @@
-use Rattle.records.specs.TakenLaws.{role-as, either}
+use Rattle.records.proofs.Laws.Taken.{role-as, either}
 use Rattle.records.specs.Taken.{roleTaken}
 use borrow.Author.Needs.{needs}
 use Prim.Native.Nat.{_-_}

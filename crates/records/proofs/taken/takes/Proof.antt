@@ -1,5 +1,5 @@
 use Rattle.records.specs.Taken.{takes}
-use Rattle.records.specs.TakenLaws.{either}
+use Rattle.records.proofs.Laws.Taken.{either}
 use borrow.Author.Needs.{needs}
 use Prim.Native.Nat.{_-_}
 use Rattle.records.proofs.taken.takes.Statement.{statement}

@@ -1,4 +1,4 @@
-use Rattle.records.specs.TypedefLaws.{Loop, begin, done, ended, refused-here, level-left, row-asked, place-there, forward, again, refused-below}
+use Rattle.records.proofs.Laws.Typedef.{Loop, begin, done, ended, refused-here, level-left, row-asked, place-there, forward, again, refused-below}
 use borrow.Author.Needs.{needs}
 use native.Mathlib.Omega.{arith}
 use Prim.Native.Nat.{ℕ, _-_, _<_}

@@ -1,4 +1,4 @@
-use Rattle.records.specs.TypedefLaws.{filled-before, filled-now}
+use Rattle.records.proofs.Laws.Typedef.{filled-before, filled-now}
 use borrow.Author.Needs.{needs}
 use Prim.Native.Nat.{_-_}
 use Rattle.records.proofs.typedef.first_filling.Statement.{statement}

@@ -1,4 +1,4 @@
-use Rattle.records.specs.TypedefLaws.{pause-end, pause-at, pause-wrong, pause-refused}
+use Rattle.records.proofs.Laws.Typedef.{pause-end, pause-at, pause-wrong, pause-refused}
 use borrow.Author.Needs.{needs}
 use Prim.Native.Nat.{_-_}
 use Rattle.records.proofs.typedef.pause_from.Statement.{statement}

@@ -1,5 +1,5 @@
-use Rattle.links.specs.TypedLaws.{keyed-asked}
-use Rattle.records.specs.TypedefLaws.{typedef-there, typedef-nowhere}
+use Rattle.links.proofs.Laws.Typed.{keyed-asked}
+use Rattle.records.proofs.Laws.Typedef.{typedef-there, typedef-nowhere}
 use borrow.Author.Needs.{needs}
 use Prim.Native.Nat.{_-_}
 use Rattle.records.proofs.typedef.process_typedef_tag.Statement.{statement}

@@ -1,4 +1,4 @@
-use Rattle.records.specs.TypedefLaws.{reference-read, reference-short, specification-refused}
+use Rattle.records.proofs.Laws.Typedef.{reference-read, reference-short, specification-refused}
 use borrow.Author.Needs.{needs}
 use Prim.Native.Nat.{_-_}
 use Rattle.records.proofs.typedef.specification_at.Statement.{statement}

@@ -1,4 +1,4 @@
-use Rattle.records.specs.TypedefLaws.{limit-met, row-right, row-wrong, row-missed}
+use Rattle.records.proofs.Laws.Typedef.{limit-met, row-right, row-wrong, row-missed}
 use borrow.Author.Needs.{needs}
 use Prim.Native.Nat.{_-_}
 use Rattle.records.proofs.typedef.specified_by.Statement.{statement}

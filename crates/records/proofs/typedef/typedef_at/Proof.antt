@@ -1,4 +1,4 @@
-use Rattle.records.specs.TypedefLaws.{kind-clear, kind-refused}
+use Rattle.records.proofs.Laws.Typedef.{kind-clear, kind-refused}
 use borrow.Author.Needs.{needs}
 use Prim.Native.Nat.{_-_}
 use Rattle.records.proofs.typedef.typedef_at.Statement.{statement}

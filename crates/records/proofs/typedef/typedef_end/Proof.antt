@@ -1,4 +1,4 @@
-use Rattle.records.specs.TypedefLaws.{end-clear, end-refused}
+use Rattle.records.proofs.Laws.Typedef.{end-clear, end-refused}
 use borrow.Author.Needs.{needs}
 use Prim.Native.Nat.{_-_}
 use Rattle.records.proofs.typedef.typedef_end.Statement.{statement}

@@ -1,4 +1,4 @@
-use Rattle.records.specs.TypedefLaws.{with-name, without-name}
+use Rattle.records.proofs.Laws.Typedef.{with-name, without-name}
 use borrow.Author.Needs.{needs}
 use Prim.Native.Nat.{_-_}
 use Rattle.records.proofs.typedef.typedef_fields.Statement.{statement}

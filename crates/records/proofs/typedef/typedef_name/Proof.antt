@@ -1,4 +1,4 @@
-use Rattle.records.specs.TypedefLaws.{name-own, name-filled, name-missing}
+use Rattle.records.proofs.Laws.Typedef.{name-own, name-filled, name-missing}
 use borrow.Author.Needs.{needs}
 use Prim.Native.Nat.{_-_}
 use Rattle.records.proofs.typedef.typedef_name.Statement.{statement}

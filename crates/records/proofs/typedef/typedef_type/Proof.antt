@@ -1,4 +1,4 @@
-use Rattle.records.specs.TypedefLaws.{type-own, type-filled, type-missing}
+use Rattle.records.proofs.Laws.Typedef.{type-own, type-filled, type-missing}
 use borrow.Author.Needs.{needs}
 use Prim.Native.Nat.{_-_}
 use Rattle.records.proofs.typedef.typedef_type.Statement.{statement}

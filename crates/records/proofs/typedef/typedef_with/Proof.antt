@@ -1,4 +1,4 @@
-use Rattle.records.specs.TypedefLaws.{with-type, without-type}
+use Rattle.records.proofs.Laws.Typedef.{with-type, without-type}
 use borrow.Author.Needs.{needs}
 use Prim.Native.Nat.{_-_}
 use Rattle.records.proofs.typedef.typedef_with.Statement.{statement}

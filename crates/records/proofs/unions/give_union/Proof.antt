@@ -1,4 +1,4 @@
-use Rattle.records.specs.UnionsLaws.{give-filled, give-unfit, give-refused}
+use Rattle.records.proofs.Laws.Unions.{give-filled, give-unfit, give-refused}
 use borrow.Author.Needs.{needs}
 use Prim.Native.Nat.{_-_}
 use Rattle.records.proofs.unions.give_union.Statement.{statement}

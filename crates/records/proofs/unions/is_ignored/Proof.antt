@@ -1,4 +1,4 @@
-use Rattle.format.specs.LookupLaws.{unlisted}
+use Rattle.format.proofs.Laws.Lookup.{unlisted}
 use Rattle.records.specs.Unions.{ignored, ignoredKinds}
 use Rattle.format.specs.Lookup.{member}
 use Prim.Native.Nat.{_-_}

@@ -1,5 +1,5 @@
-use Rattle.links.specs.TypedLaws.{keyed-asked}
-use Rattle.records.specs.UnionsLaws.{union-there, union-nowhere}
+use Rattle.links.proofs.Laws.Typed.{keyed-asked}
+use Rattle.records.proofs.Laws.Unions.{union-there, union-nowhere}
 use borrow.Author.Needs.{needs}
 use Prim.Native.Nat.{_-_}
 use Rattle.records.proofs.unions.process_union_tag.Statement.{statement}

@@ -1,5 +1,5 @@
-use Rattle.records.specs.ScanLaws.{plain-union}
-use Rattle.records.specs.UnionsLaws.{read-sized, read-refused, read-faulty}
+use Rattle.records.proofs.Laws.Scan.{plain-union}
+use Rattle.records.proofs.Laws.Unions.{read-sized, read-refused, read-faulty}
 use borrow.Author.Needs.{needs}
 use Prim.Native.Nat.{_-_}
 use Rattle.records.proofs.unions.read_union.Statement.{statement}

@@ -1,4 +1,4 @@
-use Rattle.records.specs.UnionsLaws.{take-member, take-unread, take-type, take-other}
+use Rattle.records.proofs.Laws.Unions.{take-member, take-unread, take-type, take-other}
 use borrow.Author.Needs.{needs}
 use Prim.Native.Nat.{_-_}
 use Rattle.records.proofs.unions.take_child.Statement.{statement}

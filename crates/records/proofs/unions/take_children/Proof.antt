@@ -1,8 +1,8 @@
 use Rattle.tables.specs.Row.{rowAt}
-use Rattle.links.specs.KidsLaws.{ends-at}
-use Rattle.links.specs.Kids.{kidsFrom, kidsOf}
+use Rattle.links.proofs.Laws.Kids.{ends-at}
+use Rattle.links.specs.Inside.Kids.{kidsFrom, kidsOf}
 use Rattle.records.specs.Unions.{membersFrom}
-use Rattle.records.specs.UnionsLaws.{Taking, taking-begins, taking-ends, taking-asked, taking-at, taking-ending, taking-less, taking-on, taking-refused}
+use Rattle.records.proofs.Laws.Unions.{Taking, taking-begins, taking-ends, taking-asked, taking-at, taking-ending, taking-less, taking-on, taking-refused}
 use borrow.Author.Needs.{needs}
 use Prim.Native.Nat.{_-_}
 use mathlib.Core.Path.{_∙_}

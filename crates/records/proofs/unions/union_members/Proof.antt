@@ -1,4 +1,4 @@
-use Rattle.records.specs.UnionsLaws.{members-ending, members-walked, members-endless}
+use Rattle.records.proofs.Laws.Unions.{members-ending, members-walked, members-endless}
 use borrow.Author.Needs.{needs}
 use Prim.Native.Nat.{_-_}
 use Rattle.records.proofs.unions.union_members.Statement.{statement}

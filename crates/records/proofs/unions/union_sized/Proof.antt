@@ -1,5 +1,5 @@
 use Rattle.records.specs.Unions.{unionIs, sizedBy}
-use Rattle.records.specs.FieldsLaws.{byte-size-there, byte-size-missing}
+use Rattle.records.proofs.Laws.Fields.{byte-size-there, byte-size-missing}
 use Rattle.records.specs.declared.unions.UnionWhole.the-variants as whole
 use borrow.Author.Needs.{needs}
 use Prim.Native.Nat.{_-_}

@@ -1,6 +1,6 @@
 use Rattle.records.specs.Variable.{variableBy}
-use Rattle.records.specs.RecordLaws.{record-there}
-use Rattle.links.specs.TypedLaws.{no-row, keyed-asked}
+use Rattle.records.proofs.Laws.Record.{record-there}
+use Rattle.links.proofs.Laws.Typed.{no-row, keyed-asked}
 use borrow.Author.Needs.{needs}
 use Rattle.records.proofs.variable.process_variable_tag.Statement.{statement}
 use Rattle.records.proofs.variable.process_variable_tag.Tie as tie

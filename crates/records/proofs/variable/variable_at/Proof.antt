@@ -1,7 +1,7 @@
 use Rattle.records.specs.Variable.{variableAt}
-use Rattle.records.specs.VariableLaws.{variable-clear}
-use Rattle.records.specs.FrontLaws.{unless-refused}
-use Rattle.records.specs.ScanLaws.{plain-variable}
+use Rattle.records.proofs.Laws.Variable.{variable-clear}
+use Rattle.records.proofs.Laws.Front.{unless-refused}
+use Rattle.records.proofs.Laws.Scan.{plain-variable}
 use borrow.Author.Needs.{needs}
 use Rattle.records.proofs.variable.variable_at.Statement.{statement}
 use Rattle.records.proofs.variable.variable_at.Tie as tie

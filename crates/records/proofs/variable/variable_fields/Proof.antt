@@ -1,5 +1,5 @@
-use Rattle.records.specs.VariableLaws.{variable-whole}
-use Rattle.records.specs.FieldsLaws.{by-told}
+use Rattle.records.proofs.Laws.Variable.{variable-whole}
+use Rattle.records.proofs.Laws.Fields.{by-told}
 use Rattle.records.specs.Variable.{variableTyped, variableFields}
 use borrow.Author.Needs.{needs}
 use mathlib.Core.Path.{refl}

@@ -1,4 +1,4 @@
-use Rattle.records.specs.MemberWordsLaws.{Storing, storing-begins, storing-on, storing-ends}
+use Rattle.records.proofs.Laws.MemberWords.{Storing, storing-begins, storing-on, storing-ends}
 use borrow.Author.Needs.{needs}
 use Prim.Native.Nat.{_-_}
 use lib.ListN.{length}

@@ -1,5 +1,5 @@
-use Rattle.sizes.specs.SizeLaws.{ready}
-use Rattle.sizes.specs.AllLaws.{all-passed, all-refused}
+use Rattle.sizes.proofs.Laws.Size.{ready}
+use Rattle.sizes.proofs.Laws.All.{all-passed, all-refused}
 use borrow.Author.Needs.{needs}
 use Rattle.sizes.proofs.all.all_layouts.Statement.{statement}
 use Rattle.sizes.proofs.all.all_layouts.Tie as tie

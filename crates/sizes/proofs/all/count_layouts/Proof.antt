@@ -1,6 +1,6 @@
-use Rattle.sizes.specs.SizeWays.{typeFrom}
-use Rattle.sizes.specs.AllWays.{Told}
-use Rattle.sizes.specs.AllLaws.{Counting, counting-begins, counting-asked, counting-on, counting-ends, told-none, told-more, told-all}
+use Rattle.sizes.specs.Inside.Size.{typeFrom}
+use Rattle.sizes.specs.Inside.All.{Told}
+use Rattle.sizes.proofs.Laws.All.{Counting, counting-begins, counting-asked, counting-on, counting-ends, told-none, told-more, told-all}
 use Prim.Native.Nat.{_-_}
 use mathlib.Core.Path.{_≡_, refl, _∙_}
 use lib.ListN.{length}

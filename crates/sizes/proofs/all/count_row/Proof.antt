@@ -1,5 +1,5 @@
 use borrow.Author.Tests.{not-true, not-false}
-use Rattle.sizes.specs.AllLaws.{count-other, count-given, count-refused, given-asked, refused-asked}
+use Rattle.sizes.proofs.Laws.All.{count-other, count-given, count-refused, given-asked, refused-asked}
 use native.Mathlib.Omega.{arith}
 use Prim.Native.Nat.{_<_}
 use borrow.Author.Needs.{needs}

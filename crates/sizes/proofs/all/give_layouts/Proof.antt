@@ -1,4 +1,4 @@
-use Rattle.sizes.specs.AllLaws.{rooms-asked, rooms-unlisted, rooms-unfit, rooms-filled}
+use Rattle.sizes.proofs.Laws.All.{rooms-asked, rooms-unlisted, rooms-unfit, rooms-filled}
 use borrow.Author.Needs.{needs}
 use Rattle.sizes.proofs.all.give_layouts.Statement.{statement}
 use Rattle.sizes.proofs.all.give_layouts.Tie as tie

@@ -1,5 +1,5 @@
-use Rattle.sizes.specs.LevelsLaws.{known-kept}
-use Rattle.sizes.specs.AllLaws.{all-known}
+use Rattle.sizes.proofs.Laws.Levels.{known-kept}
+use Rattle.sizes.proofs.Laws.All.{all-known}
 use native.Mathlib.Omega.{arith}
 use Prim.Native.Nat.{_*_, _≤_}
 use borrow.Author.Needs.{needs}

@@ -1,4 +1,4 @@
-use Rattle.sizes.specs.AllWays.{countedOn}
+use Rattle.sizes.specs.Inside.All.{countedOn}
 use borrow.Author.Needs.{needs}
 use mathlib.Core.Path.{refl}
 use Rattle.sizes.proofs.all.one_more.Statement.{statement}

@@ -1,5 +1,5 @@
-use Rattle.sizes.specs.SizeWays.{typeFrom}
-use Rattle.sizes.specs.AllLaws.{Putting, putting-begins, putting-asked, putting-on, putting-ends}
+use Rattle.sizes.specs.Inside.Size.{typeFrom}
+use Rattle.sizes.proofs.Laws.All.{Putting, putting-begins, putting-asked, putting-on, putting-ends}
 use Prim.Native.Nat.{_-_}
 use borrow.Author.Needs.{needs}
 use Rattle.sizes.proofs.all.put_layouts.Statement.{statement}

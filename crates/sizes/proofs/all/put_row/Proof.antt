@@ -1,4 +1,4 @@
-use Rattle.sizes.specs.AllLaws.{given-asked, refused-asked, layout-refused, layout-given, puts-other, puts-given, puts-refused}
+use Rattle.sizes.proofs.Laws.All.{given-asked, refused-asked, layout-refused, layout-given, puts-other, puts-given, puts-refused}
 use borrow.Author.Tests.{not-true, not-false}
 use borrow.Author.Needs.{needs}
 use native.Mathlib.Omega.{arith}

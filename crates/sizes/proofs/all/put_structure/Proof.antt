@@ -1,4 +1,4 @@
-use Rattle.sizes.specs.AllLaws.{eight-put, eight-out}
+use Rattle.sizes.proofs.Laws.All.{eight-put, eight-out}
 use borrow.Author.Needs.{needs}
 use Rattle.sizes.proofs.all.put_structure.Statement.{statement}
 use Rattle.sizes.proofs.all.put_structure.Tie as tie

@@ -1,4 +1,4 @@
-use Rattle.sizes.specs.AllLaws.{told-is, told-refused}
+use Rattle.sizes.proofs.Laws.All.{told-is, told-refused}
 use borrow.Author.Needs.{needs}
 use Rattle.sizes.proofs.all.size_told.Statement.{statement}
 use Rattle.sizes.proofs.all.size_told.Tie as tie

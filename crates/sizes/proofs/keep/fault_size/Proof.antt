@@ -1,4 +1,4 @@
-use Rattle.sizes.specs.KeepLaws.{fault-clear, fault-refused}
+use Rattle.sizes.proofs.Laws.Keep.{fault-clear, fault-refused}
 use borrow.Author.Needs.{needs}
 use Rattle.sizes.proofs.keep.fault_size.Statement.{statement}
 use Rattle.sizes.proofs.keep.fault_size.Tie as tie

@@ -1,4 +1,4 @@
-use Rattle.sizes.specs.KeepLaws.{fault-put, fault-none}
+use Rattle.sizes.proofs.Laws.Keep.{fault-put, fault-none}
 use borrow.Author.Needs.{needs}
 use Rattle.sizes.proofs.keep.keep_fault.Statement.{statement}
 use Rattle.sizes.proofs.keep.keep_fault.Tie as tie

@@ -1,4 +1,4 @@
-use Rattle.sizes.specs.KeepLaws.{Faulting, faulting-begins, faulting-on, faulting-ends}
+use Rattle.sizes.proofs.Laws.Keep.{Faulting, faulting-begins, faulting-on, faulting-ends}
 use borrow.Author.Needs.{needs}
 use Prim.Native.Nat.{_-_}
 use mathlib.Core.Path.{_≡_, refl, _∙_}

@@ -1,4 +1,4 @@
-use Rattle.sizes.specs.KeepLaws.{member-put, refused-put}
+use Rattle.sizes.proofs.Laws.Keep.{member-put, refused-put}
 use borrow.Author.Needs.{needs}
 use Rattle.sizes.proofs.keep.keep_member.Statement.{statement}
 use Rattle.sizes.proofs.keep.keep_member.Tie as tie

@@ -1,4 +1,4 @@
-use Rattle.sizes.specs.KeepLaws.{Keeping, keeping-begins, keeping-on, keeping-ends}
+use Rattle.sizes.proofs.Laws.Keep.{Keeping, keeping-begins, keeping-on, keeping-ends}
 use borrow.Author.Needs.{needs}
 use Prim.Native.Nat.{_-_}
 use mathlib.Core.Path.{_≡_, refl, _∙_}

@@ -1,4 +1,4 @@
-use Rattle.sizes.specs.KeepLaws.{row-fits, row-member, row-other}
+use Rattle.sizes.proofs.Laws.Keep.{row-fits, row-member, row-other}
 use borrow.Author.Needs.{needs}
 use Rattle.sizes.proofs.keep.keep_row.Statement.{statement}
 use Rattle.sizes.proofs.keep.keep_row.Tie as tie

@@ -1,4 +1,4 @@
-use Rattle.sizes.specs.KeepLaws.{two-put}
+use Rattle.sizes.proofs.Laws.Keep.{two-put}
 use borrow.Author.Needs.{needs}
 use Rattle.sizes.proofs.keep.keep_two.Statement.{statement}
 use Rattle.sizes.proofs.keep.keep_two.Tie as tie

@@ -1,4 +1,4 @@
-use Rattle.sizes.specs.KeepLaws.{named-at, named-none}
+use Rattle.sizes.proofs.Laws.Keep.{named-at, named-none}
 use borrow.Author.Needs.{needs}
 use Rattle.sizes.proofs.keep.row_named.Statement.{statement}
 use Rattle.sizes.proofs.keep.row_named.Tie as tie

@@ -1,4 +1,4 @@
-use Rattle.sizes.specs.KeepLaws.{size-own, size-typed}
+use Rattle.sizes.proofs.Laws.Keep.{size-own, size-typed}
 use borrow.Author.Needs.{needs}
 use Rattle.sizes.proofs.keep.size_named.Statement.{statement}
 use Rattle.sizes.proofs.keep.size_named.Tie as tie

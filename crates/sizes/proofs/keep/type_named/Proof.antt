@@ -1,4 +1,4 @@
-use Rattle.sizes.specs.SizeLaws.{type-pointer, type-fundamental, type-user}
+use Rattle.sizes.proofs.Laws.Size.{type-pointer, type-fundamental, type-user}
 use borrow.Author.Needs.{needs}
 use Rattle.sizes.proofs.keep.type_named.Statement.{statement}
 use Rattle.sizes.proofs.keep.type_named.Tie as tie

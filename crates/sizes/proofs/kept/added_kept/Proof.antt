@@ -1,4 +1,4 @@
-use Rattle.sizes.specs.KeptLaws.{kept-offset, kept-refused}
+use Rattle.sizes.proofs.Laws.Kept.{kept-offset, kept-refused}
 use borrow.Author.Needs.{needs}
 use Prim.Native.Nat.{_-_}
 use Rattle.sizes.proofs.kept.added_kept.Statement.{statement}

@@ -1,4 +1,4 @@
-use Rattle.sizes.specs.KeptLaws.{sibling-kept, sibling-there}
+use Rattle.sizes.proofs.Laws.Kept.{sibling-kept, sibling-there}
 use borrow.Author.Needs.{needs}
 use Prim.Native.Nat.{_-_}
 use Rattle.sizes.proofs.kept.kept_sibling.Statement.{statement}

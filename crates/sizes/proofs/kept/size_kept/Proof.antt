@@ -1,4 +1,4 @@
-use Rattle.sizes.specs.KeptLaws.{size-given, size-known, size-refused}
+use Rattle.sizes.proofs.Laws.Kept.{size-given, size-known, size-refused}
 use borrow.Author.Needs.{needs}
 use Prim.Native.Nat.{_-_}
 use Rattle.sizes.proofs.kept.size_kept.Statement.{statement}

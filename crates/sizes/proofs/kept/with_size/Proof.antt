@@ -1,4 +1,4 @@
-use Rattle.sizes.specs.KeptLaws.{with-is, with-refused}
+use Rattle.sizes.proofs.Laws.Kept.{with-is, with-refused}
 use borrow.Author.Needs.{needs}
 use Prim.Native.Nat.{_-_}
 use Rattle.sizes.proofs.kept.with_size.Statement.{statement}

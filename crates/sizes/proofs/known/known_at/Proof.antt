@@ -1,4 +1,4 @@
-use Rattle.sizes.specs.KnownLaws.{known-past, known-size, known-refused}
+use Rattle.sizes.proofs.Laws.Known.{known-past, known-size, known-refused}
 use borrow.Author.Needs.{needs}
 use Rattle.sizes.proofs.known.known_at.Statement.{statement}
 use Rattle.sizes.proofs.known.known_at.Tie as tie

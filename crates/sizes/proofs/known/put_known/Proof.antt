@@ -1,4 +1,4 @@
-use Rattle.sizes.specs.KnownLaws.{put-same}
+use Rattle.sizes.proofs.Laws.Known.{put-same}
 use borrow.Author.Needs.{needs}
 use Rattle.sizes.proofs.known.put_known.Statement.{statement}
 use Rattle.sizes.proofs.known.put_known.Tie as tie

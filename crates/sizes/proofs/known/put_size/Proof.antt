@@ -1,4 +1,4 @@
-use Rattle.sizes.specs.KnownLaws.{put-size}
+use Rattle.sizes.proofs.Laws.Known.{put-size}
 use borrow.Author.Needs.{needs}
 use denote.Ref.{now}
 use Rattle.sizes.proofs.known.put_size.Statement.{statement}

@@ -1,4 +1,4 @@
-use Rattle.sizes.specs.KnownLaws.{three-put}
+use Rattle.sizes.proofs.Laws.Known.{three-put}
 use borrow.Author.Needs.{needs}
 use denote.Ref.{now}
 use Rattle.sizes.proofs.known.put_three.Statement.{statement}

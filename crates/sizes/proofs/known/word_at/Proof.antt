@@ -1,4 +1,4 @@
-use Rattle.sizes.specs.KnownLaws.{word-none}
+use Rattle.sizes.proofs.Laws.Known.{word-none}
 use borrow.Author.Needs.{needs}
 use denote.Ref.{now}
 use Rattle.sizes.proofs.known.word_at.Statement.{statement}

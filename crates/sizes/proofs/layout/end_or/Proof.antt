@@ -1,4 +1,4 @@
-use Rattle.sizes.specs.LayoutLaws.{end-bounded, end-grown}
+use Rattle.sizes.proofs.Laws.Layout.{end-bounded, end-grown}
 use borrow.Author.Needs.{needs}
 use Rattle.sizes.proofs.layout.end_or.Statement.{statement}
 use Rattle.sizes.proofs.layout.end_or.Tie as tie

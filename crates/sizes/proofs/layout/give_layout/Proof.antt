@@ -1,4 +1,4 @@
-use Rattle.sizes.specs.LayoutLaws.{give-laid, give-unfit, give-unlaid}
+use Rattle.sizes.proofs.Laws.Layout.{give-laid, give-unfit, give-unlaid}
 use borrow.Author.Needs.{needs}
 use Rattle.sizes.proofs.layout.give_layout.Statement.{statement}
 use Rattle.sizes.proofs.layout.give_layout.Tie as tie

@@ -1,4 +1,4 @@
-use Rattle.records.specs.FieldsLaws.{by-told}
+use Rattle.records.proofs.Laws.Fields.{by-told}
 use Rattle.sizes.specs.Layout.{isStructure}
 use borrow.Author.Needs.{needs}
 use mathlib.Core.Path.{refl}

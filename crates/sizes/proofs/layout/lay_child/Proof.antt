@@ -1,4 +1,4 @@
-use Rattle.sizes.specs.LayoutLaws.{child-other, child-sized, child-refused}
+use Rattle.sizes.proofs.Laws.Layout.{child-other, child-sized, child-refused}
 use Rattle.tables.specs.declared.row.Row.{Row}
 use borrow.Author.Needs.{needs}
 use mathlib.Core.Path.{sym, ap, _∙_}

@@ -1,9 +1,9 @@
-use Rattle.links.specs.KidsLaws.{ends-at}
-use Rattle.links.specs.Kids.{kidsFrom, kidsOf}
-use Rattle.sizes.specs.WalkingLaws.{walking-asked, walking-ending, walking-less}
-use Rattle.sizes.specs.LayoutLaws.{Laying′, laying-begins, laying-asked, laying-on, laying-refused, laying-ends}
-use Rattle.sizes.specs.LayoutWays.{childrenLaid}
-use Rattle.sizes.specs.SizeWays.{typeFrom}
+use Rattle.links.proofs.Laws.Kids.{ends-at}
+use Rattle.links.specs.Inside.Kids.{kidsFrom, kidsOf}
+use Rattle.sizes.proofs.Laws.Walking.{walking-asked, walking-ending, walking-less}
+use Rattle.sizes.proofs.Laws.Layout.{Laying′, laying-begins, laying-asked, laying-on, laying-refused, laying-ends}
+use Rattle.sizes.specs.Inside.Layout.{childrenLaid}
+use Rattle.sizes.specs.Inside.Size.{typeFrom}
 use borrow.Author.Needs.{needs}
 use mathlib.Core.Path.{_∙_}
 use lib.ListN.{length}

@@ -1,4 +1,4 @@
-use Rattle.sizes.specs.LayoutLaws.{sized-laid, sized-endless}
+use Rattle.sizes.proofs.Laws.Layout.{sized-laid, sized-endless}
 use borrow.Author.Needs.{needs}
 use Rattle.sizes.proofs.layout.lay_sized.Statement.{statement}
 use Rattle.sizes.proofs.layout.lay_sized.Tie as tie

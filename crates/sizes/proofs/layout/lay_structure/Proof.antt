@@ -1,4 +1,4 @@
-use Rattle.sizes.specs.LayoutLaws.{clear-asked, structure-laid, structure-faulty}
+use Rattle.sizes.proofs.Laws.Layout.{clear-asked, structure-laid, structure-faulty}
 use borrow.Author.Needs.{needs}
 use Rattle.sizes.proofs.layout.lay_structure.Statement.{statement}
 use Rattle.sizes.proofs.layout.lay_structure.Tie as tie

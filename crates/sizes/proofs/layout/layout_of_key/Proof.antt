@@ -1,6 +1,6 @@
-use Rattle.sizes.specs.LayoutLaws.{layout-there, layout-unlaid}
-use Rattle.sizes.specs.KeptLaws.{none-kept}
-use Rattle.links.specs.TypedLaws.{keyed-asked, keyed-short}
+use Rattle.sizes.proofs.Laws.Layout.{layout-there, layout-unlaid}
+use Rattle.sizes.proofs.Laws.Kept.{none-kept}
+use Rattle.links.proofs.Laws.Typed.{keyed-asked, keyed-short}
 use borrow.Author.Needs.{needs}
 use Rattle.sizes.proofs.layout.layout_of_key.Statement.{statement}
 use Rattle.sizes.proofs.layout.layout_of_key.Tie as tie

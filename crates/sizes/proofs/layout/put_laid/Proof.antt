@@ -1,4 +1,4 @@
-use Rattle.sizes.specs.LayoutLaws.{laid-put, laid-out}
+use Rattle.sizes.proofs.Laws.Layout.{laid-put, laid-out}
 use borrow.Author.Needs.{needs}
 use denote.Ref.{now}
 use Rattle.sizes.proofs.layout.put_laid.Statement.{statement}

@@ -1,4 +1,4 @@
-use Rattle.sizes.specs.LayoutLaws.{layout-asked, whole-other, whole-laid, whole-refused}
+use Rattle.sizes.proofs.Laws.Layout.{layout-asked, whole-other, whole-laid, whole-refused}
 use borrow.Author.Tests.{not-true, not-false}
 use borrow.Author.Needs.{needs}
 use Rattle.sizes.proofs.layout.read_layout.Statement.{statement}

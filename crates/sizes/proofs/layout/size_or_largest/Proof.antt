@@ -1,4 +1,4 @@
-use Rattle.records.specs.TakenLaws.{by-case}
+use Rattle.records.proofs.Laws.Taken.{by-case}
 use Rattle.sizes.specs.Layout.{sizeOrLargest}
 use borrow.Author.Needs.{needs}
 use mathlib.Core.Path.{refl}

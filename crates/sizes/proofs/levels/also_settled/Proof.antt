@@ -1,4 +1,4 @@
-use Rattle.records.specs.TakenLaws.{test-passed}
+use Rattle.records.proofs.Laws.Taken.{test-passed}
 use borrow.Author.Needs.{needs}
 use mathlib.Core.Path.{refl}
 use Rattle.sizes.proofs.levels.also_settled.Statement.{statement}

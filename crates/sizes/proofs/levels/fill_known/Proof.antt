@@ -1,5 +1,5 @@
-use Rattle.sizes.specs.LevelsWays.{deepest}
-use Rattle.sizes.specs.LevelsLaws.{known-kept, Levelling, levelling-begins, levelling-on, levelling-settled, levelling-all, levelling-ends}
+use Rattle.sizes.specs.Inside.Levels.{deepest}
+use Rattle.sizes.proofs.Laws.Levels.{known-kept, Levelling, levelling-begins, levelling-on, levelling-settled, levelling-all, levelling-ends}
 use borrow.Author.Needs.{needs}
 use Prim.Native.Nat.{_-_}
 use mathlib.Core.Path.{refl}

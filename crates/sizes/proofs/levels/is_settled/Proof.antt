@@ -1,5 +1,5 @@
-use Rattle.sizes.specs.LevelsWays.{settled}
-use Rattle.records.specs.TakenLaws.{by-case}
+use Rattle.sizes.specs.Inside.Levels.{settled}
+use Rattle.records.proofs.Laws.Taken.{by-case}
 use mathlib.Core.Bool.{not}
 use lib.Dec.{eqb}
 use borrow.Author.Needs.{needs}

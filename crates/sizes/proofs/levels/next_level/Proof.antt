@@ -1,5 +1,5 @@
-use Rattle.sizes.specs.LevelsWays.{nextLevel, LevelFilled}
-use Rattle.sizes.specs.LevelsLaws.{level-none, level-row, level-whole}
+use Rattle.sizes.specs.Inside.Levels.{nextLevel, LevelFilled}
+use Rattle.sizes.proofs.Laws.Levels.{level-none, level-row, level-whole}
 use borrow.Author.Needs.{needs}
 use Prim.Native.Nat.{_-_}
 use mathlib.Core.Path.{_≡_, refl, _∙_}

@@ -1,4 +1,4 @@
-use Rattle.sizes.specs.LevelsLaws.{next-kept, next-taken, next-other}
+use Rattle.sizes.proofs.Laws.Levels.{next-kept, next-taken, next-other}
 use borrow.Author.Needs.{needs}
 use denote.Ref.{now}
 use Rattle.sizes.proofs.levels.next_size.Statement.{statement}

@@ -1,4 +1,4 @@
-use Rattle.sizes.specs.LevelsLaws.{Taking, taking-begins, taking-same, taking-other, taking-ends}
+use Rattle.sizes.proofs.Laws.Levels.{Taking, taking-begins, taking-same, taking-other, taking-ends}
 use borrow.Author.Needs.{needs}
 use Prim.Native.Nat.{_-_}
 use mathlib.Core.Logic.{⊎-elim}

@@ -1,4 +1,4 @@
-use Rattle.sizes.specs.KeptLaws.{fault-clear, fault-refused}
+use Rattle.sizes.proofs.Laws.Kept.{fault-clear, fault-refused}
 use borrow.Author.Needs.{needs}
 use Prim.Native.Nat.{_-_}
 use Rattle.sizes.proofs.prepare.fault_kept.Statement.{statement}

@@ -1,4 +1,4 @@
-use Rattle.sizes.specs.KeptLaws.{structure-fault-kept}
+use Rattle.sizes.proofs.Laws.Kept.{structure-fault-kept}
 use borrow.Author.Needs.{needs}
 use Prim.Native.Nat.{_-_}
 use Rattle.sizes.proofs.prepare.kept_fault.Statement.{statement}

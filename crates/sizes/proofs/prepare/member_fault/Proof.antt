@@ -1,5 +1,5 @@
-use Rattle.sizes.specs.PrepareLaws.{member-clear, member-refused, member-other}
-use Rattle.sizes.specs.KeptLaws.{member-fault-kept}
+use Rattle.sizes.proofs.Laws.Prepare.{member-clear, member-refused, member-other}
+use Rattle.sizes.proofs.Laws.Kept.{member-fault-kept}
 use borrow.Author.Needs.{needs}
 use Rattle.sizes.proofs.prepare.member_fault.Statement.{statement}
 use Rattle.sizes.proofs.prepare.member_fault.Tie as tie

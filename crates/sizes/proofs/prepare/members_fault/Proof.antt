@@ -1,8 +1,8 @@
-use Rattle.sizes.specs.PrepareLaws.{members-on, members-refused, members-none}
-use Rattle.sizes.specs.WalkingLaws.{Walking, walking-begins, walking-ends, walking-asked, walking-stops, walking-ending, walking-less, walking-on}
-use Rattle.sizes.specs.Ways.{membersFault}
-use Rattle.links.specs.Kids.{kidsFrom, kidsOf}
-use Rattle.links.specs.KidsLaws.{ends-at}
+use Rattle.sizes.proofs.Laws.Prepare.{members-on, members-refused, members-none}
+use Rattle.sizes.proofs.Laws.Walking.{Walking, walking-begins, walking-ends, walking-asked, walking-stops, walking-ending, walking-less, walking-on}
+use Rattle.sizes.specs.Inside.Prepare.{membersFault}
+use Rattle.links.specs.Inside.Kids.{kidsFrom, kidsOf}
+use Rattle.links.proofs.Laws.Kids.{ends-at}
 use borrow.Author.Needs.{needs}
 use Prim.Native.Nat.{_-_}
 use mathlib.Core.Path.{_∙_}

@@ -1,4 +1,4 @@
-use Rattle.sizes.specs.PrepareLaws.{Preparing, preparing-begins, preparing-past, preparing-on, preparing-refused, preparing-ends}
+use Rattle.sizes.proofs.Laws.Prepare.{Preparing, preparing-begins, preparing-past, preparing-on, preparing-refused, preparing-ends}
 use borrow.Author.Needs.{needs}
 use Prim.Native.Nat.{_-_}
 use Rattle.sizes.proofs.prepare.prepare_array.Statement.{statement}

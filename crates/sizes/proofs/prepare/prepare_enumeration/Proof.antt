@@ -1,4 +1,4 @@
-use Rattle.sizes.specs.PrepareLaws.{enumeration-size, enumeration-refused}
+use Rattle.sizes.proofs.Laws.Prepare.{enumeration-size, enumeration-refused}
 use borrow.Author.Needs.{needs}
 use Prim.Native.Nat.{_-_}
 use Rattle.sizes.proofs.prepare.prepare_enumeration.Statement.{statement}

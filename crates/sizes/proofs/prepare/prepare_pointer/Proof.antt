@@ -1,4 +1,4 @@
-use Rattle.sizes.specs.PrepareLaws.{pointer-size, pointer-refused}
+use Rattle.sizes.proofs.Laws.Prepare.{pointer-size, pointer-refused}
 use borrow.Author.Needs.{needs}
 use Prim.Native.Nat.{_-_}
 use Rattle.sizes.proofs.prepare.prepare_pointer.Statement.{statement}

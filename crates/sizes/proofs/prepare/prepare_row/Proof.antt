@@ -1,6 +1,6 @@
-use Rattle.sizes.specs.KeptLaws.{shape-structure}
-use Rattle.sizes.specs.PrepareLaws.{row-shape, row-array, row-other}
-use Rattle.sizes.specs.Ways.{preparedShape}
+use Rattle.sizes.proofs.Laws.Kept.{shape-structure}
+use Rattle.sizes.proofs.Laws.Prepare.{row-shape, row-array, row-other}
+use Rattle.sizes.specs.Inside.Prepare.{preparedShape}
 use borrow.Author.Needs.{needs}
 use Prim.Native.Nat.{_-_}
 use mathlib.Core.Path.{refl}

@@ -1,4 +1,4 @@
-use Rattle.sizes.specs.PrepareLaws.{structure-size, structure-ends, structure-refused}
+use Rattle.sizes.proofs.Laws.Prepare.{structure-size, structure-ends, structure-refused}
 use borrow.Author.Needs.{needs}
 use Prim.Native.Nat.{_-_}
 use Rattle.sizes.proofs.prepare.prepare_structure.Statement.{statement}

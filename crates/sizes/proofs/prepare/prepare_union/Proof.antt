@@ -1,4 +1,4 @@
-use Rattle.sizes.specs.PrepareLaws.{union-size, union-refused}
+use Rattle.sizes.proofs.Laws.Prepare.{union-size, union-refused}
 use borrow.Author.Needs.{needs}
 use Prim.Native.Nat.{_-_}
 use Rattle.sizes.proofs.prepare.prepare_union.Statement.{statement}

@@ -1,6 +1,6 @@
 use Rattle.sizes.specs.declared.prepare.Shape.the-variants.{Other}
 use Rattle.sizes.specs.Size.{shapes, shapeOf}
-use Rattle.format.specs.LookupLaws.{lookup-none}
+use Rattle.format.proofs.Laws.Lookup.{lookup-none}
 use Rattle.format.specs.Lookup.{lookup}
 use Prim.Native.Nat.{_-_}
 use mathlib.Core.Path.{sym, ap}

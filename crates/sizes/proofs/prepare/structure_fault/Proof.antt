@@ -1,5 +1,5 @@
-use Rattle.sizes.specs.PrepareLaws.{structure-walked, structure-endless}
-use Rattle.records.specs.UnionsLaws.{members-ending}
+use Rattle.sizes.proofs.Laws.Prepare.{structure-walked, structure-endless}
+use Rattle.records.proofs.Laws.Unions.{members-ending}
 use borrow.Author.Needs.{needs}
 use Prim.Native.Nat.{_-_}
 use Rattle.sizes.proofs.prepare.structure_fault.Statement.{statement}

@@ -1,4 +1,4 @@
-use Rattle.sizes.specs.PrepareLaws.{block-is}
+use Rattle.sizes.proofs.Laws.Prepare.{block-is}
 use borrow.Author.Needs.{needs}
 use Prim.Native.Nat.{_-_}
 use Rattle.sizes.proofs.prepare.subscript_block.Statement.{statement}

@@ -1,4 +1,4 @@
-use Rattle.sizes.specs.ProductLaws.{Left, begin, product-done, dimension-inside, dimension-less, again-dimension, product-big, element-inside, element-less, again-element, product-refused}
+use Rattle.sizes.proofs.Laws.Product.{Left, begin, product-done, dimension-inside, dimension-less, again-dimension, product-big, element-inside, element-less, again-element, product-refused}
 use borrow.Author.Needs.{needs}
 use Prim.Native.Nat.{_-_}
 use lib.ListN.{length}

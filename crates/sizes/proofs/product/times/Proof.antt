@@ -1,4 +1,4 @@
-use Rattle.sizes.specs.ProductLaws.{product-fits, times-is, times-big}
+use Rattle.sizes.proofs.Laws.Product.{product-fits, times-is, times-big}
 use borrow.Author.Needs.{needs}
 use Prim.Native.Nat.{_-_}
 use Rattle.sizes.proofs.product.times.Statement.{statement}

@@ -1,9 +1,9 @@
-use Rattle.links.specs.KidsLaws.{ends-at}
-use Rattle.links.specs.Kids.{kidsFrom, kidsOf}
-use Rattle.sizes.specs.SizeWays.{endsOver, typeFrom}
-use Rattle.sizes.specs.WalkingLaws.{Walking, walking-begins, walking-ends, walking-asked, walking-stops, walking-ending, walking-less, walking-on}
-use Rattle.sizes.specs.KeptLaws.{member-kept, kind-is}
-use Rattle.sizes.specs.SizeLaws.{ends-done, ends-next, ends-refused, added-own, added-typed, added-refused, child-other, child-added, child-refused, found-asked, entry-known, entry-deep, entry-row, entry-missing, type-pointer, type-fundamental, type-user, row-sized, row-element, row-sizeless, row-ends, row-refused, ends-asked}
+use Rattle.links.proofs.Laws.Kids.{ends-at}
+use Rattle.links.specs.Inside.Kids.{kidsFrom, kidsOf}
+use Rattle.sizes.specs.Inside.Size.{endsOver, typeFrom}
+use Rattle.sizes.proofs.Laws.Walking.{Walking, walking-begins, walking-ends, walking-asked, walking-stops, walking-ending, walking-less, walking-on}
+use Rattle.sizes.proofs.Laws.Kept.{member-kept, kind-is}
+use Rattle.sizes.proofs.Laws.Size.{ends-done, ends-next, ends-refused, added-own, added-typed, added-refused, child-other, child-added, child-refused, found-asked, entry-known, entry-deep, entry-row, entry-missing, type-pointer, type-fundamental, type-user, row-sized, row-element, row-sizeless, row-ends, row-refused, ends-asked}
 use borrow.Author.Needs.{needs}
 use native.Mathlib.Omega.{arith}
 use Prim.Native.Nat.{ℕ, _+_, _*_, _<_}

@@ -1,4 +1,4 @@
-use Rattle.sizes.specs.SizeLaws.{product-here}
+use Rattle.sizes.proofs.Laws.Size.{product-here}
 use borrow.Author.Needs.{needs}
 use Rattle.sizes.proofs.size.array_product.Statement.{statement}
 use Rattle.sizes.proofs.size.array_product.Tie as tie

@@ -1,4 +1,4 @@
-use Rattle.sizes.specs.SizeLaws.{line-there, line-none}
+use Rattle.sizes.proofs.Laws.Size.{line-there, line-none}
 use borrow.Author.Needs.{needs}
 use mathlib.Core.Path.{ap, _∙_}
 use Rattle.sizes.specs.declared.sized.Sized.the-variants.{Refused}

@@ -1,4 +1,4 @@
-use Rattle.sizes.specs.SizeLaws.{grown-past, grown-more, grown-same}
+use Rattle.sizes.proofs.Laws.Size.{grown-past, grown-more, grown-same}
 use borrow.Author.Needs.{needs}
 use Rattle.sizes.proofs.size.grown.Statement.{statement}
 use Rattle.sizes.proofs.size.grown.Tie as tie

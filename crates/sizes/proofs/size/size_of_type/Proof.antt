@@ -1,8 +1,8 @@
-use Rattle.sizes.specs.KeptLaws.{none-kept}
+use Rattle.sizes.proofs.Laws.Kept.{none-kept}
 use Rattle.sizes.specs.declared.sized.Sized.the-variants.{Refused}
 use Rattle.sizes.specs.Size.{sizeOfType}
-use Rattle.sizes.specs.SizeLaws.{ready, type-sized}
-use Rattle.tables.specs.CheckLaws.{refused-answer}
+use Rattle.sizes.proofs.Laws.Size.{ready, type-sized}
+use Rattle.tables.proofs.Laws.Check.{refused-answer}
 use borrow.Author.Needs.{needs}
 use Rattle.sizes.proofs.size.size_of_type.Statement.{statement}
 use Rattle.sizes.proofs.size.size_of_type.Tie as tie

@@ -1,5 +1,5 @@
 use borrow.Author.Tests.{not-true, not-false}
-use Rattle.tables.specs.CheckLaws.{check-settings, check-long, check-table, check-passed}
+use Rattle.tables.proofs.Laws.Check.{check-settings, check-long, check-table, check-passed}
 use mathlib.Core.Path.{refl, sym, _∙_}
 use borrow.Author.Needs.{needs}
 use Rattle.tables.proofs.check.check_table.Statement.{statement}

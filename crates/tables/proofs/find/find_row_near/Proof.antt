@@ -1,4 +1,4 @@
-use Rattle.tables.specs.FindLaws.{between-all, between-upper, between-lower, row-near}
+use Rattle.tables.proofs.Laws.Find.{between-all, between-upper, between-lower, row-near}
 use borrow.Author.Needs.{needs}
 use native.Mathlib.Omega.{arith}
 use Prim.Native.Nat.{_-_}

@@ -1,4 +1,5 @@
-use Rattle.tables.specs.FindLaws.{Between, between-upper, between-lower, between-one}
+use Rattle.tables.specs.Inside.Find.{Between}
+use Rattle.tables.proofs.Laws.Find.{between-upper, between-lower, between-one}
 use borrow.Author.Needs.{needs}
 use native.Mathlib.Omega.{arith}
 use Prim.Native.Nat.{_-_}

@@ -1,4 +1,4 @@
-use Rattle.tables.specs.FindLaws.{row-past, row-here, row-other}
+use Rattle.tables.proofs.Laws.Find.{row-past, row-here, row-other}
 use borrow.Author.Needs.{needs}
 use Rattle.tables.proofs.find.row_first.Statement.{statement}
 use Rattle.tables.proofs.find.row_first.Tie as tie

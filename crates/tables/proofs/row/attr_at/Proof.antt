@@ -1,4 +1,4 @@
-use Rattle.tables.specs.RowLaws.{attr-read, attr-none}
+use Rattle.tables.proofs.Laws.Row.{attr-read, attr-none}
 use borrow.Author.Needs.{needs}
 use Rattle.tables.proofs.row.attr_at.Statement.{statement}
 use Rattle.tables.proofs.row.attr_at.Tie as tie

@@ -1,4 +1,4 @@
-use Rattle.tables.specs.RowLaws.{says-little, says-big}
+use Rattle.tables.proofs.Laws.Row.{says-little, says-big}
 use Rattle.tables.proofs.row.endian_of.Statement.{statement}
 use Rattle.tables.proofs.row.endian_of.Tie as tie
 

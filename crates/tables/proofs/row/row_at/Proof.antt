@@ -1,4 +1,4 @@
-use Rattle.tables.specs.RowLaws.{row-read, row-none}
+use Rattle.tables.proofs.Laws.Row.{row-read, row-none}
 use borrow.Author.Needs.{needs}
 use Rattle.tables.proofs.row.row_at.Statement.{statement}
 use Rattle.tables.proofs.row.row_at.Tie as tie

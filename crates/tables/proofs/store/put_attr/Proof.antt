@@ -1,4 +1,4 @@
-use Rattle.tables.specs.RowLaws.{attr-stored, attr-unstored}
+use Rattle.tables.proofs.Laws.Row.{attr-stored, attr-unstored}
 use borrow.Author.Needs.{needs}
 use Rattle.tables.proofs.store.put_attr.Statement.{statement}
 use Rattle.tables.proofs.store.put_attr.Tie as tie

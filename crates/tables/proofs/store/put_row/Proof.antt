@@ -1,4 +1,4 @@
-use Rattle.tables.specs.RowLaws.{row-stored, row-unstored}
+use Rattle.tables.proofs.Laws.Row.{row-stored, row-unstored}
 use borrow.Author.Needs.{needs}
 use Rattle.tables.proofs.store.put_row.Statement.{statement}
 use Rattle.tables.proofs.store.put_row.Tie as tie

@@ -1,4 +1,4 @@
-use Rattle.tables.specs.TestLaws.{atEnd, attr-wide, attr-told}
+use Rattle.tables.proofs.Laws.Test.{atEnd, attr-wide, attr-told}
 use borrow.Author.Needs.{needs}
 use denote.Ref.{now}
 use Rattle.tables.proofs.test.attr_holds.Statement.{statement}

@@ -1,4 +1,4 @@
-use Rattle.tables.specs.TestLaws.{head-low, head-outside, head-wide, head-flags, head-kind}
+use Rattle.tables.proofs.Laws.Test.{head-low, head-outside, head-wide, head-flags, head-kind}
 use borrow.Author.Needs.{needs}
 use mathlib.Core.Path.{_∙_}
 use Rattle.tables.proofs.test.head_holds.Statement.{statement}

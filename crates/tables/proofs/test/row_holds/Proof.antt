@@ -1,4 +1,4 @@
-use Rattle.tables.specs.TestLaws.{row-bad, row-apart, row-past, row-run}
+use Rattle.tables.proofs.Laws.Test.{row-bad, row-apart, row-past, row-run}
 use borrow.Author.Tests.{not-true, not-false}
 use borrow.Author.Needs.{needs}
 use native.Mathlib.Omega.{arith}

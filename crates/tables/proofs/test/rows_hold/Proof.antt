@@ -1,5 +1,5 @@
 use Rattle.tables.specs.Test.{rowsHold}
-use Rattle.tables.specs.TestLaws.{rows-bad, rows-next, rows-end, row-passed}
+use Rattle.tables.proofs.Laws.Test.{rows-bad, rows-next, rows-end, row-passed}
 use native.Mathlib.Nat.{sub-zero}
 use borrow.Author.Tests.{not-true, not-false}
 use borrow.Author.Needs.{needs}

@@ -1,5 +1,5 @@
 use Rattle.tables.specs.Test.{runHolds}
-use Rattle.tables.specs.TestLaws.{run-bad, run-next, run-end}
+use Rattle.tables.proofs.Laws.Test.{run-bad, run-next, run-end}
 use native.Mathlib.Nat.{add-zero, sub-zero}
 use borrow.Author.Tests.{not-true, not-false}
 use borrow.Author.Needs.{needs}

@@ -1,4 +1,4 @@
-use Rattle.tables.specs.TestLaws.{table-many-rows, table-short-rows, table-many-attrs, table-short-attrs, table-rows}
+use Rattle.tables.proofs.Laws.Test.{table-many-rows, table-short-rows, table-many-attrs, table-short-attrs, table-rows}
 use borrow.Author.Needs.{needs}
 use mathlib.Core.Path.{_∙_}
 use Rattle.tables.proofs.test.table_holds.Statement.{statement}

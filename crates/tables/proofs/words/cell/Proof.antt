@@ -1,4 +1,4 @@
-use Rattle.tables.specs.RowLaws.{word-none}
+use Rattle.tables.proofs.Laws.Row.{word-none}
 use borrow.Author.Needs.{needs}
 use denote.Ref.{now}
 use Rattle.tables.proofs.words.cell.Statement.{statement}

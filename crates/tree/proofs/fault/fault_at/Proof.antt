@@ -1,5 +1,5 @@
-use Rattle.tree.specs.ChainLaws.{fault-here, fault-along, end-within}
-use Rattle.tree.specs.ReachLaws.{reaching}
+use Rattle.tree.proofs.Laws.Chain.{fault-here, fault-along, end-within}
+use Rattle.tree.proofs.Laws.Reach.{reaching}
 use borrow.Author.Needs.{needs}
 use Rattle.tree.proofs.fault.fault_at.Statement.{statement}
 use Rattle.tree.proofs.fault.fault_at.Tie as tie

@@ -1,6 +1,6 @@
-use Rattle.tree.specs.ChainLaws.{fault-begin, fault-back, fault-all}
+use Rattle.tree.proofs.Laws.Chain.{fault-begin, fault-back, fault-all}
 use native.Mathlib.Nat.{le-refl}
-use Rattle.tree.specs.Ways.{faultFrom}
+use Rattle.tree.specs.Inside.Passing.{faultFrom}
 use Rattle.tree.specs.Reach.{reachEnd}
 use borrow.Author.Needs.{needs}
 use native.Mathlib.Omega.{arith}

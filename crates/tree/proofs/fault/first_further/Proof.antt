@@ -1,6 +1,6 @@
-use Rattle.tree.specs.ChainLaws.{along-begin, along-blocked, along-bad, along-past, along-next, along-end}
+use Rattle.tree.proofs.Laws.Chain.{along-begin, along-blocked, along-bad, along-past, along-next, along-end}
 use Rattle.tree.specs.Reach.{reachEnd}
-use Rattle.tree.specs.FaultWays.{Along}
+use Rattle.tree.specs.Inside.Fault.{Along}
 use borrow.Author.Needs.{needs}
 use native.Mathlib.Omega.{arith}
 use Prim.Native.Nat.{_-_}

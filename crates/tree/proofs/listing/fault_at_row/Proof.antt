@@ -1,4 +1,4 @@
-use Rattle.tree.specs.TreeLaws.{fault-row}
+use Rattle.tree.proofs.Laws.Tree.{fault-row}
 use borrow.Author.Needs.{needs}
 use Rattle.tree.proofs.listing.fault_at_row.Statement.{statement}
 use Rattle.tree.proofs.listing.fault_at_row.Tie as tie

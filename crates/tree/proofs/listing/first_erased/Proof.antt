@@ -1,4 +1,4 @@
-use Rattle.tree.specs.TreeLaws.{erased-begin, erased-here, erased-not, erased-none}
+use Rattle.tree.proofs.Laws.Tree.{erased-begin, erased-here, erased-not, erased-none}
 use Rattle.tree.specs.Tree.{firstErased}
 use Rattle.tree.specs.Pick.{firstFrom}
 use Rattle.tables.specs.Row.{rowAt, erasedRow}

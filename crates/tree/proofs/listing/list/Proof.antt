@@ -1,5 +1,5 @@
-use Rattle.tree.specs.TreeLaws.{list-erased, list-fault, list-deep, list-unfit, list-given}
-use Rattle.tree.specs.ReachLaws.{reaching}
+use Rattle.tree.proofs.Laws.Tree.{list-erased, list-fault, list-deep, list-unfit, list-given}
+use Rattle.tree.proofs.Laws.Reach.{reaching}
 use borrow.Author.Needs.{needs}
 use Rattle.tree.proofs.listing.list.Statement.{statement}
 use Rattle.tree.proofs.listing.list.Tie as tie

@@ -1,5 +1,5 @@
-use Rattle.tree.specs.TreeLaws.{tree-passed, tree-refused}
-use Rattle.links.specs.ChildrenLaws.{tested-rows}
+use Rattle.tree.proofs.Laws.Tree.{tree-passed, tree-refused}
+use Rattle.links.proofs.Laws.Children.{tested-rows}
 use borrow.Author.Needs.{needs}
 use Rattle.tree.proofs.listing.list_tree.Statement.{statement}
 use Rattle.tree.proofs.listing.list_tree.Tie as tie

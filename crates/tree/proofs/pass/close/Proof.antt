@@ -1,5 +1,5 @@
-use Rattle.tree.specs.Stack.{heightAt}
-use Rattle.tree.specs.StackLaws.{height-here, height-less, height-none}
+use Rattle.tree.specs.Inside.Stack.{heightAt}
+use Rattle.tree.proofs.Laws.Stack.{height-here, height-less, height-none}
 use borrow.Author.Needs.{needs}
 use mathlib.Core.Path.{_≡_, refl}
 use Rattle.tree.proofs.pass.close.Statement.{statement}

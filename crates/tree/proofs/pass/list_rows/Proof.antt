@@ -1,6 +1,6 @@
-use Rattle.tree.specs.ReachLaws.{reach-within}
+use Rattle.tree.proofs.Laws.Reach.{reach-within}
 use Rattle.tree.specs.Reach.{reachEnd}
-use Rattle.tree.specs.StackLaws.{Passing, pass-begin, pass-length, pass-done, pass-deep, pass-next}
+use Rattle.tree.proofs.Laws.Stack.{Passing, pass-begin, pass-length, pass-done, pass-deep, pass-next}
 use borrow.Author.Needs.{needs}
 use native.Mathlib.Omega.{arith}
 use Prim.Native.Nat.{_-_}

@@ -1,4 +1,4 @@
-use Rattle.tree.specs.StackLaws.{top-none, top-last}
+use Rattle.tree.proofs.Laws.Stack.{top-none, top-last}
 use borrow.Author.Needs.{needs}
 use Rattle.tree.proofs.pass.nearest_of.Statement.{statement}
 use Rattle.tree.proofs.pass.nearest_of.Tie as tie

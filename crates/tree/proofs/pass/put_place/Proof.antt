@@ -1,4 +1,4 @@
-use Rattle.tree.specs.StackLaws.{place-stored, place-unstored}
+use Rattle.tree.proofs.Laws.Stack.{place-stored, place-unstored}
 use borrow.Author.Needs.{needs}
 use denote.Ref.{now}
 use Rattle.tree.proofs.pass.put_place.Statement.{statement}

@@ -1,4 +1,4 @@
-use Rattle.tree.specs.ReachLaws.{reach-all, reach-row, reach-alone}
+use Rattle.tree.proofs.Laws.Reach.{reach-all, reach-row, reach-alone}
 use native.Mathlib.Numerals.{add-one}
 use borrow.Author.Needs.{needs}
 use mathlib.Core.Path.{_∙_}

@@ -1,4 +1,4 @@
-use Rattle.tree.specs.ReachLaws.{later-named, earlier-named, none-named}
+use Rattle.tree.proofs.Laws.Reach.{later-named, earlier-named, none-named}
 use borrow.Author.Needs.{needs}
 use Rattle.tree.proofs.reach.later_row.Statement.{statement}
 use Rattle.tree.proofs.reach.later_row.Tie as tie

@@ -1,0 +1,10 @@
+-- Laws. `Text`, `Eight`, `End`, `Read`, `Part`: what the code computes. `Inside`: a success lies inside and moves forward. `Append`: bytes behind and in
+-- front of a section. `Only`: no second answer fits.
+pub mod Eight
+pub mod Text
+pub mod End
+pub mod Part
+pub mod Read
+pub mod Inside
+pub mod Append
+pub mod Only

@@ -1,0 +1,48 @@
+-- What the code computes comes to `Read`.
+use Prim.Native.Nat.{ℕ, _+_}
+use mathlib.Core.Path.{_≡_, refl}
+use mathlib.Core.Bool.{Bool, true, false, cond}
+use mathlib.Core.List.{List}
+use Rattle.numbers.specs.declared.Endian.{Endian}
+use Rattle.format.specs.Known.{known}
+use Rattle.format.specs.FormKind.{formOf}
+use Rattle.format.specs.declared.form_kind.FormKind.{FormKind}
+use Rattle.attributes.specs.End.{valueEnd}
+use Rattle.attributes.specs.Read.{ending, numbered}
+use Rattle.attributes.specs.declared.value.End.{End}
+use Rattle.attributes.specs.declared.value.End.the-variants as end
+use Rattle.attributes.specs.declared.read.Ending.{Ending}
+use Rattle.attributes.specs.declared.read.Ending.the-variants.{At, Short, Unknown}
+use Rattle.attributes.specs.declared.read.Attribute.{Attribute}
+use Rattle.attributes.specs.declared.read.Attribute.the-variants as attribute
+use Rattle.attributes.specs.Inside.Read.{ended, knownEnd}
+
+-- what it says of the attribute at `at`
+unfoldable pub asAttribute : ℕ → ℕ → ℕ → Ending → Attribute
+asAttribute at value n (At next) = attribute.Read n value next
+asAttribute at value n (Short field) = attribute.Short field
+asAttribute at value n Unknown = attribute.Unknown at
+
+module _ (vendors : List ℕ) (e : Endian) (s : List ℕ) (value n : ℕ) where
+  -- a known number, whose value's end was looked for and told
+  pub end-known : {form : FormKind} {v told : End} → known vendors n ≡ true → form ≡ formOf n → v ≡ valueEnd form e s value → v ≡ told
+      → ended told ≡ knownEnd vendors e s value n
+  unfolding knownEnd
+  end-known k f v t = rw (k, ← f, ← v, t)
+
+  pub end-unknown : known vendors n ≡ false → Unknown ≡ knownEnd vendors e s value n
+  unfolding knownEnd
+  end-unknown k = rw k
+
+as-numbered : (at value n : ℕ) (b : Bool) (v : End)
+    → asAttribute at value n (cond b (ended v) Unknown) ≡ cond b (ending n value v) (attribute.Unknown at)
+unfolding asAttribute ended ending
+as-numbered at value n true (end.At next) = refl
+as-numbered at value n true (end.Short field) = refl
+as-numbered at value n false v = refl
+
+-- what was told of the value's end says what stands at the attribute's place
+pub numbered-told : (vendors : List ℕ) (e : Endian) (s : List ℕ) (at n : ℕ) {v told : Ending} → v ≡ knownEnd vendors e s (at + 2) n → v ≡ told
+    → asAttribute at (at + 2) n told ≡ numbered vendors e s at n
+unfolding knownEnd numbered
+numbered-told vendors e s at n v t = rw (← t, v) (as-numbered at (at + 2) n (known vendors n) (valueEnd (formOf n) e s (at + 2)))

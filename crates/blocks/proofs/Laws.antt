@@ -1,0 +1,12 @@
+-- Laws. `Location` to `Subscripts`: what the code computes. `Filled`: the words of the dimensions are complete, and fill the room. `StandardRead`: the
+-- shapes that the standard writes are read back; `StandardWritten`: nothing else is taken. `Only`: no second answer fits.
+pub mod Location
+pub mod Modifiers
+pub mod Producer
+pub mod Types
+pub mod Subscript
+pub mod Subscripts
+pub mod Filled
+pub mod Only
+pub mod StandardRead
+pub mod StandardWritten

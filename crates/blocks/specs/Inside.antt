@@ -1,0 +1,2 @@
+-- What the walk over subscripts leaves.
+pub mod Subscripts

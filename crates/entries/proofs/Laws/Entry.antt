@@ -1,0 +1,293 @@
+-- What follows from `Entry`, for each way that the code comes to an entry.
+use Prim.Native.Nat.{ℕ, zero, suc, _+_, _-_, _^_, _≤_, _<_}
+use native.Mathlib.Nat.{add-zero}
+use native.Mathlib.Omega.{arith}
+use mathlib.Core.Path.{_≡_, refl, sym, ap, ap₂, _∙_, subst}
+use mathlib.Core.Bool.{Bool, true, false, cond}
+use mathlib.Core.List.{List}
+use lib.ListN.{length}
+use Rattle.numbers.specs.Value.{readAt}
+use Rattle.numbers.specs.declared.Endian.{Endian}
+use Rattle.numbers.specs.declared.Endian.the-variants.{Big, Little}
+use Rattle.format.specs.Known.{known}
+use Rattle.format.specs.TagKind as tag
+use Rattle.format.specs.declared.refusal.Reason.{Reason}
+use Rattle.format.specs.declared.refusal.Reason.the-variants as reason
+use Rattle.tables.specs.Row.{rowWords, rowsWords, attrsWords, putRow}
+use Rattle.tables.specs.declared.row.Attr.{Attr}
+use Rattle.entries.specs.Head.{headAt}
+use Rattle.entries.specs.Run.{Run, ran, failed}
+use Rattle.entries.specs.Entry.{Entry, stop, flip, littleFlag, flagOf, flagsOf, kindOf, ordinary, rooted, attributes, rootEndian, rootIn, entryFrom, entryAt}
+use Rattle.entries.specs.Inside.Promise.{HeadBounds, HeadRead, RunRead, RunStored, RunStores, runAnswer, farthest, Ready, advanced, NullRead, BodyReady, bodyAnswer, BodyStores, BodyRead, entryAnswer, EntryStores, EntryRead}
+use Rattle.entries.specs.declared.head.Head.{Head}
+use Rattle.entries.specs.declared.head.Head.the-variants as head
+use Rattle.entries.specs.declared.run.Run.the-variants as run
+use Rattle.entries.specs.declared.entry.State.{State}
+use Rattle.entries.specs.declared.entry.Shape.{Shape}
+use Rattle.entries.specs.declared.entry.Body.the-variants as body
+use Rattle.entries.specs.declared.entry.Look.the-variants as look
+use Rattle.entries.specs.declared.entry.Entry.the-variants as entry
+
+-- ---- flags and kinds
+
+pub flag-small : (on : Bool) (v : ℕ) → flagOf on v ≤ v
+unfolding flagOf
+flag-small true v = omega arith
+flag-small false v = omega arith
+
+pub little-small : (e : Endian) → littleFlag e ≤ 4
+unfolding littleFlag
+little-small Big = omega arith
+little-small Little = omega arith
+
+-- ---- the attributes, then the row
+
+-- a run that was read told what it is
+told-ran : (what : Run) (attrs : ℕ) {r : run.the-data} {place n : ℕ} {high : Bool} → r ≡ runAnswer attrs what → r ≡ run.Ran place n high
+    → (xs : List Attr) × (what ≡ ran xs high place) × (n ≡ attrs + length xs)
+unfolding runAnswer
+told-ran (ran xs h p) attrs {place = place} {n} {high} a t =
+    let same : run.Ran p (attrs + length xs) h ≡ run.Ran place n high = sym a ∙ t in
+    (xs, cc, cc)
+told-ran (failed why) attrs a t = let z : _≡_ {A = ℕ} 0 1 = cc in absurd (omega arith)
+
+told-failed : (what : Run) (attrs : ℕ) {r : run.the-data} {why : Reason} → r ≡ runAnswer attrs what → r ≡ run.Refused why → what ≡ failed why
+unfolding runAnswer
+told-failed (ran xs h p) attrs a t = let z : _≡_ {A = ℕ} 0 1 = cc in absurd (omega arith)
+told-failed (failed why′) attrs {why = why} a t = let same : run.Refused why′ ≡ run.Refused why = sym a ∙ t in cc
+
+module _ (s : List ℕ) (from : State) (ready : BodyReady s from) (shape : Shape) (what : Run) {rows₀ rows₁ attrs₀ attrs₁ : List ℕ} where
+  pub body-read : {r : run.the-data} {place n flags kind : ℕ} {high : Bool} → RunRead s (from .at + 6) (from .attrs) what r attrs₀ attrs₁ → r ≡ run.Ran place n high
+      → kind ≡ kindOf (shape .root) (shape .kind) high → flags ≡ flagsOf (shape .erased) (shape .root) (shape .endian)
+      → rows₁ ≡ putRow rows₀ (from .rows) (record { key = from .at; kind = kind; flags = flags; first = from .attrs; count = n - from .attrs })
+      → BodyRead s from shape what (body.Read (record { at = place; rows = from .rows + 1; attrs = n })) rows₀ rows₁ attrs₀ attrs₁
+  unfolding bodyAnswer rowsWords rowWords
+  body-read {r} {place} {n} {flags} {kind} {high} q t k f w =
+      let told = told-ran what (from .attrs) (q .answer) t in
+      let xs : List Attr = told .0 in
+      let is : what ≡ ran xs high place = told .1 in
+      let count : n ≡ from .attrs + length xs = told .2 in
+      let stored : RunStored s (from .at + 6) (from .attrs) xs place attrs₀ attrs₁ =
+      subst (λ (u : Run). RunStores s (from .at + 6) (from .attrs) u attrs₀ attrs₁) is (q .stores)
+      in
+      let same-count : n - from .attrs ≡ length xs = omega arith in
+      let put : ℕ → ℕ → ℕ → List ℕ =
+      λ x y z. putRow rows₀ (from .rows) (record { key = from .at; kind = x; flags = y; first = from .attrs; count = z })
+      in
+      let small : length s < 2 ^ 32 = ready .ready .small in
+      let rows-few : from .rows ≤ from .at = ready .ready .rows-few in
+      let here : place ≤ length s = stored .here in
+      let ahead : from .at + 6 ≤ place = stored .forward in
+      record {
+        answer = ap (λ (m : ℕ). body.Read (record { at = place; rows = from .rows + 1; attrs = m })) count ∙ ap (bodyAnswer from) (sym is);
+        stores =
+            subst (λ (u : Run). BodyStores s from shape u rows₀ rows₁ attrs₀ attrs₁) (sym is) (
+              record {
+                row-words =
+                    w
+                    ∙ ap (λ (x : ℕ). put x flags (n - from .attrs)) k
+                    ∙ ap (λ (x : ℕ). put (kindOf (shape .root) (shape .kind) high) x (n - from .attrs)) f
+                    ∙ ap (λ (x : ℕ). put (kindOf (shape .root) (shape .kind) high) (flagsOf (shape .erased) (shape .root) (shape .endian)) x) same-count;
+                attr-words = stored .words;
+                rows-few = omega arith;
+                attrs-few = stored .few;
+                forward = omega arith;
+                near = omega arith;
+              },
+              record { there = omega (arith, ready .here); forward = omega arith },
+            );
+      }
+
+  pub body-refused : {r : run.the-data} {why : Reason} → RunRead s (from .at + 6) (from .attrs) what r attrs₀ attrs₁ → r ≡ run.Refused why
+      → BodyRead s from shape what (body.Refused why) rows₀ rows₁ attrs₀ attrs₁
+  unfolding bodyAnswer
+  body-refused q t =
+      let is = told-failed what (from .attrs) (q .answer) t in
+      record { answer = ap (bodyAnswer from) (sym is); stores = subst (λ (u : Run). BodyStores s from shape u rows₀ rows₁ attrs₀ attrs₁) (sym is) tt }
+
+-- a count of attributes fits: it is at most the place
+pub run-few : (s : List ℕ) (at attrs : ℕ) (what : Run) {r : run.the-data} {place n : ℕ} {high : Bool} {table₀ table₁ : List ℕ} → length s < 2 ^ 32
+    → RunRead s at attrs what r table₀ table₁ → r ≡ run.Ran place n high → (attrs ≤ n) × (n < 2 ^ 32)
+run-few s at attrs what {place = place} {n} {high} {table₀} {table₁} small q t =
+    let told = told-ran what attrs (q .answer) t in
+    let xs : List Attr = told .0 in
+    let count : n ≡ attrs + length xs = told .2 in
+    let stored : RunStored s at attrs xs place table₀ table₁ = subst (λ (u : Run). RunStores s at attrs u table₀ table₁) (told .1) (q .stores) in
+    (omega arith, omega (arith, stored .few, stored .here))
+
+-- ---- an ordinary entry and an erased root
+
+abbrev pub ordinaryShape : Bool → Endian → ℕ → ℕ → Shape
+ordinaryShape isErased e kind end = record { erased = isErased; root = false; endian = e; kind = kind; end = end }
+
+abbrev pub rootShape : Endian → ℕ → Shape
+rootShape e end = record { erased = true; root = true; endian = e; kind = tag.Padding; end = end }
+
+module _ (s : List ℕ) (from : State) {rows₀ rows₁ attrs₀ attrs₁ : List ℕ} where
+  pub ordinary-read : (isErased : Bool) (e : Endian) (kind end : ℕ) (what : Run) {b : body.the-data} {to : State}
+      → BodyRead s from (ordinaryShape isErased e kind end) what b rows₀ rows₁ attrs₀ attrs₁ → b ≡ body.Read to
+      → EntryRead s from (ordinary isErased e (from .at) kind (from .attrs) what) (entry.Next to) rows₀ rows₁ attrs₀ attrs₁
+  unfolding bodyAnswer ordinary entryAnswer
+  ordinary-read isErased e kind end (ran xs high place) {b} {to} q t =
+      let same : body.Read to ≡ body.Read (advanced from 1 (length xs) place) = sym t ∙ q .answer in
+      let is : to ≡ advanced from 1 (length xs) place = cc in
+      record { answer = ap entry.Next is; stores = q .stores }
+  ordinary-read isErased e kind end (failed why) {b} {to} q t =
+      let same : body.Read to ≡ body.Refused why = sym t ∙ q .answer in
+      let z : _≡_ {A = ℕ} 0 1 = cc in
+      absurd (omega arith)
+
+  pub ordinary-refused : (isErased : Bool) (e : Endian) (kind end : ℕ) (what : Run) {b : body.the-data} {why : Reason}
+      → BodyRead s from (ordinaryShape isErased e kind end) what b rows₀ rows₁ attrs₀ attrs₁ → b ≡ body.Refused why
+      → EntryRead s from (ordinary isErased e (from .at) kind (from .attrs) what) (entry.Refused why) rows₀ rows₁ attrs₀ attrs₁
+  unfolding bodyAnswer ordinary entryAnswer
+  ordinary-refused isErased e kind end (ran xs high place) {b} {why} q t =
+      let same : body.Refused why ≡ body.Read (advanced from 1 (length xs) place) = sym t ∙ q .answer in
+      let z : _≡_ {A = ℕ} 0 1 = cc in
+      absurd (omega arith)
+  ordinary-refused isErased e kind end (failed why′) {b} {why} q t =
+      let same : body.Refused why ≡ body.Refused why′ = sym t ∙ q .answer in
+      let is : why ≡ why′ = cc in
+      record { answer = ap entry.Refused is; stores = tt }
+
+  pub rooted-read : (e : Endian) (end : ℕ) (what : Run) {b : body.the-data} {to : State} → end ≤ farthest
+      → BodyRead s from (rootShape e end) what b rows₀ rows₁ attrs₀ attrs₁ → b ≡ body.Read to
+      → EntryRead s from (rooted e (from .at) end (from .attrs) what) (entry.Inside to e end) rows₀ rows₁ attrs₀ attrs₁
+  unfolding bodyAnswer rooted entryAnswer
+  rooted-read e end (ran xs high place) {b} {to} near q t =
+      let same : body.Read to ≡ body.Read (advanced from 1 (length xs) place) = sym t ∙ q .answer in
+      let is : to ≡ advanced from 1 (length xs) place = cc in
+      record { answer = ap (λ (x : State). entry.Inside x e end) is; stores = (q .stores .0, q .stores .1, near) }
+  rooted-read e end (failed why) {b} {to} near q t =
+      let same : body.Read to ≡ body.Refused why = sym t ∙ q .answer in
+      let z : _≡_ {A = ℕ} 0 1 = cc in
+      absurd (omega arith)
+
+  pub rooted-refused : (e : Endian) (end : ℕ) (what : Run) {b : body.the-data} {why : Reason}
+      → BodyRead s from (rootShape e end) what b rows₀ rows₁ attrs₀ attrs₁ → b ≡ body.Refused why
+      → EntryRead s from (rooted e (from .at) end (from .attrs) what) (entry.Refused why) rows₀ rows₁ attrs₀ attrs₁
+  unfolding bodyAnswer rooted entryAnswer
+  rooted-refused e end (ran xs high place) {b} {why} q t =
+      let same : body.Refused why ≡ body.Read (advanced from 1 (length xs) place) = sym t ∙ q .answer in
+      let z : _≡_ {A = ℕ} 0 1 = cc in
+      absurd (omega arith)
+  rooted-refused e end (failed why′) {b} {why} q t =
+      let same : body.Refused why ≡ body.Refused why′ = sym t ∙ q .answer in
+      let is : why ≡ why′ = cc in
+      record { answer = ap entry.Refused is; stores = tt }
+
+  -- a refusal that the entry is by its definition
+  pub stopped : {what : Entry} (why : Reason) → what ≡ stop why → EntryRead s from what (entry.Refused why) rows₀ rows₁ attrs₀ attrs₁
+  unfolding entryAnswer
+  stopped why p =
+      record { answer = ap (entryAnswer from) (sym p); stores = subst (λ (w : Entry). EntryStores s from w rows₀ rows₁ attrs₀ attrs₁) (sym p) tt }
+
+  -- the same entry under another name
+  pub renamed : {what what′ : Entry} {r : entry.the-data} → what ≡ what′ → EntryRead s from what′ r rows₀ rows₁ attrs₀ attrs₁
+      → EntryRead s from what r rows₀ rows₁ attrs₀ attrs₁
+  renamed {r = r} p q = subst (λ (w : Entry). EntryRead s from w r rows₀ rows₁ attrs₀ attrs₁) (sym p) q
+
+-- ---- by head
+
+module _ (vendors : List ℕ) (global : ℕ) (s : List ℕ) (isErased : Bool) (e : Endian) (at a end : ℕ) where
+  pub nested : (levels : ℕ) → levels ≡ 0 → entryFrom vendors global s levels isErased e at a (head.Root end) ≡ stop reason.Nested
+  unfolding entryFrom
+  nested levels h = rw h
+
+  pub root-is : (levels : ℕ) {inner : Endian} → (levels ≡ 0 → ⊥) → rootEndian vendors s isErased e at ≡ look.Is inner
+      → entryFrom vendors global s levels isErased e at a (head.Root end) ≡ rooted inner at end a (attributes vendors global s inner true end at)
+  unfolding entryFrom rootIn
+  root-is zero h p = absurd (h refl)
+  root-is (suc l) h p = rw p
+
+  pub root-short : (levels : ℕ) → (levels ≡ 0 → ⊥) → rootEndian vendors s isErased e at ≡ look.Short
+      → entryFrom vendors global s levels isErased e at a (head.Root end) ≡ stop reason.Short
+  unfolding entryFrom rootIn
+  root-short zero h p = absurd (h refl)
+  root-short (suc l) h p = rw p
+
+-- the data endianness of a root
+module _ (vendors s : List ℕ) (e : Endian) (at : ℕ) where
+  pub endian-inside : {isErased : Bool} → isErased ≡ true → look.Is e ≡ rootEndian vendors s isErased e at
+  unfolding rootEndian
+  endian-inside h = rw h
+
+  pub endian-known : {isErased : Bool} (n : ℕ) → isErased ≡ false → known vendors n ≡ true
+      → look.Is (cond (known vendors n) e (flip e)) ≡ readAt (λ k. look.Is (cond (known vendors k) e (flip e))) look.Short e 2 s (at + 6)
+      → look.Is e ≡ rootEndian vendors s isErased e at
+  unfolding rootEndian
+  endian-known n h k p = rw h (ap (λ (b : Bool). look.Is (cond b e (flip e))) (sym k) ∙ p)
+
+  pub endian-flipped : {isErased : Bool} (n : ℕ) {other : Endian} → isErased ≡ false → known vendors n ≡ false → other ≡ flip e
+      → look.Is (cond (known vendors n) e (flip e)) ≡ readAt (λ k. look.Is (cond (known vendors k) e (flip e))) look.Short e 2 s (at + 6)
+      → look.Is other ≡ rootEndian vendors s isErased e at
+  unfolding rootEndian
+  endian-flipped n h k f p = rw h (ap look.Is f ∙ ap (λ (b : Bool). look.Is (cond b e (flip e))) (sym k) ∙ p)
+
+  pub endian-short : {isErased : Bool} → isErased ≡ false
+      → look.Short ≡ readAt (λ k. look.Is (cond (known vendors k) e (flip e))) look.Short e 2 s (at + 6) → look.Short ≡ rootEndian vendors s isErased e at
+  unfolding rootEndian
+  endian-short h p = rw h p
+
+-- ---- a null entry, and padding that is stepped over
+
+pub null-read : (from : State) (isErased : Bool) (e : Endian) (place : ℕ) {flags : ℕ} {rows₀ rows₁ : List ℕ} → flags ≡ flagsOf isErased false e
+    → rows₁ ≡ putRow rows₀ (from .rows) (record { key = from .at; kind = tag.Padding; flags = flags; first = from .attrs; count = 0 })
+    → NullRead from isErased e place (entry.Next (record { at = place; rows = from .rows + 1; attrs = from .attrs })) rows₀ rows₁
+unfolding rowsWords rowWords
+null-read from isErased e place {rows₀ = rows₀} f w =
+    record {
+      answer = ap (λ (n : ℕ). entry.Next (record { at = place; rows = from .rows + 1; attrs = n })) (sym (add-zero (from .attrs)));
+      words =
+          w ∙ ap (λ (x : ℕ). putRow rows₀ (from .rows) (record { key = from .at; kind = tag.Padding; flags = x; first = from .attrs; count = 0 })) f;
+    }
+
+module _ (vendors : List ℕ) (global : ℕ) (s : List ℕ) (levels : ℕ) (isErased : Bool) (e : Endian) (from : State) (ready : Ready s from) (place : ℕ) where
+  pub entry-null : {r : entry.the-data} {rows₀ rows₁ attrs₀ : List ℕ} → HeadBounds s (from .at) (head.Null place) → NullRead from isErased e place r rows₀ rows₁
+      → EntryRead s from (entryFrom vendors global s levels isErased e (from .at) (from .attrs) (head.Null place)) r rows₀ rows₁ attrs₀ attrs₀
+  unfolding entryFrom entryAnswer attrsWords
+  entry-null b q =
+      record {
+        answer = q .answer;
+        stores = (
+          record {
+            row-words = q .words;
+            attr-words = refl;
+            rows-few = omega (arith, ready .rows-few, b .1);
+            attrs-few = omega (arith, ready .attrs-few, b .1);
+            forward = omega (arith, b .1);
+            near = omega (arith, b .0, b .2, ready .small);
+          },
+          record { there = b .0; forward = b .1 },
+        );
+      }
+
+  pub entry-skipped : {rows₀ attrs₀ : List ℕ} → HeadBounds s (from .at) (head.Skipped place)
+      → EntryRead s from (entryFrom vendors global s levels isErased e (from .at) (from .attrs) (head.Skipped place))
+      (entry.Next (record { at = place; rows = from .rows; attrs = from .attrs })) rows₀ rows₀ attrs₀ attrs₀
+  unfolding entryFrom entryAnswer attrsWords rowsWords
+  entry-skipped b =
+      record {
+        answer =
+            ap₂ (λ (n m : ℕ). entry.Next (record { at = place; rows = n; attrs = m })) (sym (add-zero (from .rows))) (sym (add-zero (from .attrs)));
+        stores = (
+          record {
+            row-words = refl;
+            attr-words = refl;
+            rows-few = omega (arith, ready .rows-few, b .1);
+            attrs-few = omega (arith, ready .attrs-few, b .1);
+            forward = omega (arith, b .1);
+            near = omega (arith, b .0, b .2, ready .small);
+          },
+          record { there = b .0; forward = b .1 },
+        );
+      }
+
+-- what an entry is goes by its head
+pub at-head : (vendors : List ℕ) (global : ℕ) (s : List ℕ) (erased : Bool) (levels : ℕ) (isErased : Bool) (e : Endian) (at a : ℕ) {r h : Head}
+    → r ≡ headAt erased s e at → r ≡ h → entryAt vendors global s erased levels isErased e at a ≡ entryFrom vendors global s levels isErased e at a h
+unfolding entryAt
+at-head vendors global s erased levels isErased e at a p q = ap (entryFrom vendors global s levels isErased e at a) (sym p ∙ q)
+
+pub head-bounds : (s : List ℕ) (at : ℕ) {what r h : Head} → HeadRead s at what r → r ≡ h → HeadBounds s at h
+head-bounds s at q t = subst (HeadBounds s at) t (q .bounds)

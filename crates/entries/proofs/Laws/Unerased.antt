@@ -1,0 +1,175 @@
+-- With erased entries left out, no row that was read is erased.
+use Prim.Native.Nat.{ℕ, zero, suc, _+_, _<_}
+use native.Mathlib.Omega.{arith}
+use mathlib.Core.Path.{_≡_, refl, ap, subst, _∙_}
+use mathlib.Core.Bool.{true, false}
+use mathlib.Core.List.{List, [], _∷_, _++_}
+use lib.ListN.{length}
+use lib.Dec.{ltb, eqb}
+use Rattle.numbers.proofs.Laws.Tests.{cond-all}
+use Rattle.numbers.specs.Value.{valueOf}
+use Rattle.numbers.proofs.Laws.Value.{read-all}
+use Rattle.numbers.specs.declared.Endian.{Endian}
+use Rattle.numbers.specs.declared.Endian.the-variants.{Big, Little}
+use Rattle.format.specs.Lookup.{member}
+use Rattle.format.specs.TagKind.{tags}
+use Rattle.format.specs.TagKind as tag
+use Rattle.format.specs.Limits.{erasedLimit, sectionLimit}
+use Rattle.format.specs.Settings.{settingsHold}
+use Rattle.format.specs.declared.refusal.Reason.{Reason}
+use Rattle.format.specs.declared.settings.Settings.{Settings}
+use Rattle.format.specs.declared.refusal.Reason.the-variants as reason
+use Rattle.tables.specs.Row.{erasedRow, rowAt, rowsFrom}
+use Rattle.tables.specs.declared.row.Row.{Row}
+use Rattle.tables.specs.declared.row.Attr.{Attr}
+use Rattle.tables.specs.declared.row.Counts.{Counts}
+use Rattle.entries.specs.Head.{tagHead, sizeHead, headAt}
+use Rattle.entries.specs.Run.{Run, ran, failed}
+use Rattle.entries.specs.Entry.{Entry, next, inside, stop, flagOf, flagsOf, littleFlag, ordinary, attributes, entryFrom, entryAt}
+use Rattle.entries.specs.Walk.{Walk, walked, refused, join, andThen, onward, walkFrom, walkAt}
+use Rattle.entries.specs.Section.{wholeWalk, readSection, Outcome, untouched, refusal}
+use Rattle.entries.proofs.Laws.Filled.{answer-read}
+use Rattle.entries.proofs.Laws.KnownRun.{by-test}
+use Rattle.entries.specs.declared.head.Head.{Head}
+use Rattle.entries.specs.declared.head.Head.the-variants.{Null, Skipped, Root, Ordinary, Refused}
+use Rattle.entries.specs.declared.section.Section.the-variants.{Read}
+
+-- none of the rows is erased
+abbrev Plain : List Row → Type 0
+Plain [] = Unit
+Plain (r ∷ rs) = (erasedRow (r .flags) ≡ false) × Plain rs
+
+plain-then : (rs rs′ : List Row) → Plain rs → Plain rs′ → Plain (rs ++ rs′)
+plain-then [] rs′ p q = q
+plain-then (r ∷ rs) rs′ p q = (p .0, plain-then rs rs′ (p .1) q)
+
+plain-flags : (e : Endian) → erasedRow (flagsOf false false e) ≡ false
+unfolding erasedRow flagsOf flagOf littleFlag
+plain-flags Big = refl
+plain-flags Little = refl
+
+-- ---- an entry: with the flag off there are no roots
+
+abbrev NoRoot : Head → Type 0
+NoRoot (Root end) = ⊥
+NoRoot (Null place) = Unit
+NoRoot (Skipped place) = Unit
+NoRoot (Ordinary kind end) = Unit
+NoRoot (Refused why) = Unit
+
+no-root : (s : List ℕ) (e : Endian) (at : ℕ) → NoRoot (headAt false s e at)
+unfolding headAt sizeHead tagHead
+no-root s e at =
+    let size : ℕ = valueOf e 4 s at in
+    read-all (sizeHead false s e at) (Refused reason.Short) e 4 s at NoRoot
+    (λ t. cond-all NoRoot (ltb size 8) (λ few. tt)
+    (λ some. read-all (tagHead false (at + size)) (Refused reason.Short) e 2 s (at + 4) NoRoot
+    (λ u. cond-all NoRoot (member (valueOf e 2 s (at + 4)) tags)
+    (λ k. cond-all NoRoot (eqb (valueOf e 2 s (at + 4)) tag.Padding) (λ p. tt) (λ p. tt))
+    (λ k. tt))
+    (λ u. tt)))
+    (λ t. tt)
+
+abbrev EntryPlain : Entry → Type 0
+EntryPlain (next rs xs place) = Plain rs
+EntryPlain (inside r xs place e end) = ⊥
+EntryPlain (stop why) = Unit
+
+ordinary-plain : (e : Endian) (at kind a : ℕ) (r : Run) → EntryPlain (ordinary false e at kind a r)
+unfolding ordinary
+ordinary-plain e at kind a (ran xs high place) = (plain-flags e, tt)
+ordinary-plain e at kind a (failed why) = tt
+
+entry-from-plain : (vendors : List ℕ) (global : ℕ) (s : List ℕ) (levels : ℕ) (e : Endian) (at a : ℕ) (h : Head) → NoRoot h
+    → EntryPlain (entryFrom vendors global s levels false e at a h)
+unfolding entryFrom
+entry-from-plain vendors global s levels e at a (Null place) p = (plain-flags e, tt)
+entry-from-plain vendors global s levels e at a (Skipped place) p = tt
+entry-from-plain vendors global s levels e at a (Root end) p = absurd p
+entry-from-plain vendors global s levels e at a (Ordinary kind end) p = ordinary-plain e at kind a (attributes vendors global s e false end at)
+entry-from-plain vendors global s levels e at a (Refused why) p = tt
+
+entry-plain : (vendors : List ℕ) (global : ℕ) (s : List ℕ) (levels : ℕ) (e : Endian) (at a : ℕ) → EntryPlain (entryAt vendors global s false levels false e at a)
+unfolding entryAt
+entry-plain vendors global s levels e at a = entry-from-plain vendors global s levels e at a (headAt false s e at) (no-root s e at)
+
+-- ---- a walk
+
+abbrev WalkPlain : Walk → Type 0
+WalkPlain (walked rs xs place) = Plain rs
+WalkPlain (refused why place) = Unit
+
+join-plain : (rs : List Row) (xs : List Attr) (w : Walk) → Plain rs → WalkPlain w → WalkPlain (join rs xs w)
+unfolding join
+join-plain rs xs (walked rs′ xs′ last) p q = plain-then rs rs′ p q
+join-plain rs xs (refused why last) p q = tt
+
+onward-plain : (within : Endian → ℕ → ℕ → ℕ → Walk) (at a : ℕ) (x : Entry) (k : ℕ → ℕ → Walk) → EntryPlain x → ((b at′ : ℕ) → WalkPlain (k b at′))
+    → WalkPlain (onward within at a x k)
+unfolding onward andThen
+onward-plain within at a (next rs xs place) k p q = join-plain rs xs (k (a + length xs) place) p (q (a + length xs) place)
+onward-plain within at a (inside r xs place e end) k p q = absurd p
+onward-plain within at a (stop why) k p q = tt
+
+from-plain : (vendors : List ℕ) (global : ℕ) (s : List ℕ) (within : Endian → ℕ → ℕ → ℕ → Walk) (levels : ℕ) (e : Endian) (end f a at : ℕ)
+    → WalkPlain (walkFrom vendors global false s within levels false e end f a at)
+unfolding walkFrom
+from-plain vendors global s within levels e end zero a at = tt
+from-plain vendors global s within levels e end (suc f) a at =
+    by-test (ltb at end)
+    (λ t. rw (t, walkFrom)
+    (onward-plain within at a (entryAt vendors global s false levels false e at a) (λ b at′. walkFrom vendors global false s within levels false e end f b at′)
+    (entry-plain vendors global s levels e at a) (λ b at′. from-plain vendors global s within levels e end f b at′)))
+    (λ t. rw (t, walkFrom) tt)
+
+walk-plain : (vendors : List ℕ) (global : ℕ) (s : List ℕ) (levels : ℕ) (e : Endian) (end a at : ℕ)
+    → WalkPlain (walkAt vendors global false s levels false e end a at)
+unfolding walkAt
+walk-plain vendors global s zero e end a at = from-plain vendors global s (λ e′ end′ b at′. refused reason.Nested at′) zero e end (suc (length s)) a at
+walk-plain vendors global s (suc l) e end a at =
+    from-plain vendors global s (λ e′ end′ b at′. walkAt vendors global false s l true e′ end′ b at′) (suc l) e end (suc (length s)) a at
+
+whole-plain : (settings : Settings) (vendors s : List ℕ) → settings .erased ≡ false → WalkPlain (wholeWalk settings vendors s)
+unfolding wholeWalk
+whole-plain settings vendors s off = rw off (walk-plain vendors (settings .roles .«global_ref») s erasedLimit (settings .endian) (length s) 0 0)
+
+-- ---- the theorem
+
+plain-row : (t : List ℕ) (i : ℕ) (rs : List Row) → Plain rs → rowsFrom t i (length rs) ≡ rs → (j : ℕ) → j < length rs → erasedRow (rowAt t (i + j) .flags) ≡ false
+unfolding rowsFrom
+plain-row t i (r ∷ rs) p q zero h =
+    let here : rowAt t i ≡ r = cc in
+    let place : i + 0 ≡ i = omega arith in
+    ap (λ (k : ℕ). erasedRow (rowAt t k .flags)) place ∙ ap (λ (x : Row). erasedRow (x .flags)) here ∙ p .0
+plain-row t i (r ∷ rs) p q (suc j) h =
+    let others : rowsFrom t (suc i) (length rs) ≡ rs = cc in
+    let place : i + suc j ≡ suc i + j = omega arith in
+    ap (λ (k : ℕ). erasedRow (rowAt t k .flags)) place ∙ plain-row t (suc i) rs (p .1) others j (omega arith)
+
+-- read with erased entries left out, no row of the table is erased
+pub none-erased : (settings : Settings) (vendors sizes s rows attrs : List ℕ) (c : Counts) → settings .erased ≡ false
+    → readSection settings vendors sizes s rows attrs .answer ≡ Read c → (j : ℕ) → j < c .rows
+    → erasedRow (rowAt (readSection settings vendors sizes s rows attrs .rows) j .flags) ≡ false
+none-erased settings vendors sizes s rows attrs c off answers j h =
+    let filled = answer-read settings vendors sizes s rows attrs c answers in
+    let counted : c .rows ≡ length (filled .rs) = ap (λ (d : Counts). d .rows) (filled .counted) in
+    let place : j ≡ 0 + j = omega arith in
+    ap (λ (k : ℕ). erasedRow (rowAt (readSection settings vendors sizes s rows attrs .rows) k .flags)) place
+    ∙ plain-row (readSection settings vendors sizes s rows attrs .rows) 0 (filled .rs) (subst WalkPlain (filled .whole) (whole-plain settings vendors s off))
+    (filled .rows-held) j (omega arith)
+
+-- ---- an answer passed the tests of settings and length
+
+module _ (settings : Settings) (vendors sizes s rows attrs : List ℕ) (c : Counts) where
+  abbrev Passing : Outcome → Type 0
+  Passing o = o .answer ≡ Read c → (settingsHold settings vendors sizes ≡ true) × (ltb (length s) sectionLimit ≡ true)
+
+  refused-passes : (why : Reason) (at : ℕ) → Passing (untouched (refusal why at) rows attrs)
+  refused-passes why at p = let z : _≡_ {A = ℕ} 0 1 = cc in absurd (omega arith)
+
+  pub answer-tested : readSection settings vendors sizes s rows attrs .answer ≡ Read c
+      → (settingsHold settings vendors sizes ≡ true) × (ltb (length s) sectionLimit ≡ true)
+  unfolding readSection
+  answer-tested =
+      cond-all Passing (settingsHold settings vendors sizes)
+      (λ t. cond-all Passing (ltb (length s) sectionLimit) (λ u p. (t, u)) (λ u. refused-passes reason.Long 0)) (λ t. refused-passes reason.Settings 0)

@@ -1,0 +1,2 @@
+-- The theorem that every example holds, computed.
+pub mod Examples

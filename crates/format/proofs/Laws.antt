@@ -1,0 +1,9 @@
+-- Laws. `Lookup`, `Sixteen`, `Form`, `Settings`: what the code computes. `Computed`: a test that is computed over a whole table. `Refusal`: a reason is
+-- that of its number. `Only`: no second answer fits.
+pub mod Refusal
+pub mod Lookup
+pub mod Sixteen
+pub mod Computed
+pub mod Form
+pub mod Settings
+pub mod Only

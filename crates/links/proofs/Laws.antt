@@ -1,0 +1,11 @@
+-- Laws. `Attribute` to `Typed`: for each way that the code comes to an answer. `There`: in a table that passed the table test, what a typed lookup finds
+-- is wholly there. `Endless`: the walk is refused exactly when it would never end. `Only`: no second answer fits.
+pub mod Neighbour
+pub mod Attribute
+pub mod Link
+pub mod Children
+pub mod Kids
+pub mod Typed
+pub mod There
+pub mod Endless
+pub mod Only

@@ -1,0 +1,4 @@
+-- How the code goes about it: `Links` (a row of a tested table), `Kids` (children one at a time), `Children` (how they are gathered).
+pub mod Links
+pub mod Kids
+pub mod Children

@@ -1,0 +1,42 @@
+-- How the code gathers children: one walk that counts on empty room and fills lent room.
+use Prim.Native.Nat.{ℕ, _+_, _^_, _<_}
+use mathlib.Core.Path.{_≡_}
+use mathlib.Core.Bool.{cond}
+use mathlib.Core.List.{List, []}
+use lib.ListN.{length, set}
+use lib.Seq.{sets}
+use Rattle.links.specs.Walk.{Walk, ends, endless}
+use Rattle.links.specs.Links.{nullRow, nonNull}
+use Rattle.links.specs.Inside.Links.{Rows}
+use Rattle.links.specs.declared.children.Kids.{Kids}
+use Rattle.links.specs.declared.children.Kids.the-variants.{Count, Endless}
+
+-- the children of a walk after k others: how many in all, and the room with them, as far as they fit
+pub record Filled : Type 0 where
+  pub answer : Kids
+  pub room : List ℕ
+
+-- of an endless walk there is nothing to count
+unfoldable pub filled : List ℕ → ℕ → List ℕ → Walk → Filled
+filled rows k room (ends cs) = record { answer = Count (k + length (nonNull rows cs)); room = sets room k (nonNull rows cs) }
+filled rows k room endless = record { answer = Endless; room = [] }
+
+-- what gathering answers; of an endless walk's room nothing is said, since that walk is only made on room of no words
+pub record Gathers (o : Filled) (r : Kids) (room : List ℕ) : Type 0 where
+  pub answer-is : r ≡ o .answer
+  pub room-is : (k : ℕ) → r ≡ Count k → room ≡ o .room
+
+-- one row: counted and stored unless it is a null entry
+pub record Takes (rows : List ℕ) (c k r : ℕ) (room room′ : List ℕ) : Type 0 where
+  pub count-is : r ≡ cond (nullRow rows c) k (k + 1)
+  pub room-is : room′ ≡ cond (nullRow rows c) room (set room k c)
+
+-- a row number and a count that a word can hold
+pub record Small (c k : ℕ) : Type 0 where
+  pub row-small : c < 2 ^ 32
+  pub count-small : k + 1 < 2 ^ 64
+
+-- a row of a table that is small enough
+pub record Asked (rows : List ℕ) (n i : ℕ) : Type 0 where
+  pub table : Rows rows n
+  pub there : i < n

@@ -1,0 +1,19 @@
+-- Laws. `Taken` to `Typedef`: for each way that the code comes to an answer. `UnionFilled`, `EnumerationFilled`: what a room then holds. `TypedefWords`:
+-- document 01's own words of a typedef come to the same. `Only`: no second answer fits.
+pub mod Taken
+pub mod Scan
+pub mod Fields
+pub mod Front
+pub mod Record
+pub mod Member
+pub mod Variable
+pub mod OverlayBranch
+pub mod MemberWords
+pub mod Unions
+pub mod Elements
+pub mod Enumeration
+pub mod Typedef
+pub mod Only
+pub mod UnionFilled
+pub mod EnumerationFilled
+pub mod TypedefWords

@@ -1,0 +1,230 @@
+-- What follows from `Fields`, for each way that the code comes to an answer.
+use Prim.Native.Nat.{ℕ, zero, suc, _+_, _-_, _≤_, _<_}
+use native.Mathlib.Nat.{not-suc-le-zero}
+use native.Mathlib.Omega.{arith}
+use mathlib.Core.Path.{_≡_, refl, sym, ap, _∙_}
+use mathlib.Core.Bool.{Bool, true, false, cond}
+use mathlib.Core.List.{List}
+use borrow.Author.Tests.{eq-eqb, ne-eqb}
+use Rattle.format.specs.FormKind.{formOf}
+use Rattle.format.specs.AttributeKind as attribute
+use Rattle.format.specs.declared.form_kind.FormKind.{FormKind}
+use Rattle.format.specs.declared.refusal.Refusal.{Refusal}
+use Rattle.format.specs.declared.refusal.Reason.the-variants as reason
+use Rattle.attributes.specs.Text.{zeroFrom}
+use Rattle.attributes.specs.Parts.{blockAt}
+use Rattle.blocks.specs.Location.{offsetOf, addressOf}
+use Rattle.blocks.specs.Types.{typeAt}
+use Rattle.blocks.specs.declared.location.Located.{Located}
+use Rattle.blocks.specs.declared.location.Located.the-variants as located
+use Rattle.blocks.specs.declared.types.Typed.{Typed}
+use Rattle.blocks.specs.declared.types.Typed.the-variants as typed
+use Rattle.tables.specs.Check.{refusedAt}
+use Rattle.tables.specs.declared.find.Found.{Found}
+use Rattle.tables.specs.declared.find.Found.the-variants as found
+use Rattle.links.specs.Typed.{wordAt}
+use Rattle.links.specs.declared.typed.Value.{Value}
+use Rattle.records.proofs.Laws.Taken.{by-case, test-passed, test-failed}
+use Rattle.records.specs.Scan.{attributeAt}
+use Rattle.records.specs.Fields.{isSought, lastFrom, lastOf, textOf, nameBy, nameOf, replaced, typeBy, typeOf, asOffset, offsetIn, offsetBy, offsetField, asAddress, addressIn, addressBy, addressField, asWord, wordIn, wordBy, wordOf, needed, withByteSize, byteSized, visibilityBy, visibilityIn, visibilityOf}
+use Rattle.records.specs.declared.scan.Run.{Run}
+use Rattle.records.specs.declared.scan.Attribute.{Attribute}
+use Rattle.records.specs.declared.fields.Sought.{Sought}
+use Rattle.records.specs.declared.fields.Sought.the-variants as sought
+use Rattle.records.specs.declared.fields.Text.{Text}
+use Rattle.records.specs.declared.fields.Name.{Name}
+use Rattle.records.specs.declared.fields.Name.the-variants as name
+use Rattle.records.specs.declared.fields.Word.{Word}
+use Rattle.records.specs.declared.fields.Word.the-variants as word
+use Rattle.records.specs.declared.fields.Needed.{Needed}
+use Rattle.records.specs.declared.fields.Needed.the-variants as need
+use Rattle.records.specs.declared.fields.Visibility.{Visibility}
+use Rattle.records.specs.declared.fields.Visibility.the-variants as visibility
+
+-- what the code was told decides a definition that goes by it
+pub by-told : {A B : Type 0} (f : A → B) {told x y : A} {r : B} → told ≡ x → told ≡ y → r ≡ f y → r ≡ f x
+by-told f is p h = by-case f (sym is ∙ p) h
+
+-- ---- the last that is sought
+
+module _ (what : Sought) (attrs : List ℕ) (first : ℕ) where
+  -- the last of k decides, or those before it do
+  step : (k : ℕ) → 0 < k → {a : Attribute} {b : Bool} → a ≡ attributeAt attrs (first + (k - 1)) → b ≡ isSought what (a .number)
+      → cond b (found.At (first + (k - 1))) (lastFrom what attrs first (k - 1)) ≡ lastFrom what attrs first k
+  unfolding lastFrom
+  step zero h p q = absurd (not-suc-le-zero h)
+  step (suc n) h p q =
+      let before : suc n - 1 ≡ n = omega arith in
+      rw (q, p, before)
+
+  module _ (k : ℕ) (h : 0 < k) {a : Attribute} {b : Bool} (p : a ≡ attributeAt attrs (first + (k - 1))) (q : b ≡ isSought what (a .number)) where
+    pub last-here : b ≡ true → found.At (first + (k - 1)) ≡ lastFrom what attrs first k
+    last-here t = test-passed refl (lastFrom what attrs first (k - 1)) t refl ∙ step k h p q
+
+    pub last-before : b ≡ false → lastFrom what attrs first (k - 1) ≡ lastFrom what attrs first k
+    last-before t = test-failed refl (found.At (first + (k - 1))) t refl ∙ step k h p q
+
+  pub last-nowhere : (k : ℕ) → k ≤ 0 → found.Nothing ≡ lastFrom what attrs first k
+  unfolding lastFrom
+  last-nowhere zero h = refl
+  last-nowhere (suc n) h = absurd (not-suc-le-zero h)
+
+-- ---- texts
+
+pub text-is : (s : List ℕ) (at : ℕ) {z : ℕ} → z ≡ zeroFrom s at → record { place = at; length = z - at } ≡ textOf s at
+unfolding textOf
+text-is s at p = ap (λ (z : ℕ). record { place = at; length = z - at }) p
+
+module _ (s attrs : List ℕ) (run : Run) (number : ℕ) {told : Found} (is : told ≡ lastOf (sought.Number number) attrs run) where
+  pub name-there : {k : ℕ} {a : Attribute} {text : Text} → told ≡ found.At k → a ≡ attributeAt attrs k → text ≡ textOf s (a .value)
+      → name.Is text ≡ nameOf s attrs run number
+  unfolding nameOf nameBy
+  name-there p q h = by-told (nameBy s attrs) is p (ap name.Is (h ∙ ap (λ (x : Attribute). textOf s (x .value)) q))
+
+  pub name-none : told ≡ found.Nothing → name.Nothing ≡ nameOf s attrs run number
+  unfolding nameOf nameBy
+  name-none p = by-told (nameBy s attrs) is p refl
+
+-- ---- numbers
+
+module _ (s attrs : List ℕ) (run : Run) {told : Found} where
+  pub word-there : {k : ℕ} {w : Word} → told ≡ found.At k → w ≡ wordIn s run (attributeAt attrs k) → w ≡ wordBy s attrs run told
+  unfolding wordBy
+  word-there p h = h ∙ ap (wordBy s attrs run) (sym p)
+
+  pub word-none : told ≡ found.Nothing → word.Nothing ≡ wordBy s attrs run told
+  unfolding wordBy
+  word-none p = ap (wordBy s attrs run) (sym p)
+
+pub word-last : (s attrs : List ℕ) (run : Run) (number : ℕ) {told : Found} {w : Word} → told ≡ lastOf (sought.Number number) attrs run
+    → w ≡ wordBy s attrs run told → w ≡ wordOf s attrs run number
+unfolding wordOf
+word-last s attrs run number is h = h ∙ ap (wordBy s attrs run) is
+
+-- ---- types
+
+pub replaced-refused : (key : ℕ) {t : Typed} {why why′ : Refusal} → t ≡ typed.Refused why → why′ ≡ refusedAt key (why .reason)
+    → typed.Refused why′ ≡ replaced key t
+unfolding replaced
+replaced-refused key p q = ap typed.Refused q ∙ ap (replaced key) (sym p)
+
+module _ (s attrs : List ℕ) (run : Run) {told : Found} where
+  pub type-there : {k : ℕ} {a : Attribute} {t r : Typed} → told ≡ found.At k → a ≡ attributeAt attrs k
+      → t ≡ typeAt (run .ends) s (a .number) (a .value) → r ≡ replaced (run .key) t → r ≡ typeBy s attrs run told
+  unfolding typeBy
+  type-there p q h g =
+      g ∙ ap (replaced (run .key)) (h ∙ ap (λ (x : Attribute). typeAt (run .ends) s (x .number) (x .value)) q) ∙ ap (typeBy s attrs run) (sym p)
+
+  pub type-none : {why : Refusal} → told ≡ found.Nothing → why ≡ refusedAt (run .key) reason.Missing → typed.Refused why ≡ typeBy s attrs run told
+  unfolding typeBy
+  type-none p q = ap typed.Refused q ∙ ap (typeBy s attrs run) (sym p)
+
+pub type-last : (s attrs : List ℕ) (run : Run) {told : Found} {t : Typed} → told ≡ lastOf sought.Type attrs run → t ≡ typeBy s attrs run told
+    → t ≡ typeOf s attrs run
+unfolding typeOf
+type-last s attrs run is h = h ∙ ap (typeBy s attrs run) is
+
+-- ---- locations
+
+module _ (run : Run) (block : List ℕ) {told : Located} where
+  pub offset-is : told ≡ offsetOf (run .ends .section) block → {x : ℕ} → told ≡ located.Is x → need.Is x ≡ offsetIn run block
+  unfolding offsetIn asOffset
+  offset-is is p = ap (asOffset (run .key)) (sym p ∙ is)
+
+  pub offset-refused : told ≡ offsetOf (run .ends .section) block → {why why′ : Refusal} → told ≡ located.Refused why
+      → why′ ≡ refusedAt (run .key) (why .reason) → need.Refused why′ ≡ offsetIn run block
+  unfolding offsetIn asOffset
+  offset-refused is p q = ap need.Refused q ∙ ap (asOffset (run .key)) (sym p ∙ is)
+
+  pub address-is : told ≡ addressOf (run .ends .section) block → {x : ℕ} → told ≡ located.Is x → word.Is x ≡ addressIn run block
+  unfolding addressIn asAddress
+  address-is is p = ap asAddress (sym p ∙ is)
+
+  pub address-refused : told ≡ addressOf (run .ends .section) block → {why : Refusal} → told ≡ located.Refused why → word.Nothing ≡ addressIn run block
+  unfolding addressIn asAddress
+  address-refused is p = ap asAddress (sym p ∙ is)
+
+module _ (s attrs : List ℕ) (run : Run) {told : Found} (is : told ≡ lastOf (sought.Number attribute.Location) attrs run) where
+  module _ {k : ℕ} {a : Attribute} {block : List ℕ} (p : told ≡ found.At k) (q : a ≡ attributeAt attrs k)
+      (b : block ≡ blockAt (run .ends .«data») 2 s (a .value)) where
+    block-is : block ≡ blockAt (run .ends .«data») 2 s (attributeAt attrs k .value)
+    block-is = b ∙ ap (λ (x : Attribute). blockAt (run .ends .«data») 2 s (x .value)) q
+
+    pub offset-there : {n : Needed} → n ≡ offsetIn run block → n ≡ offsetField s attrs run
+    unfolding offsetField offsetBy
+    offset-there h = by-told (offsetBy s attrs run) is p (h ∙ ap (offsetIn run) block-is)
+
+    pub address-there : {w : Word} → w ≡ addressIn run block → w ≡ addressField s attrs run
+    unfolding addressField addressBy
+    address-there h = by-told (addressBy s attrs run) is p (h ∙ ap (addressIn run) block-is)
+
+  pub offset-none : {why : Refusal} → told ≡ found.Nothing → why ≡ refusedAt (run .key) reason.Missing → need.Refused why ≡ offsetField s attrs run
+  unfolding offsetField offsetBy
+  offset-none p q = by-told (offsetBy s attrs run) is p (ap need.Refused q)
+
+  pub address-none : told ≡ found.Nothing → word.Nothing ≡ addressField s attrs run
+  unfolding addressField addressBy
+  address-none p = by-told (addressBy s attrs run) is p refl
+
+-- ---- numbers
+
+pub word-in : (s : List ℕ) (run : Run) {a b : Attribute} {form : FormKind} {v : Value} {w : Word} → a ≡ b → form ≡ formOf (a .number)
+    → v ≡ wordAt form s (record { at = a .value; ends = run .ends }) → w ≡ asWord v → w ≡ wordIn s run b
+unfolding wordIn
+word-in s run {a} p f v h =
+    h ∙ ap asWord (v ∙ ap (λ (x : FormKind). wordAt x s (record { at = a .value; ends = run .ends })) f) ∙ ap (wordIn s run) p
+
+pub needed-none : (key : ℕ) {w : Word} {why : Refusal} → w ≡ word.Nothing → why ≡ refusedAt key reason.Missing → need.Refused why ≡ needed key w
+unfolding needed
+needed-none key p q = ap need.Refused q ∙ ap (needed key) (sym p)
+
+pub needed-told : (key : ℕ) {told : Needed} {w v : Word} → w ≡ v → told ≡ needed key w → told ≡ needed key v
+needed-told key p is = is ∙ ap (needed key) p
+
+-- ---- visibility
+
+pub is-private : (number : ℕ) → number ≡ attribute.Private → visibility.Private ≡ visibilityBy number
+unfolding visibilityBy
+is-private number h = rw (eq-eqb number attribute.Private h)
+
+module _ (number : ℕ) (other : number ≡ attribute.Private → ⊥) where
+  pub is-protected : number ≡ attribute.Protected → visibility.Protected ≡ visibilityBy number
+  unfolding visibilityBy
+  is-protected h = rw (ne-eqb number attribute.Private other, eq-eqb number attribute.Protected h)
+
+  pub is-public : (number ≡ attribute.Protected → ⊥) → visibility.Public ≡ visibilityBy number
+  unfolding visibilityBy
+  is-public h = rw (ne-eqb number attribute.Private other, ne-eqb number attribute.Protected h)
+
+module _ (attrs : List ℕ) (run : Run) {told : Found} (is : told ≡ lastOf sought.Visibility attrs run) where
+  pub visibility-there : {k : ℕ} {a : Attribute} {v : Visibility} → told ≡ found.At k → a ≡ attributeAt attrs k → v ≡ visibilityBy (a .number)
+      → v ≡ visibilityOf attrs run
+  unfolding visibilityOf visibilityIn
+  visibility-there p q h = by-told (visibilityIn attrs) is p (h ∙ ap (λ (x : Attribute). visibilityBy (x .number)) q)
+
+  pub visibility-none : told ≡ found.Nothing → visibility.Public ≡ visibilityOf attrs run
+  unfolding visibilityOf visibilityIn
+  visibility-none p = by-told (visibilityIn attrs) is p refl
+
+-- ---- a name, and a ByteSize that is needed
+
+module _ {A : Type 0} (refused : Refusal → A) (answer : Name → ℕ → A) (s attrs : List ℕ) (run : Run) where
+  module _ {w : Word} {told : Needed} (q : w ≡ wordOf s attrs run attribute.ByteSize) (is : told ≡ needed (run .key) w) where
+    pub byte-size-there : {size : ℕ} {n : Name} → told ≡ need.Is size → n ≡ nameOf s attrs run attribute.Name → answer n size ≡ byteSized refused answer s attrs run
+    unfolding byteSized withByteSize
+    byte-size-there {size} p h = by-told (withByteSize refused answer s attrs run) (needed-told (run .key) q is) p (ap (λ (x : Name). answer x size) h)
+
+    pub byte-size-missing : {why : Refusal} → told ≡ need.Refused why → refused why ≡ byteSized refused answer s attrs run
+    unfolding byteSized withByteSize
+    byte-size-missing p = by-told (withByteSize refused answer s attrs run) (needed-told (run .key) q is) p refl
+
+  -- what holds of both answers
+  with-byte-size : (P : A → Type 0) → ((n : Name) (size : ℕ) → P (answer n size)) → ((why : Refusal) → P (refused why))
+      → (x : Needed) → P (withByteSize refused answer s attrs run x)
+  unfolding withByteSize
+  with-byte-size P f g (need.Is size) = f (nameOf s attrs run attribute.Name) size
+  with-byte-size P f g (need.Refused why) = g why
+
+  pub byte-sized-all : (P : A → Type 0) → ((n : Name) (size : ℕ) → P (answer n size)) → ((why : Refusal) → P (refused why)) → P (byteSized refused answer s attrs run)
+  unfolding byteSized
+  byte-sized-all P f g = with-byte-size P f g (needed (run .key) (wordOf s attrs run attribute.ByteSize))

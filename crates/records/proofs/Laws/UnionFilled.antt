@@ -1,0 +1,137 @@
+-- Where a union is read, its members are there: as many as it says, their records one after the other at the front of the room, and what lies behind is as it was.
+use Prim.Native.Nat.{ℕ, _+_, _*_, _/_, _≤_}
+use native.Mathlib.Omega.{arith}
+use mathlib.Core.Path.{_≡_, refl, sym, ap, ap₂, _∙_, subst}
+use mathlib.Core.Bool.{Bool, true, false, cond}
+use mathlib.Core.List.{List, [], _∷_, _++_}
+use lib.ListN.{length, take, drop, length-append}
+use lib.Seq.{sets-eq, take-at, drop-at}
+use lib.Dec.{leb}
+use borrow.Author.Tests.{leb-true, le-leb}
+use Rattle.format.specs.declared.settings.Settings.{Settings}
+use Rattle.tables.specs.declared.row.Counts.{Counts}
+use Rattle.links.specs.Typed.{inRow}
+use Rattle.links.proofs.Laws.Typed.{in-row, no-row, keyed-asked, keyed-key}
+use Rattle.links.specs.declared.typed.Keyed.{Keyed}
+use Rattle.links.specs.declared.typed.Keyed.the-variants as keyed
+use Rattle.records.specs.MemberWords.{memberWidth, memberWords}
+use Rattle.records.proofs.Laws.MemberWords.{words-wide}
+use Rattle.records.specs.Unions.{Placed, Members, members, refused, rowMembers, unionAt, membersWords, Outcome, membersInto, intoRoom, unionBy, UnionGiven}
+use Rattle.records.proofs.Laws.Unions.{AsMany, union-counts}
+use Rattle.records.specs.declared.unions.Union.{Union}
+use Rattle.records.specs.declared.unions.UnionWhole.{UnionWhole}
+use Rattle.records.specs.declared.unions.UnionWhole.the-variants as whole
+use Rattle.records.specs.declared.unions.UnionRead.{UnionRead}
+use Rattle.records.specs.declared.unions.UnionRead.the-variants.{Is, Refused, Room}
+use Rattle.records.specs.UnionFilled.{Filled}
+
+-- ---- what the answer tells
+
+abbrev isUnion : Union → UnionRead → Type 0
+isUnion u (Is v) = v ≡ u
+isUnion u (Refused why) = ⊥
+isUnion u (Room k) = ⊥
+
+into-answer : (room : List ℕ) (all : Members) (answer : UnionRead) → membersInto room all answer .answer ≡ answer
+unfolding membersInto
+into-answer room (members ms) answer = refl
+into-answer room (refused why) answer = refl
+
+module _ (room : List ℕ) (all : Members) where
+  -- a union was read whole, and its members fit
+  record Fits (w : UnionWhole) (u : Union) : Type 0 where
+    read : w ≡ whole.Is u
+    room-enough : u .members ≤ length room / memberWidth
+
+  fits-by : (v : Union) {u : Union} (b : Bool) → leb (v .members) (length room / memberWidth) ≡ b
+      → cond b (membersInto room all (Is v)) (record { answer = Room (v .members); room = room }) .answer ≡ Is u → Fits (whole.Is v) u
+  fits-by v {u} true h p =
+      let same : v ≡ u = subst (isUnion u) (sym p ∙ into-answer room all (Is v)) refl in
+      record {
+        read = ap whole.Is same;
+        room-enough = subst (λ (x : Union). x .members ≤ length room / memberWidth) same (leb-true (v .members) (length room / memberWidth) h);
+      }
+  fits-by v {u} false h p = absurd (subst (isUnion u) (sym p) refl)
+
+  fits : (w : UnionWhole) {u : Union} → intoRoom room all w .answer ≡ Is u → Fits w u
+  unfolding intoRoom
+  fits (whole.Is v) p = fits-by v (leb (v .members) (length room / memberWidth)) refl p
+  fits (whole.Refused why) {u} p = absurd (subst (isUnion u) (sym p) refl)
+
+-- ---- what the room holds
+
+words-long : (ms : List Placed) → length (membersWords ms) ≡ length ms * memberWidth
+unfolding membersWords
+words-long [] = refl
+words-long (m ∷ ms) =
+    let wide : length (memberWords (m .row) (m .member)) ≡ memberWidth = words-wide (m .row) (m .member) in
+    let rest : length (membersWords ms) ≡ length ms * memberWidth = words-long ms in
+    let both : length (memberWords (m .row) (m .member) ++ membersWords ms) ≡ length (memberWords (m .row) (m .member)) + length (membersWords ms) =
+    length-append (memberWords (m .row) (m .member)) (membersWords ms)
+    in
+    omega arith
+
+module _ (room : List ℕ) {all : Members} {w : UnionWhole} {u : Union} (f : Fits room all w u) (these : AsMany all u) where
+  long : length (membersWords (these .list)) ≡ u .members * memberWidth
+  long = words-long (these .list) ∙ ap (λ (k : ℕ). k * memberWidth) (these .many)
+
+  filled-room : intoRoom room all w .room ≡ membersWords (these .list) ++ drop (u .members * memberWidth) room
+  unfolding intoRoom membersInto
+  filled-room =
+      let much : length (membersWords (these .list)) ≡ u .members * memberWidth = long in
+      let enough : u .members ≤ length room / memberWidth = f .room-enough in
+      let at : 0 + length (membersWords (these .list)) ≡ u .members * memberWidth = omega arith in
+      ap₂ (λ (x : Members) (y : UnionWhole). intoRoom room x y .room) (these .are) (f .read)
+      ∙ ap (λ (b : Bool). cond b (membersInto room (members (these .list)) (Is u)) (record { answer = Room (u .members); room = room }) .room) (le-leb (u .members) (length room / memberWidth) enough)
+      ∙ sets-eq (membersWords (these .list)) room 0 (omega arith)
+      ∙ ap (λ (k : ℕ). membersWords (these .list) ++ drop k room) at
+
+-- ---- the theorem
+
+module _ (settings : Settings) (vendors sizes s rows attrs : List ℕ) (counts : Counts) (key : ℕ) (room : List ℕ) {r : UnionRead} {room′ : List ℕ} {u : Union}
+    (g : UnionGiven (unionBy settings vendors sizes s rows attrs counts key room) r room′) (p : r ≡ Is u) where
+  abbrev all : ℕ → Members
+  all i = rowMembers settings s rows attrs (counts .rows) i
+
+  abbrev union : ℕ → UnionWhole
+  union i = unionAt settings s rows attrs (counts .rows) i
+
+  abbrev end : ℕ
+  end = u .members * memberWidth
+
+  by-key : (told : Keyed) → told ≡ inRow settings vendors sizes s rows attrs counts key keyed.Refused keyed.Row
+      → Filled settings s rows attrs (counts .rows) key u room room′
+  unfolding unionBy
+  by-key (keyed.Row i) is =
+      let same : intoRoom room (all i) (union i) ≡ unionBy settings vendors sizes s rows attrs counts key room =
+      in-row settings vendors sizes s rows attrs counts key is (λ why. record { answer = Refused why; room = room })
+      (λ j. intoRoom room (all j) (union j)) refl
+      in
+      let f : Fits room (all i) (union i) u =
+      fits room (all i) (union i)
+      (ap (λ (o : Outcome). o .answer) same ∙ sym (g .answer-is) ∙ p)
+      in
+      let these : AsMany (all i) u = union-counts settings s rows attrs (counts .rows) i (f .read) in
+      let after : room′ ≡ membersWords (these .list) ++ drop end room =
+      g .room-is ∙ sym (ap (λ (o : Outcome). o .room) same) ∙ filled-room room f these
+      in
+      record {
+        row = i;
+        there = keyed-asked settings vendors sizes s rows attrs counts key is refl .there;
+        key-is = keyed-key settings vendors sizes s rows attrs counts key is refl;
+        union-is = f .read;
+        list = these .list;
+        are = these .are;
+        many = these .many;
+        front = ap (take end) after ∙ take-at (membersWords (these .list)) (drop end room) end (long room f these);
+        behind = ap (drop end) after ∙ drop-at (membersWords (these .list)) (drop end room) end (long room f these);
+      }
+  by-key (keyed.Refused why) is =
+      let same : record { answer = Refused why; room = room } ≡ unionBy settings vendors sizes s rows attrs counts key room =
+      no-row settings vendors sizes s rows attrs counts key is (λ w. record { answer = Refused w; room = room })
+      (λ j. intoRoom room (all j) (union j)) refl
+      in
+      absurd (subst (isUnion u) (sym p ∙ g .answer-is ∙ sym (ap (λ (o : Outcome). o .answer) same)) refl)
+
+  pub union-filled : Filled settings s rows attrs (counts .rows) key u room room′
+  union-filled = by-key (inRow settings vendors sizes s rows attrs counts key keyed.Refused keyed.Row) refl

@@ -1,0 +1,64 @@
+-- How the code takes a union's children: one at a time, into room as far as they fit.
+use Prim.Native.Nat.{ℕ, _+_, _*_, _^_, _≤_, _<_}
+use mathlib.Core.Path.{_≡_}
+use mathlib.Core.List.{List, []}
+use lib.ListN.{length}
+use lib.Seq.{sets}
+use Rattle.numbers.specs.declared.Endian.{Endian}
+use Rattle.format.specs.declared.settings.Settings.{Settings}
+use Rattle.links.specs.Links.{siblingRow, nextRow}
+use Rattle.links.specs.Inside.Kids.{Ends}
+use Rattle.links.specs.Inside.Children.{Asked}
+use Rattle.records.specs.MemberWords.{memberWidth}
+use Rattle.records.specs.Unions.{Placed, Members, members, refused, childThen, membersWords}
+use Rattle.records.specs.declared.words.Counted.{Counted}
+use Rattle.records.specs.declared.words.Counted.the-variants as counted
+use Rattle.records.specs.declared.unions.Union.{Union}
+use Rattle.records.specs.declared.unions.UnionWhole.{UnionWhole}
+use Rattle.records.specs.declared.unions.UnionWhole.the-variants as whole
+
+-- a child's row, and a count that can grow
+pub record TakeAsked (rows : List ℕ) (n c k : ℕ) : Type 0 where
+  pub asked : Asked rows n c
+  pub count-small : k + 1 < 2 ^ 64
+
+-- a row whose child walk ends
+pub record EndsAt (e : Endian) (s rows attrs : List ℕ) (n i : ℕ) : Type 0 where
+  pub asked : Asked rows n i
+  pub ending : Ends e s rows attrs n (siblingRow e s rows attrs n i) (nextRow rows n i)
+
+-- how many there are; or the refusal
+unfoldable pub countOf : Members → Counted
+countOf (members ms) = counted.Count (length ms)
+countOf (refused why) = counted.Refused why
+
+-- members after k others: how many in all, and the room with them, as far as they fit; of a refusal's room nothing is said
+pub record Stored : Type 0 where
+  pub answer : Counted
+  pub room : List ℕ
+
+-- a member is `memberWidth` words
+unfoldable pub stored : ℕ → List ℕ → Members → Stored
+stored k room (members ms) = record { answer = counted.Count (k + length ms); room = sets room (k * memberWidth) (membersWords ms) }
+stored k room (refused why) = record { answer = counted.Refused why; room = [] }
+
+-- the same from what a child has left: a count to go on with, or a refusal, which ends it
+unfoldable pub storedOn : Counted → List ℕ → Members → Stored
+storedOn (counted.Count k) room rest = stored k room rest
+storedOn (counted.Refused why) room rest = record { answer = counted.Refused why; room = [] }
+
+-- one child, whatever comes after it
+pub record Takes (settings : Settings) (s rows attrs : List ℕ) (n key c k : ℕ) (r : Counted) (room room′ : List ℕ) : Type 0 where
+  pub turn : (rest : Members) → stored k room (childThen settings s rows attrs n key c rest) ≡ storedOn r room′ rest
+  pub one-more : (more : ℕ) → r ≡ counted.Count more → more ≤ k + 1
+  pub same-room : length room′ ≡ length room
+
+-- all children
+pub record MembersStored (all : Members) (r : Counted) (room room′ : List ℕ) : Type 0 where
+  pub answer-is : r ≡ countOf all
+  pub room-is : (ms : List Placed) → all ≡ members ms → room′ ≡ sets room 0 (membersWords ms)
+
+-- the whole union
+pub record WholeStored (answer : UnionWhole) (all : Members) (r : UnionWhole) (room room′ : List ℕ) : Type 0 where
+  pub answer-is : r ≡ answer
+  pub room-is : (u : Union) → answer ≡ whole.Is u → (ms : List Placed) → all ≡ members ms → room′ ≡ sets room 0 (membersWords ms)

@@ -1,0 +1,166 @@
+-- What is kept of each row for calls that take many sizes: three answers, in the words of known sizes. Nothing is said of a list that is empty: then nothing is kept.
+use Prim.Native.Nat.{ℕ, _+_, _*_, _≤_, _<_}
+use mathlib.Core.Path.{_≡_}
+use mathlib.Core.Bool.{true, false, cond}
+use mathlib.Core.List.{List}
+use lib.ListN.{length}
+use lib.Dec.{eqb}
+use Rattle.numbers.specs.declared.Endian.{Endian}
+use Rattle.format.specs.TagKind as tag
+use Rattle.format.specs.Refusal.{numberOf}
+use Rattle.format.specs.declared.settings.Settings.{Settings}
+use Rattle.format.specs.declared.refusal.Reason.the-variants as reason
+use Rattle.tables.specs.Row.{rowAt}
+use Rattle.tables.specs.Find.{rowOfKey}
+use Rattle.tables.specs.Check.{refusedAt}
+use Rattle.links.specs.Links.{siblingRow}
+use Rattle.links.specs.Inside.Links.{Rows}
+use Rattle.links.specs.Inside.Children.{Asked}
+use Rattle.records.specs.Inside.Enumeration.{AskedShort}
+use Rattle.records.specs.Member.{memberAt}
+use Rattle.records.specs.declared.scan.Fault.{Fault}
+use Rattle.records.specs.declared.scan.Fault.the-variants as fault
+use Rattle.records.specs.declared.member.Member.{Member}
+use Rattle.records.specs.declared.member.MemberRead.{MemberRead}
+use Rattle.records.specs.declared.member.MemberRead.the-variants as read
+use Rattle.sizes.specs.Size.{typeSizeBy, sizeOr, foundSize, shapeOf}
+use Rattle.sizes.specs.Inside.Known.{knownAt}
+use Rattle.sizes.specs.Inside.Prepare.{structureFault}
+use Rattle.sizes.specs.Inside.Size.{withSize}
+use Rattle.sizes.specs.Layout.{isStructure}
+use Rattle.sizes.specs.declared.kept.Added.{Added}
+use Rattle.sizes.specs.declared.kept.Added.the-variants as added
+use Rattle.sizes.specs.declared.sized.Sized.{Sized}
+use Rattle.sizes.specs.declared.sized.Sized.the-variants.{Is, Refused}
+
+-- the words of a row
+abbrev pub keptWidth : ℕ
+keptWidth = 9
+
+-- ---- a member: its offset, or why it is refused; its size, or the row of the entry that has it
+
+-- the row of the entry that has a key, told as 10 at it; 11 where there is none
+unfoldable pub rowNamed : List ℕ → ℕ → ℕ → Sized
+rowNamed rows n key = foundSize (λ i. Refused (refusedAt i reason.Depth)) key (rowOfKey rows n key)
+
+unfoldable pub sizeNamed : List ℕ → List ℕ → ℕ → Member → Sized
+sizeNamed sizes rows n m = sizeOr (typeSizeBy sizes (rowNamed rows n)) (m .of) (m .«byte_size»)
+
+unfoldable pub firstOf : MemberRead → Sized
+firstOf (read.Is m) = Is (m .offset)
+firstOf (read.Refused why) = Refused why
+
+unfoldable pub secondOf : List ℕ → List ℕ → ℕ → MemberRead → Sized
+secondOf sizes rows n (read.Is m) = sizeNamed sizes rows n m
+secondOf sizes rows n (read.Refused why) = Is 0
+
+-- and back, with known sizes
+unfoldable pub sizeKept : List ℕ → Sized → Sized
+sizeKept known (Is size) = Is size
+sizeKept known (Refused why) = cond (eqb (numberOf (why .reason)) 10) (knownAt known (why .place)) (Refused why)
+
+unfoldable pub addedBy : List ℕ → Sized → Sized → Added
+addedBy known (Is offset) second = withSize offset (sizeKept known second)
+addedBy known (Refused why) second = added.Refused why
+
+unfoldable pub addedKept : List ℕ → List ℕ → ℕ → Added
+addedKept known kept c = addedBy known (knownAt kept (c * 3)) (knownAt kept (c * 3 + 1))
+
+-- ---- a fault, a structure's or a member's
+
+unfoldable pub faultSize : Fault → Sized
+faultSize fault.Clear = Is 0
+faultSize (fault.Refused why) = Refused why
+
+unfoldable pub sizeFault : Sized → Fault
+sizeFault (Is size) = fault.Clear
+sizeFault (Refused why) = fault.Refused why
+
+unfoldable pub faultKept : List ℕ → ℕ → Fault
+faultKept kept c = sizeFault (knownAt kept (c * 3))
+
+-- ---- what is kept of all rows
+
+pub record SiblingsKept (e : Endian) (s rows attrs : List ℕ) (n : ℕ) (kept : List ℕ) : Type 0 where
+  pub sibling : (c : ℕ) → c < n → 0 < length kept → knownAt kept (c * 3 + 2) ≡ Is (siblingRow e s rows attrs n c)
+
+module _ (settings : Settings) (s rows attrs : List ℕ) (n : ℕ) (kept : List ℕ) where
+  -- siblings, and members' faults
+  pub record FaultsKept : Type 0 where
+    pub siblings : SiblingsKept (settings .endian) s rows attrs n kept
+    pub first : (c : ℕ) → c < n → 0 < length kept → rowAt rows c .kind ≡ tag.Member → knownAt kept (c * 3) ≡ firstOf (memberAt settings s rows attrs n c)
+
+  -- and structures' faults
+  pub record RowsKept : Type 0 where
+    pub faults : FaultsKept
+    pub structure : (i : ℕ) → i < n → 0 < length kept → isStructure (shapeOf (rowAt rows i .kind)) ≡ true
+        → knownAt kept (i * 3) ≡ faultSize (structureFault settings s rows attrs n i)
+
+module _ (settings : Settings) (sizes s rows attrs : List ℕ) (n : ℕ) (kept : List ℕ) where
+  abbrev pub SecondKept : ℕ → Type 0
+  SecondKept k = (c : ℕ) → c < k → 0 < length kept → rowAt rows c .kind ≡ tag.Member → knownAt kept (c * 3 + 1) ≡ secondOf sizes rows n (memberAt settings s rows attrs n c)
+
+  -- siblings and members
+  pub record MembersKept : Type 0 where
+    pub faults : FaultsKept settings s rows attrs n kept
+    pub second : SecondKept n
+
+  -- siblings, members and structures' faults
+  pub record PartsKept : Type 0 where
+    pub rows-kept : RowsKept settings s rows attrs n kept
+    pub second : SecondKept n
+
+-- where anything is kept, sizes are known
+pub record AllKept (settings : Settings) (sizes s rows attrs : List ℕ) (n : ℕ) (known kept : List ℕ) : Type 0 where
+  pub parts : PartsKept settings sizes s rows attrs n kept
+  pub paired : (i : ℕ) → i < n → 0 < length kept → 0 < length known
+
+-- ---- what is asked for
+
+pub record StructureAsked (settings : Settings) (s rows attrs : List ℕ) (n : ℕ) (kept : List ℕ) (i : ℕ) : Type 0 where
+  pub asked : Asked rows n i
+  pub is-structure : isStructure (shapeOf (rowAt rows i .kind)) ≡ true
+  pub kept-rows : RowsKept settings s rows attrs n kept
+
+pub record MemberAsked (settings : Settings) (sizes s rows attrs : List ℕ) (n : ℕ) (known kept : List ℕ) (c : ℕ) : Type 0 where
+  pub asked : AskedShort s rows n c
+  pub is-member : rowAt rows c .kind ≡ tag.Member
+  pub all-kept : AllKept settings sizes s rows attrs n known kept
+
+pub record LayoutAsked (settings : Settings) (sizes s rows attrs : List ℕ) (n : ℕ) (known kept : List ℕ) (i : ℕ) : Type 0 where
+  pub asked : AskedShort s rows n i
+  pub is-structure : isStructure (shapeOf (rowAt rows i .kind)) ≡ true
+  pub all-kept : AllKept settings sizes s rows attrs n known kept
+
+-- ---- keeping
+
+-- a table that was tested, and room for all rows
+pub record KeepAsked (rows : List ℕ) (n : ℕ) (kept : List ℕ) : Type 0 where
+  pub table : Rows rows n
+  pub fits : n * keptWidth ≤ length kept
+
+pub record FaultAsked (settings : Settings) (s rows attrs : List ℕ) (n : ℕ) (kept : List ℕ) : Type 0 where
+  pub fits : n * keptWidth ≤ length kept
+  pub faults : FaultsKept settings s rows attrs n kept
+
+-- two answers about row c, all others as before
+pub record PutTwo (c : ℕ) (first second : Sized) (kept kept′ : List ℕ) : Type 0 where
+  pub first-is : knownAt kept′ (c * 3) ≡ first
+  pub second-is : knownAt kept′ (c * 3 + 1) ≡ second
+  pub others : (j : ℕ) → (j ≡ c * 3 → ⊥) → (j ≡ c * 3 + 1 → ⊥) → knownAt kept′ j ≡ knownAt kept j
+  pub same-long : length kept′ ≡ length kept
+
+-- row c, those before it as before
+pub record PutRow (settings : Settings) (sizes s rows attrs : List ℕ) (n c : ℕ) (kept kept′ : List ℕ) : Type 0 where
+  pub sibling-is : knownAt kept′ (c * 3 + 2) ≡ Is (siblingRow (settings .endian) s rows attrs n c)
+  pub first-is : rowAt rows c .kind ≡ tag.Member → knownAt kept′ (c * 3) ≡ firstOf (memberAt settings s rows attrs n c)
+  pub second-is : rowAt rows c .kind ≡ tag.Member → knownAt kept′ (c * 3 + 1) ≡ secondOf sizes rows n (memberAt settings s rows attrs n c)
+  pub before : (j : ℕ) → j < c * 3 → knownAt kept′ j ≡ knownAt kept j
+  pub same-long : length kept′ ≡ length kept
+
+-- row i's fault, if it is a structure; a row that is none stays as it was
+pub record PutFault (settings : Settings) (s rows attrs : List ℕ) (n i : ℕ) (kept kept′ : List ℕ) : Type 0 where
+  pub fault-is : isStructure (shapeOf (rowAt rows i .kind)) ≡ true → knownAt kept′ (i * 3) ≡ faultSize (structureFault settings s rows attrs n i)
+  pub none : isStructure (shapeOf (rowAt rows i .kind)) ≡ false → kept′ ≡ kept
+  pub others : (j : ℕ) → (j ≡ i * 3 → ⊥) → knownAt kept′ j ≡ knownAt kept j
+  pub same-long : length kept′ ≡ length kept

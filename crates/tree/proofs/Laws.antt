@@ -1,0 +1,17 @@
+-- Laws. `TreeTheorem`: demand 3, over the promises of the public calls. `Demand`: the code's test is the demand's words. `ShutOut`: the wrong readers of
+-- document 01, each shut out by name. The others lead to them: `Nested`, `Reach`, `Pick`, `Fault`, `Chain`, `Open`, `Stack`, `Tree`, `Child`,
+-- `WalkTree`. `Only`: no second answer fits.
+pub mod Demand
+pub mod Nested
+pub mod Reach
+pub mod Pick
+pub mod Fault
+pub mod Chain
+pub mod Open
+pub mod Stack
+pub mod Tree
+pub mod Child
+pub mod WalkTree
+pub mod Only
+pub mod TreeTheorem
+pub mod ShutOut

@@ -1,0 +1,166 @@
+-- What follows from `Tree`, for each way that the code comes to an answer.
+use Prim.Native.Nat.{ℕ, zero, suc, _+_, _*_, _-_, _≤_, _<_}
+use native.Mathlib.Nat.{sub-zero}
+use native.Mathlib.Omega.{arith}
+use mathlib.Core.Path.{_≡_, refl, sym, ap, _∙_, subst}
+use mathlib.Core.Bool.{Bool, true, false, cond}
+use mathlib.Core.List.{List}
+use lib.ListN.{length}
+use lib.Seq.{sets}
+use lib.Dec.{leb, ltb}
+use borrow.Author.Tests.{lt-ltb, le-ltb, le-leb, lt-leb}
+use Rattle.format.specs.Limits.{depthLimit}
+use Rattle.format.specs.declared.settings.Settings.{Settings}
+use Rattle.format.specs.declared.refusal.Refusal.{Refusal}
+use Rattle.format.specs.declared.refusal.Reason.{Reason}
+use Rattle.format.specs.declared.refusal.Reason.the-variants as reason
+use Rattle.tables.specs.Row.{rowAt, erasedRow}
+use Rattle.tables.specs.Check.{refusedAt, Tells}
+use Rattle.tables.proofs.Laws.Check.{passed-answer, refused-answer}
+use Rattle.tables.specs.declared.row.Row.{Row}
+use Rattle.tables.specs.declared.row.Counts.{Counts}
+use Rattle.tables.specs.declared.check.Check.{Check}
+use Rattle.tables.specs.declared.check.Check.the-variants.{Passed}
+use Rattle.tables.specs.declared.check.Check.the-variants as check
+use Rattle.tree.specs.Pick.{firstFrom}
+use Rattle.tree.proofs.Laws.Pick.{first-from-is}
+use Rattle.tree.specs.Reach.{reachEnd}
+use Rattle.tree.specs.Nest.{deep, firstFault, firstDeep}
+use Rattle.tree.specs.Demand.{Reaching}
+use Rattle.tree.proofs.Laws.Nested.{Nested}
+use Rattle.tree.specs.Inside.Passing.{faultFrom, openDeep, openWords, OpenListed}
+use Rattle.tree.proofs.Laws.Fault.{first-fault, fault-none}
+use Rattle.tree.proofs.Laws.Open.{open-depth, open-parent}
+use Rattle.tree.specs.Tree.{placeWidth, placesFrom, firstErased, Outcome, outcome, listed, treeOf, Given}
+use Rattle.tree.specs.declared.listing.Listing.{Listing}
+use Rattle.tree.specs.declared.listing.Listing.the-variants.{Listed, Refused, Room}
+
+-- ---- the first erased row
+
+module _ (rows : List ℕ) (n i : ℕ) where
+  erased-step : (b : Bool) → erasedRow (rowAt rows i .flags) ≡ b → i < n
+      → firstFrom (λ j. erasedRow (rowAt rows j .flags)) i (n - i) ≡ cond b i (firstFrom (λ j. erasedRow (rowAt rows j .flags)) (suc i) (n - suc i))
+  unfolding firstFrom
+  erased-step b t h = let step : n - i ≡ suc (n - suc i) = omega arith in rw (step, t)
+
+  pub erased-here : {row : Row} {b : Bool} → i < n → row ≡ rowAt rows i → b ≡ erasedRow (row .flags) → b ≡ true
+      → i ≡ firstFrom (λ j. erasedRow (rowAt rows j .flags)) i (n - i)
+  erased-here h p q t = sym (erased-step true (ap (λ (r : Row). erasedRow (r .flags)) (sym p) ∙ sym q ∙ t) h)
+
+  pub erased-not : {row : Row} {b : Bool} → i < n → row ≡ rowAt rows i → b ≡ erasedRow (row .flags) → b ≡ false
+      → firstFrom (λ j. erasedRow (rowAt rows j .flags)) (i + 1) (n - (i + 1)) ≡ firstFrom (λ j. erasedRow (rowAt rows j .flags)) i (n - i)
+  erased-not h p q t =
+      let one : i + 1 ≡ suc i = omega arith in
+      ap (λ (k : ℕ). firstFrom (λ j. erasedRow (rowAt rows j .flags)) k (n - k)) one
+      ∙ sym (erased-step false (ap (λ (r : Row). erasedRow (r .flags)) (sym p) ∙ sym q ∙ t) h)
+
+  pub erased-none : n ≤ i → i ≡ firstFrom (λ j. erasedRow (rowAt rows j .flags)) i (n - i)
+  unfolding firstFrom
+  erased-none h = let step : n - i ≡ 0 = omega arith in rw step
+
+pub erased-begin : (rows : List ℕ) (n : ℕ) → firstFrom (λ j. erasedRow (rowAt rows j .flags)) 0 (n - 0) ≡ firstErased rows n
+unfolding firstErased
+erased-begin rows n = rw sub-zero
+
+-- ---- where reaches nest, the open rows tell depth and parent
+
+first-same : (p q : ℕ → Bool) (i k : ℕ) → ((j : ℕ) → j < i + k → p j ≡ q j) → firstFrom p i k ≡ firstFrom q i k
+unfolding firstFrom
+first-same p q i zero h = refl
+first-same p q i (suc k) h = rw (h i (omega arith), first-same p q (suc i) k (λ j l. h j (omega arith)))
+
+module _ {n : ℕ} {reach : ℕ → ℕ} (nested : Nested n reach) where
+  deep-same : firstFrom (openDeep reach) 0 n ≡ firstDeep n reach
+  unfolding firstDeep openDeep deep
+  deep-same =
+      first-same (openDeep reach) (deep n reach) 0 n (λ j h. let l : j < n = omega arith in ap (λ (k : ℕ). ltb depthLimit k) (open-depth nested j l))
+
+  places-same : (i k : ℕ) → i + k ≤ n → openWords reach i k ≡ placesFrom n reach i k
+  unfolding openWords placesFrom
+  places-same i zero h = refl
+  places-same i (suc k) h =
+      let here : i < n = omega arith in
+      rw (open-depth nested i here, open-parent nested i here, places-same (suc i) k (omega arith))
+
+-- ---- the tests in their order
+
+pub fault-row : (rows : List ℕ) (i : ℕ) (why : Reason) {row : Row} → row ≡ rowAt rows i
+    → Refused (refusedAt (row .key) why) ≡ Refused (refusedAt (rowAt rows i .key) why)
+fault-row rows i why p = ap (λ (r : Row). Refused (refusedAt (r .key) why)) p
+
+module _ (rows : List ℕ) (n : ℕ) (reach : ℕ → ℕ) (room : List ℕ) {erased : ℕ} (e : erased ≡ firstErased rows n) where
+  pub list-erased : {r : Listing} → erased < n → r ≡ Refused (refusedAt (rowAt rows erased .key) reason.Kind) → Given (listed rows n reach room) r room
+  unfolding listed
+  list-erased h p =
+      let test : ltb (firstErased rows n) n ≡ true = ap (λ (k : ℕ). ltb k n) (sym e) ∙ lt-ltb erased n h in
+      record { answer-is = rw (test, ← e) p; room-is = rw test }
+
+  module _ (none : n ≤ erased) (reaching : Reaching n reach) {fault : ℕ} (f : fault ≡ faultFrom n reach 0 n) where
+    no-erased : ltb (firstErased rows n) n ≡ false
+    no-erased = ap (λ (k : ℕ). ltb k n) (sym e) ∙ le-ltb erased n none
+
+    first : fault ≡ firstFault n reach
+    first = f ∙ first-fault n reach reaching
+
+    pub list-fault : {r : Listing} → fault < n → r ≡ Refused (refusedAt (rowAt rows fault .key) reason.Link) → Given (listed rows n reach room) r room
+    unfolding listed
+    list-fault h p =
+        let test : ltb (firstFault n reach) n ≡ true = ap (λ (k : ℕ). ltb k n) (sym first) ∙ lt-ltb fault n h in
+        record { answer-is = rw (no-erased, test, ← first) p; room-is = rw (no-erased, test) }
+
+    module _ (sound : n ≤ fault) {deepest : ℕ} (d : deepest ≡ firstFrom (openDeep reach) 0 n) where
+      no-fault : ltb (firstFault n reach) n ≡ false
+      no-fault = ap (λ (k : ℕ). ltb k n) (sym first) ∙ le-ltb fault n sound
+
+      all-nest : Nested n reach
+      unfolding firstFault
+      all-nest =
+          let most : firstFault n reach ≤ 0 + n = first-from-is _ 0 n .to in
+          let least : n ≤ firstFault n reach = subst (λ (k : ℕ). n ≤ k) first sound in
+          let same : firstFault n reach ≡ n = omega arith in
+          fault-none n reach reaching same
+
+      first-too-deep : deepest ≡ firstDeep n reach
+      first-too-deep = d ∙ deep-same all-nest
+
+      pub list-deep : {r : Listing} → deepest < n → r ≡ Refused (refusedAt (rowAt rows deepest .key) reason.Depth) → Given (listed rows n reach room) r room
+      unfolding listed
+      list-deep h p =
+          let test : ltb (firstDeep n reach) n ≡ true = ap (λ (k : ℕ). ltb k n) (sym first-too-deep) ∙ lt-ltb deepest n h in
+          record { answer-is = rw (no-erased, no-fault, test, ← first-too-deep) p; room-is = rw (no-erased, no-fault, test) }
+
+      module _ (shallow : n ≤ deepest) where
+        no-deep : ltb (firstDeep n reach) n ≡ false
+        no-deep = ap (λ (k : ℕ). ltb k n) (sym first-too-deep) ∙ le-ltb deepest n shallow
+
+        pub list-unfit : length room < n * placeWidth → Given (listed rows n reach room) (Room n) room
+        unfolding listed
+        list-unfit h =
+            let test : leb (n * placeWidth) (length room) ≡ false = lt-leb (n * placeWidth) (length room) h in
+            record { answer-is = rw (no-erased, no-fault, no-deep, test); room-is = rw (no-erased, no-fault, no-deep, test) }
+
+        pub list-given : {r : ℕ} {room′ : List ℕ} → n * placeWidth ≤ length room → OpenListed reach n r room room′ → Given (listed rows n reach room) (Listed n) room′
+        unfolding listed
+        list-given {r} {room′} h o =
+            let test : leb (n * placeWidth) (length room) ≡ true = le-leb (n * placeWidth) (length room) h in
+            let most : firstFrom (openDeep reach) 0 n ≤ 0 + n = first-from-is (openDeep reach) 0 n .to in
+            let least : n ≤ firstFrom (openDeep reach) 0 n = subst (λ (k : ℕ). n ≤ k) d shallow in
+            let deep-is : r ≡ firstFrom (openDeep reach) 0 n = o .deep-is in
+            let all : r ≡ n = omega arith in
+            let words : room′ ≡ sets room 0 (placesFrom n reach 0 n) =
+            o .room-is ∙ ap (λ (k : ℕ). sets room 0 (openWords reach 0 k)) all ∙ ap (sets room 0) (places-same all-nest 0 n (omega arith))
+            in
+            record { answer-is = rw (no-erased, no-fault, no-deep, test); room-is = rw (no-erased, no-fault, no-deep, test) words }
+
+module _ (settings : Settings) (vendors sizes s rows attrs : List ℕ) (counts : Counts) (room : List ℕ) {told : Check}
+    (is : Tells settings vendors sizes s rows attrs counts told) where
+  pub tree-passed : told ≡ Passed → {r : Listing} {room′ : List ℕ}
+      → Given (listed rows (counts .rows) (λ i. reachEnd (settings .endian) s rows attrs (counts .rows) i) room) r room′
+      → Given (treeOf settings vendors sizes s rows attrs counts room) r room′
+  unfolding treeOf
+  tree-passed p {r} {room′} g = subst (λ (o : Outcome). Given o r room′) (passed-answer (λ why. outcome (Refused why) room) _ is p) g
+
+  pub tree-refused : {why : Refusal} → told ≡ check.Refused why → Given (treeOf settings vendors sizes s rows attrs counts room) (Refused why) room
+  unfolding treeOf
+  tree-refused {why} p =
+      subst (λ (o : Outcome). Given o (Refused why) room) (refused-answer (λ w. outcome (Refused w) room) _ is p) (record { answer-is = refl; room-is = refl })

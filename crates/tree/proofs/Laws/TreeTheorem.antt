@@ -1,0 +1,198 @@
+-- The tree theorem, over the promises of the public functions: take a table that `read_debug_section` filled with erased entries left out, and list and walk it
+-- with the section and settings it was read with. Then the listing is given exactly when every reference names a later row or the end, no two reaches overlap
+-- without one holding the other, no row lies in more than 32 others' reaches, and the room is enough; it holds every row once, in file order, with its depth and
+-- its parent; and the child walk of any row, with room enough, gives exactly the non-null rows with that parent, in order.
+use Prim.Native.Nat.{ℕ, zero, suc, _+_, _*_, _≤_, _<_}
+use native.Mathlib.Omega.{arith}
+use mathlib.Core.Path.{_≡_, refl, sym, ap, _∙_, subst}
+use mathlib.Core.Logic.{_↔_}
+use mathlib.Core.Bool.{Bool, true, false}
+use mathlib.Core.List.{List}
+use lib.ListN.{length, getD}
+use lib.Seq.{sets}
+use lib.Dec.{leb, ltb}
+use borrow.Author.Tests.{le-ltb, le-leb, leb-true, ltb-false}
+use Rattle.numbers.proofs.Laws.Tests.{cond-all}
+use Rattle.format.specs.Limits.{depthLimit, sectionLimit}
+use Rattle.format.specs.Settings.{settingsHold}
+use Rattle.format.specs.declared.settings.Settings.{Settings}
+use Rattle.tables.specs.Row.{rowAt, erasedRow}
+use Rattle.tables.specs.Test.{tableHolds, Checked}
+use Rattle.tables.proofs.Laws.Checked.{checked-rising, checked-inside}
+use Rattle.tables.proofs.Laws.Flat.{sets-back}
+use Rattle.tables.specs.Check.{afterTests, tested}
+use Rattle.tables.specs.declared.row.Counts.{Counts}
+use Rattle.entries.specs.Section.{readSection, SectionRead}
+use Rattle.entries.proofs.Laws.Filled.{filled-holds}
+use Rattle.entries.proofs.Laws.Unerased.{none-erased, answer-tested}
+use Rattle.entries.specs.declared.section.Section.the-variants.{Read}
+use Rattle.links.specs.Children as children
+use Rattle.links.specs.declared.children.ChildRows.{ChildRows}
+use Rattle.links.specs.declared.children.ChildRows.the-variants as child
+use Rattle.tree.specs.Pick.{firstFrom}
+use Rattle.tree.proofs.Laws.Pick.{first-none, first-from-is}
+use Rattle.tree.specs.Reach.{reachIn}
+use Rattle.tree.specs.Nest.{depth, parent, deep, firstFault, firstDeep}
+use Rattle.tree.specs.Demand.{Good, NoneCross}
+use Rattle.tree.proofs.Laws.Demand.{nests-exactly}
+use Rattle.tree.proofs.Laws.Nested.{Nested}
+use Rattle.tree.specs.Demand.{Reaching}
+use Rattle.tree.proofs.Laws.Fault.{fault-none}
+use Rattle.tree.proofs.Laws.Reach.{reaching}
+use Rattle.tree.specs.Tree.{placeWidth, placesFrom, firstErased, Outcome, outcome, listed, treeOf, Given}
+use Rattle.tree.proofs.Laws.WalkTree.{Plain, children-given}
+use Rattle.tree.specs.Demand.{childrenIn}
+use Rattle.tree.specs.declared.listing.Listing.{Listing}
+use Rattle.tree.specs.declared.listing.Listing.the-variants.{Listed, Refused, Room}
+use Rattle.tree.specs.Demand.{Listable}
+
+-- ---- what the tests of the listing come to
+
+abbrev isListed : Listing → Type 0
+isListed (Listed n) = Unit
+isListed (Refused why) = ⊥
+isListed (Room n) = ⊥
+
+module _ (rows : List ℕ) (n : ℕ) (reach : ℕ → ℕ) (room : List ℕ) where
+  -- all four tests pass
+  abbrev Passes : Outcome → Type 0
+  Passes o = o .answer ≡ Listed n
+      → (ltb (firstFault n reach) n ≡ false) × (ltb (firstDeep n reach) n ≡ false) × (leb (n * placeWidth) (length room) ≡ true)
+      × (o .room ≡ sets room 0 (placesFrom n reach 0 n))
+
+  passes : Passes (listed rows n reach room)
+  unfolding listed
+  passes =
+      cond-all Passes (ltb (firstErased rows n) n) (λ t p. absurd (subst isListed (sym p) tt))
+      (λ t. cond-all Passes (ltb (firstFault n reach) n) (λ u p. absurd (subst isListed (sym p) tt))
+      (λ u. cond-all Passes (ltb (firstDeep n reach) n) (λ v p. absurd (subst isListed (sym p) tt))
+      (λ v. cond-all Passes (leb (n * placeWidth) (length room)) (λ w p. (u, v, w, refl)) (λ w p. absurd (subst isListed (sym p) tt)))))
+
+  gives : ltb (firstErased rows n) n ≡ false → ltb (firstFault n reach) n ≡ false → ltb (firstDeep n reach) n ≡ false
+      → leb (n * placeWidth) (length room) ≡ true → listed rows n reach room ≡ outcome (Listed n) (sets room 0 (placesFrom n reach 0 n))
+  unfolding listed
+  gives a b c d = rw (a, b, c, d)
+
+-- ---- a first row that is not there
+
+first-beyond : (p : ℕ → Bool) (n : ℕ) → ltb (firstFrom p 0 n) n ≡ false → firstFrom p 0 n ≡ n
+first-beyond p n h =
+    let most : firstFrom p 0 n ≤ 0 + n = first-from-is p 0 n .to in
+    let least : n ≤ firstFrom p 0 n = ltb-false (firstFrom p 0 n) n h in
+    omega arith
+
+none-first : (p : ℕ → Bool) (n : ℕ) → ((j : ℕ) → j < n → p j ≡ false) → ltb (firstFrom p 0 n) n ≡ false
+none-first p n h = let all : firstFrom p 0 n ≡ n = first-none p n .1 h in le-ltb (firstFrom p 0 n) n (omega arith)
+
+-- ---- the places, read back
+
+places-depth : (n : ℕ) (reach : ℕ → ℕ) (i k j : ℕ) → j < k
+    → (getD (placesFrom n reach i k) (j * placeWidth) 0 ≡ depth n reach (i + j)) × (getD (placesFrom n reach i k) (j * placeWidth + 1) 0 ≡ parent n reach (i + j))
+unfolding placesFrom
+places-depth n reach i (suc k) zero h =
+    let place : i + 0 ≡ i = omega arith in
+    (ap (λ (x : ℕ). depth n reach x) (sym place), ap (λ (x : ℕ). parent n reach x) (sym place))
+places-depth n reach i (suc k) (suc j) h =
+    let first : suc j * placeWidth ≡ suc (suc (j * placeWidth)) = omega arith in
+    let second : suc j * placeWidth + 1 ≡ suc (suc (j * placeWidth + 1)) = omega arith in
+    let place : i + suc j ≡ suc i + j = omega arith in
+    let rest = places-depth n reach (suc i) k j (omega arith) in
+    (rw (first, place) (rest .0), rw (second, place) (rest .1))
+
+places-length : (n : ℕ) (reach : ℕ → ℕ) (i k : ℕ) → length (placesFrom n reach i k) ≡ k * placeWidth
+unfolding placesFrom
+places-length n reach i zero = refl
+places-length n reach i (suc k) = let rest : length (placesFrom n reach (suc i) k) ≡ k * placeWidth = places-length n reach (suc i) k in omega arith
+
+-- ---- the theorem
+
+module _ (settings : Settings) (vendors sizes s rows₀ attrs₀ : List ℕ) (c : Counts) {rows attrs : List ℕ} (off : settings .erased ≡ false)
+    (read : SectionRead (readSection settings vendors sizes s rows₀ attrs₀) (Read c) rows attrs) where
+  table-holds : tableHolds s vendors rows attrs c ≡ true
+  table-holds = rw (read .rows-are, read .attrs-are) (filled-holds settings vendors sizes s rows₀ attrs₀ c (sym (read .answer-is)))
+
+  checked : Checked s vendors rows attrs c
+  checked = record { holds = table-holds }
+
+  tests-pass : (settingsHold settings vendors sizes ≡ true) × (ltb (length s) sectionLimit ≡ true)
+  tests-pass = answer-tested settings vendors sizes s rows₀ attrs₀ c (sym (read .answer-is))
+
+  unerased : (j : ℕ) → j < c .rows → erasedRow (rowAt rows j .flags) ≡ false
+  unerased = rw (read .rows-are) (none-erased settings vendors sizes s rows₀ attrs₀ c off (sym (read .answer-is)))
+
+  plain : Plain s rows (c .rows)
+  plain = record { rising = checked-rising checked; inside = λ j h. checked-inside checked j h; unerased = unerased }
+
+  no-erased : ltb (firstErased rows (c .rows)) (c .rows) ≡ false
+  unfolding firstErased
+  no-erased = none-first (λ i. erasedRow (rowAt rows i .flags)) (c .rows) unerased
+
+  -- with the tests passed, the listing is that of the table's reaches
+  pub tree-listed : (room : List ℕ) → treeOf settings vendors sizes s rows attrs c room ≡ listed rows (c .rows) (reachIn settings s rows attrs c) room
+  unfolding treeOf tested afterTests
+  tree-listed room = rw (tests-pass .0, tests-pass .1, table-holds)
+
+  -- it is given exactly when
+  pub listed-exactly : (room : List ℕ) {r : Listing} {room′ : List ℕ} → Given (treeOf settings vendors sizes s rows attrs c room) r room′
+      → (r ≡ Listed (c .rows)) ↔ Listable (c .rows) (reachIn settings s rows attrs c) room
+  unfolding firstFault firstDeep deep
+  listed-exactly room given =
+      let n : ℕ = c .rows in
+      let answer = given .answer-is ∙ ap (λ (o : Outcome). o .answer) (tree-listed room) in (
+        λ p. (let all = passes rows n (reachIn settings s rows attrs c) room (sym answer ∙ p) in
+            let nests = nests-exactly n (reachIn settings s rows attrs c) (reaching (settings .endian) s rows attrs n) .0 (first-beyond _ n (all .0)) in
+            let none = first-none (deep n (reachIn settings s rows attrs c)) n .0 (first-beyond (deep n (reachIn settings s rows attrs c)) n (all .1)) in
+            record {
+              good = nests .0;
+              nest = nests .1;
+              shallow = λ j h. ltb-false depthLimit (depth n (reachIn settings s rows attrs c) j) (none j h);
+              enough = leb-true (n * placeWidth) (length room) (all .2);
+            }),
+        λ l. (let sound : firstFault n (reachIn settings s rows attrs c) ≡ n = nests-exactly n (reachIn settings s rows attrs c) (reaching (settings .endian) s rows attrs n) .1 (l .good, l .nest) in
+            answer ∙ ap (λ (o : Outcome). o .answer) (gives rows n (reachIn settings s rows attrs c) room no-erased (le-ltb (firstFault n (reachIn settings s rows attrs c)) n (omega arith))
+            (none-first (deep n (reachIn settings s rows attrs c)) n (λ j h. le-ltb depthLimit (depth n (reachIn settings s rows attrs c) j) (l .shallow j h))) (le-leb (n * placeWidth) (length room) (l .enough)))),
+      )
+
+  -- what it holds: every row once, in file order, with its depth and its parent; words past them as they were
+  pub listing-holds : (room : List ℕ) {r : Listing} {room′ : List ℕ} → Given (treeOf settings vendors sizes s rows attrs c room) r room′
+      → r ≡ Listed (c .rows) → room′ ≡ sets room 0 (placesFrom (c .rows) (reachIn settings s rows attrs c) 0 (c .rows))
+  listing-holds room given p =
+      let answer = given .answer-is ∙ ap (λ (o : Outcome). o .answer) (tree-listed room) in
+      given .room-is ∙ ap (λ (o : Outcome). o .room) (tree-listed room) ∙ passes rows (c .rows) (reachIn settings s rows attrs c) room (sym answer ∙ p) .3
+
+  -- row j's two words
+  pub listing-places : (room : List ℕ) {r : Listing} {room′ : List ℕ} → Given (treeOf settings vendors sizes s rows attrs c room) r room′
+      → r ≡ Listed (c .rows) → (j : ℕ) → j < c .rows
+      → (getD room′ (j * placeWidth) 0 ≡ depth (c .rows) (reachIn settings s rows attrs c) j) × (getD room′ (j * placeWidth + 1) 0 ≡ parent (c .rows) (reachIn settings s rows attrs c) j)
+  listing-places room {r} {room′} given p j h =
+      let n : ℕ = c .rows in
+      let words : List ℕ = placesFrom n (reachIn settings s rows attrs c) 0 n in
+      let long : length words ≡ n * placeWidth = places-length n (reachIn settings s rows attrs c) 0 n in
+      let enough : n * placeWidth ≤ length room = listed-exactly room given .0 p .enough in
+      let back : (k : ℕ) → k < n * placeWidth → getD room′ k 0 ≡ getD words k 0 =
+      λ k l. (let place : k ≡ 0 + k = omega arith in
+      ap (λ (t : List ℕ). getD t k 0) (listing-holds room given p)
+      ∙ ap (λ (x : ℕ). getD (sets room 0 words) x 0) place
+      ∙ sets-back room 0 words k (omega arith) (omega arith))
+      in
+      let told = places-depth n (reachIn settings s rows attrs c) 0 n j h in
+      let place : 0 + j ≡ j = omega arith in (
+        back (j * placeWidth) (omega arith) ∙ told .0 ∙ ap (λ (x : ℕ). depth n (reachIn settings s rows attrs c) x) place,
+        back (j * placeWidth + 1) (omega arith) ∙ told .1 ∙ ap (λ (x : ℕ). parent n (reachIn settings s rows attrs c) x) place,
+      )
+
+  -- the child walk of any row, with room enough, gives exactly the non-null rows with that parent, in order
+  pub walk-holds : Good (c .rows) (reachIn settings s rows attrs c) → NoneCross (c .rows) (reachIn settings s rows attrs c) → (i : ℕ) → i < c .rows → (kids : List ℕ)
+      → length (childrenIn rows (c .rows) (reachIn settings s rows attrs c) i) ≤ length kids → {q : ChildRows} {kids′ : List ℕ}
+      → children.Given (children.childrenOf settings vendors sizes s rows attrs c (rowAt rows i .key) kids) q kids′
+      → (q ≡ child.Listed (length (childrenIn rows (c .rows) (reachIn settings s rows attrs c) i))) × (kids′ ≡ sets kids 0 (childrenIn rows (c .rows) (reachIn settings s rows attrs c) i))
+  unfolding children.childrenOf tested afterTests
+  walk-holds good nest i l kids h {q} {kids′} given =
+      let n : ℕ = c .rows in
+      let all : Reaching n (reachIn settings s rows attrs c) = reaching (settings .endian) s rows attrs n in
+      let nested : Nested n (reachIn settings s rows attrs c) = fault-none n (reachIn settings s rows attrs c) all (nests-exactly n (reachIn settings s rows attrs c) all .1 (good, nest)) in
+      let told : children.childrenOf settings vendors sizes s rows attrs c (rowAt rows i .key) kids
+      ≡ children.outcome (child.Listed (length (childrenIn rows n (reachIn settings s rows attrs c) i))) (sets kids 0 (childrenIn rows n (reachIn settings s rows attrs c) i)) =
+      rw (tests-pass .0, tests-pass .1, table-holds) (children-given plain (settings .endian) attrs nested i l kids h)
+      in
+      (given .answer-is ∙ ap (λ (o : children.Outcome). o .answer) told, given .room-is ∙ ap (λ (o : children.Outcome). o .room) told)
