@@ -12,15 +12,6 @@ abbrev μ-loop : tie.MeasureT-loop
 loop-holds : tie.Need-loop-holds Inv-loop μ-loop
 loop-holds c = tt
 
-run-argument-requires : tie.Need-run-argument-requires Inv-loop μ-loop
-run-argument-requires c κs = search needs
-
-add-i : tie.Need-add-i Inv-loop μ-loop
-add-i c = search needs
-
-loop-less : tie.Need-loop-less Inv-loop μ-loop
-loop-less c = search needs
-
 loop-again : tie.Need-loop-again Inv-loop μ-loop
 loop-again c = tt
 
@@ -30,4 +21,12 @@ returns c = tt
 pub run-arguments-spec : {M : Type 1} → statement M
 run-arguments-spec =
     tie.close
-    (tie.spec Inv-loop μ-loop loop-holds run-argument-requires add-i loop-less loop-again returns)
+    (tie.spec
+    Inv-loop
+    μ-loop
+    loop-holds
+    (λ c κs. search needs)
+    (λ c. search needs)
+    (λ c. search needs)
+    loop-again
+    returns)

@@ -10,26 +10,8 @@ use lib.ListN.{length}
 use Rattle.attributes.proofs.decode.block2.Statement.{statement}
 use Rattle.attributes.proofs.decode.block2.Tie as tie
 
-u16-at-requires : tie.Need-u16-at-requires
-u16-at-requires c κs = search needs
-
-enum-known-n : tie.Need-enum-known-n
-enum-known-n c = search needs
-
 add-part : tie.Need-add-part
 add-part c = let h : c .before .before .before .before .before .args .at + 2 ≤ length (now (c .before .before .before .before .before .args .s)) = says-inside (says16 _ _ _ _ (sym (c .before .before .before .u16-at .ensures) ∙ c .before .n .given .1)) in omega arith
-
-cast-part : tie.Need-cast-part
-cast-part c = search needs
-
-part-requires : tie.Need-part-requires
-part-requires c κs = search needs
-
-enum-told : tie.Need-enum-told
-enum-told c = search needs
-
-slice-aggregate-result : tie.Need-slice-aggregate-result
-slice-aggregate-result c = search needs
 
 returns : tie.Need-returns
 unfolding blockAt
@@ -43,12 +25,12 @@ pub block2-spec : {M : Type 1} → statement M
 block2-spec =
     tie.close
     (tie.spec
-    u16-at-requires
-    enum-known-n
+    (λ c κs. search needs)
+    (λ c. search needs)
     add-part
-    cast-part
-    part-requires
-    enum-told
-    slice-aggregate-result
+    (λ c. search needs)
+    (λ c κs. search needs)
+    (λ c. search needs)
+    (λ c. search needs)
     returns
     returns-2)

@@ -9,25 +9,13 @@ use lib.ListN.{length}
 use Rattle.attributes.proofs.decode.part.Statement.{statement}
 use Rattle.attributes.proofs.decode.part.Tie as tie
 
-bytes-there-requires : tie.Need-bytes-there-requires
-bytes-there-requires c κs = search needs
-
 add-result : tie.Need-add-result
 add-result c =
     let h : c .before .before .before .args .from + c .before .before .before .args .n ≤ length (now (c .before .before .before .args .s)) = there-inside _ _ _ (sym (c .before .bytes-there .ensures) ∙ c .if1 .taken) in
     omega arith
 
-sub-result : tie.Need-sub-result
-sub-result c = search needs
-
-part-result-start : tie.Need-part-result-start
-part-result-start c = search needs
-
 part-result-end : tie.Need-part-result-end
 part-result-end c = there-inside _ _ _ (sym (c .before .bytes-there .ensures) ∙ c .if1 .taken)
-
-slice-aggregate-result : tie.Need-slice-aggregate-result
-slice-aggregate-result c = search needs
 
 returns : tie.Need-returns
 returns c = part-there _ _ _ (sym (c .before .before .bytes-there .ensures) ∙ c .before .if1 .taken)
@@ -39,11 +27,11 @@ pub part-spec : {M : Type 1} → statement M
 part-spec =
     tie.close
     (tie.spec
-    bytes-there-requires
+    (λ c κs. search needs)
     add-result
-    sub-result
-    part-result-start
+    (λ c. search needs)
+    (λ c. search needs)
     part-result-end
-    slice-aggregate-result
+    (λ c. search needs)
     returns
     returns-2)

@@ -4,20 +4,11 @@ use borrow.Author.Needs.{needs}
 use Rattle.attributes.proofs.decode.string.Statement.{statement}
 use Rattle.attributes.proofs.decode.string.Tie as tie
 
-zero-from-requires : tie.Need-zero-from-requires
-zero-from-requires c κs = search needs
-
 sub-result : tie.Need-sub-result
 sub-result c = zero-after _ _ (c .before .zero-from .ensures)
 
 part-result-start : tie.Need-part-result-start
 part-result-start c = zero-after _ _ (c .before .zero-from .ensures)
-
-part-result-end : tie.Need-part-result-end
-part-result-end c = search needs
-
-slice-aggregate-result : tie.Need-slice-aggregate-result
-slice-aggregate-result c = search needs
 
 returns : tie.Need-returns
 returns c = text-there _ _ (c .before .before .zero-from .ensures) (c .before .if1 .taken)
@@ -29,10 +20,10 @@ pub string-spec : {M : Type 1} → statement M
 string-spec =
     tie.close
     (tie.spec
-    zero-from-requires
+    (λ c κs. search needs)
     sub-result
     part-result-start
-    part-result-end
-    slice-aggregate-result
+    (λ c. search needs)
+    (λ c. search needs)
     returns
     returns-2)

@@ -5,21 +5,6 @@ use mathlib.Core.Path.{sym, _∙_}
 use Rattle.attributes.proofs.read.known_end.Statement.{statement}
 use Rattle.attributes.proofs.read.known_end.Tie as tie
 
-is-known-requires : tie.Need-is-known-requires
-is-known-requires c κs = search needs
-
-form-of-requires : tie.Need-form-of-requires
-form-of-requires c κs = search needs
-
-value-end-requires : tie.Need-value-end-requires
-value-end-requires c κs = search needs
-
-enum-known-next : tie.Need-enum-known-next
-enum-known-next c = search needs
-
-enum-known-field : tie.Need-enum-known-field
-enum-known-field c = search needs
-
 returns : tie.Need-returns
 unfolding ended
 returns c = end-known _ _ _ _ _ (sym (c .before .before .before .before .before .before .is-known .ensures) ∙ c .before .before .before .before .before .if1 .taken) (c .before .before .before .before .form-of .ensures) (c .before .before .before .value-end .ensures) (c .before .next .given .1)
@@ -34,4 +19,12 @@ returns-3 c = end-unknown _ _ _ _ _ (sym (c .before .is-known .ensures) ∙ c .i
 pub known-end-spec : {M : Type 1} → statement M
 known-end-spec =
     tie.close
-    (tie.spec is-known-requires form-of-requires value-end-requires enum-known-next enum-known-field returns returns-2 returns-3)
+    (tie.spec
+    (λ c κs. search needs)
+    (λ c κs. search needs)
+    (λ c κs. search needs)
+    (λ c. search needs)
+    (λ c. search needs)
+    returns
+    returns-2
+    returns-3)

@@ -6,17 +6,8 @@ use mathlib.Core.Path.{sym, _∙_}
 use Rattle.attributes.proofs.read.read_attribute.Statement.{statement}
 use Rattle.attributes.proofs.read.read_attribute.Tie as tie
 
-u16-at-requires : tie.Need-u16-at-requires
-u16-at-requires c κs = search needs
-
-enum-known-n : tie.Need-enum-known-n
-enum-known-n c = search needs
-
 numbered-at-requires : tie.Need-numbered-at-requires
 numbered-at-requires c κs = says-inside (says16 _ _ _ _ (sym (c .before .before .before .u16-at .ensures) ∙ c .before .n .given .1))
-
-enum-told : tie.Need-enum-told
-enum-told c = search needs
 
 returns : tie.Need-returns
 unfolding readAttribute
@@ -29,4 +20,4 @@ returns-2 c = reads-short _ _ _ _ _ _ (short16 _ _ _ _ (sym (c .before .before .
 pub read-attribute-spec : {M : Type 1} → statement M
 read-attribute-spec =
     tie.close
-    (tie.spec u16-at-requires enum-known-n numbered-at-requires enum-told returns returns-2)
+    (tie.spec (λ c κs. search needs) (λ c. search needs) numbered-at-requires (λ c. search needs) returns returns-2)

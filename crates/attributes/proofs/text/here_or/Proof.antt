@@ -4,9 +4,6 @@ use borrow.Author.Needs.{needs}
 use Rattle.attributes.proofs.text.here_or.Statement.{statement}
 use Rattle.attributes.proofs.text.here_or.Tie as tie
 
-shared-slice-read-if1 : tie.Need-shared-slice-read-if1
-shared-slice-read-if1 c = search needs
-
 returns : tie.Need-returns
 unfolding hereOr
 returns c = rw (eq-eqb _ _ (c .if1 .taken))
@@ -16,4 +13,4 @@ unfolding hereOr
 returns-2 c = rw (ne-eqb _ _ (c .if1 .left))
 
 pub here-or-spec : {M : Type 1} → statement M
-here-or-spec = tie.close (tie.spec shared-slice-read-if1 returns returns-2)
+here-or-spec = tie.close (tie.spec (λ c. search needs) returns returns-2)

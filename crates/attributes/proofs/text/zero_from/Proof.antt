@@ -18,29 +18,11 @@ abbrev μ-loop : tie.MeasureT-loop
 loop-holds : tie.Need-loop-holds Inv-loop μ-loop
 loop-holds c = refl
 
-sub-if1 : tie.Need-sub-if1 Inv-loop μ-loop
-sub-if1 c = search needs
-
-zero-in-rest-requires : tie.Need-zero-in-rest-requires Inv-loop μ-loop
-zero-in-rest-requires c κs = search needs
-
 returns : tie.Need-returns Inv-loop μ-loop
 returns c = c .zero-in-rest .ensures ∙ c .before .before .before .loop .inv
 
-zero-in-eight-requires : tie.Need-zero-in-eight-requires Inv-loop μ-loop
-zero-in-eight-requires c κs = search needs
-
-first-of-eight-requires : tie.Need-first-of-eight-requires Inv-loop μ-loop
-first-of-eight-requires c κs = search needs
-
 returns-2 : tie.Need-returns-2 Inv-loop μ-loop
 returns-2 c = c .first-of-eight .ensures ∙ zero-among _ 8 _ (omega arith) (sym (c .before .before .zero-in-eight .ensures) ∙ c .before .if2 .taken) ∙ c .before .before .before .before .before .loop .inv
-
-add-i : tie.Need-add-i Inv-loop μ-loop
-add-i c = search needs
-
-loop-less : tie.Need-loop-less Inv-loop μ-loop
-loop-less c = search needs
 
 loop-again : tie.Need-loop-again Inv-loop μ-loop
 loop-again c = sym (zero-past _ 8 _ (omega arith) (sym (c .before .zero-in-eight .ensures) ∙ c .if2 .left)) ∙ c .before .before .before .before .loop .inv
@@ -55,13 +37,13 @@ zero-from-spec =
     Inv-loop
     μ-loop
     loop-holds
-    sub-if1
-    zero-in-rest-requires
+    (λ c. search needs)
+    (λ c κs. search needs)
     returns
-    zero-in-eight-requires
-    first-of-eight-requires
+    (λ c κs. search needs)
+    (λ c κs. search needs)
     returns-2
-    add-i
-    loop-less
+    (λ c. search needs)
+    (λ c. search needs)
     loop-again
     returns-3)

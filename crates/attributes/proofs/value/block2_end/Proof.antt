@@ -10,23 +10,8 @@ use lib.ListN.{length}
 use Rattle.attributes.proofs.value.block2_end.Statement.{statement}
 use Rattle.attributes.proofs.value.block2_end.Tie as tie
 
-u16-at-requires : tie.Need-u16-at-requires
-u16-at-requires c κs = search needs
-
-enum-known-n : tie.Need-enum-known-n
-enum-known-n c = search needs
-
 add-fixed-end : tie.Need-add-fixed-end
 add-fixed-end c = let h : c .before .before .before .before .before .args .at + 2 ≤ length (now (c .before .before .before .before .before .args .s)) = says-inside (says16 _ _ _ _ (sym (c .before .before .before .u16-at .ensures) ∙ c .before .n .given .1)) in omega arith
-
-cast-fixed-end : tie.Need-cast-fixed-end
-cast-fixed-end c = search needs
-
-fixed-end-requires : tie.Need-fixed-end-requires
-fixed-end-requires c κs = search needs
-
-enum-told : tie.Need-enum-told
-enum-told c = search needs
 
 returns : tie.Need-returns
 unfolding blockEnd
@@ -40,11 +25,11 @@ pub block2-end-spec : {M : Type 1} → statement M
 block2-end-spec =
     tie.close
     (tie.spec
-    u16-at-requires
-    enum-known-n
+    (λ c κs. search needs)
+    (λ c. search needs)
     add-fixed-end
-    cast-fixed-end
-    fixed-end-requires
-    enum-told
+    (λ c. search needs)
+    (λ c κs. search needs)
+    (λ c. search needs)
     returns
     returns-2)

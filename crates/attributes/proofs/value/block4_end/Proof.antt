@@ -10,23 +10,8 @@ use lib.ListN.{length}
 use Rattle.attributes.proofs.value.block4_end.Statement.{statement}
 use Rattle.attributes.proofs.value.block4_end.Tie as tie
 
-u32-at-requires : tie.Need-u32-at-requires
-u32-at-requires c κs = search needs
-
-enum-known-n : tie.Need-enum-known-n
-enum-known-n c = search needs
-
 add-fixed-end : tie.Need-add-fixed-end
 add-fixed-end c = let h : c .before .before .before .before .before .args .at + 4 ≤ length (now (c .before .before .before .before .before .args .s)) = says-inside (says32 _ _ _ _ (sym (c .before .before .before .u32-at .ensures) ∙ c .before .n .given .1)) in omega arith
-
-cast-fixed-end : tie.Need-cast-fixed-end
-cast-fixed-end c = search needs
-
-fixed-end-requires : tie.Need-fixed-end-requires
-fixed-end-requires c κs = search needs
-
-enum-told : tie.Need-enum-told
-enum-told c = search needs
 
 returns : tie.Need-returns
 unfolding blockEnd
@@ -40,11 +25,11 @@ pub block4-end-spec : {M : Type 1} → statement M
 block4-end-spec =
     tie.close
     (tie.spec
-    u32-at-requires
-    enum-known-n
+    (λ c κs. search needs)
+    (λ c. search needs)
     add-fixed-end
-    cast-fixed-end
-    fixed-end-requires
-    enum-told
+    (λ c. search needs)
+    (λ c κs. search needs)
+    (λ c. search needs)
     returns
     returns-2)

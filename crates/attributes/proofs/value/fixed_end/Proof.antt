@@ -9,9 +9,6 @@ use lib.ListN.{length}
 use Rattle.attributes.proofs.value.fixed_end.Statement.{statement}
 use Rattle.attributes.proofs.value.fixed_end.Tie as tie
 
-bytes-there-requires : tie.Need-bytes-there-requires
-bytes-there-requires c κs = search needs
-
 add-t6 : tie.Need-add-t6
 add-t6 c = let h : c .before .before .before .args .at + c .before .before .before .args .w ≤ length (now (c .before .before .before .args .s)) = there-inside _ _ _ (sym (c .before .bytes-there .ensures) ∙ c .if1 .taken) in omega arith
 
@@ -24,4 +21,4 @@ unfolding fixedEnd
 returns-2 c = rw (sym (c .before .bytes-there .ensures) ∙ c .if1 .left)
 
 pub fixed-end-spec : {M : Type 1} → statement M
-fixed-end-spec = tie.close (tie.spec bytes-there-requires add-t6 returns returns-2)
+fixed-end-spec = tie.close (tie.spec (λ c κs. search needs) add-t6 returns returns-2)

@@ -3,12 +3,6 @@ use borrow.Author.Needs.{needs}
 use Rattle.attributes.proofs.value.text_end.Statement.{statement}
 use Rattle.attributes.proofs.value.text_end.Tie as tie
 
-zero-from-requires : tie.Need-zero-from-requires
-zero-from-requires c κs = search needs
-
-add-t7 : tie.Need-add-t7
-add-t7 c = search needs
-
 returns : tie.Need-returns
 returns c = text-ends _ _ (c .before .zero-from .ensures) (c .if1 .taken)
 
@@ -16,4 +10,4 @@ returns-2 : tie.Need-returns-2
 returns-2 c = text-short _ _ (c .before .zero-from .ensures) (c .if1 .left)
 
 pub text-end-spec : {M : Type 1} → statement M
-text-end-spec = tie.close (tie.spec zero-from-requires add-t7 returns returns-2)
+text-end-spec = tie.close (tie.spec (λ c κs. search needs) (λ c. search needs) returns returns-2)

@@ -5,57 +5,6 @@ use mathlib.Core.Path.{_∙_}
 use Rattle.attributes.proofs.value.value_end.Statement.{statement}
 use Rattle.attributes.proofs.value.value_end.Tie as tie
 
-enum-told : tie.Need-enum-told
-enum-told c = search needs
-
-fixed-end-requires : tie.Need-fixed-end-requires
-fixed-end-requires c κs = search needs
-
-enum-told-2 : tie.Need-enum-told-2
-enum-told-2 c = search needs
-
-fixed-end-requires-2 : tie.Need-fixed-end-requires-2
-fixed-end-requires-2 c κs = search needs
-
-enum-told-3 : tie.Need-enum-told-3
-enum-told-3 c = search needs
-
-block2-end-requires : tie.Need-block2-end-requires
-block2-end-requires c κs = search needs
-
-enum-told-4 : tie.Need-enum-told-4
-enum-told-4 c = search needs
-
-block4-end-requires : tie.Need-block4-end-requires
-block4-end-requires c κs = search needs
-
-enum-told-5 : tie.Need-enum-told-5
-enum-told-5 c = search needs
-
-fixed-end-requires-3 : tie.Need-fixed-end-requires-3
-fixed-end-requires-3 c κs = search needs
-
-enum-told-6 : tie.Need-enum-told-6
-enum-told-6 c = search needs
-
-fixed-end-requires-4 : tie.Need-fixed-end-requires-4
-fixed-end-requires-4 c κs = search needs
-
-enum-told-7 : tie.Need-enum-told-7
-enum-told-7 c = search needs
-
-fixed-end-requires-5 : tie.Need-fixed-end-requires-5
-fixed-end-requires-5 c κs = search needs
-
-enum-told-8 : tie.Need-enum-told-8
-enum-told-8 c = search needs
-
-text-end-requires : tie.Need-text-end-requires
-text-end-requires c κs = search needs
-
-enum-told-9 : tie.Need-enum-told-9
-enum-told-9 c = search needs
-
 returns : tie.Need-returns
 unfolding valueEnd
 returns c = c .fixed-end .ensures ∙ of-form _ _ _ (c .before .enum-told .given .1)
@@ -96,23 +45,23 @@ pub value-end-spec : {M : Type 1} → statement M
 value-end-spec =
     tie.close
     (tie.spec
-    enum-told
-    fixed-end-requires
-    enum-told-2
-    fixed-end-requires-2
-    enum-told-3
-    block2-end-requires
-    enum-told-4
-    block4-end-requires
-    enum-told-5
-    fixed-end-requires-3
-    enum-told-6
-    fixed-end-requires-4
-    enum-told-7
-    fixed-end-requires-5
-    enum-told-8
-    text-end-requires
-    enum-told-9
+    (λ c. search needs)
+    (λ c κs. search needs)
+    (λ c. search needs)
+    (λ c κs. search needs)
+    (λ c. search needs)
+    (λ c κs. search needs)
+    (λ c. search needs)
+    (λ c κs. search needs)
+    (λ c. search needs)
+    (λ c κs. search needs)
+    (λ c. search needs)
+    (λ c κs. search needs)
+    (λ c. search needs)
+    (λ c κs. search needs)
+    (λ c. search needs)
+    (λ c κs. search needs)
+    (λ c. search needs)
     returns
     returns-2
     returns-3

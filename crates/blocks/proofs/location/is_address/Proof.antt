@@ -4,11 +4,8 @@ use Prim.Native.Nat.{_-_}
 use Rattle.blocks.proofs.location.is_address.Statement.{statement}
 use Rattle.blocks.proofs.location.is_address.Tie as tie
 
-byte-at-requires : tie.Need-byte-at-requires
-byte-at-requires c κs = search needs
-
 returns : tie.Need-returns
 returns c = address-made _ (c .byte-at .ensures)
 
 pub is-address-spec : {M : Type 1} → statement M
-is-address-spec = tie.close (tie.spec byte-at-requires returns)
+is-address-spec = tie.close (tie.spec (λ c κs. search needs) returns)

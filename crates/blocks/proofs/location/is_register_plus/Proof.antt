@@ -4,18 +4,10 @@ use Prim.Native.Nat.{_-_}
 use Rattle.blocks.proofs.location.is_register_plus.Statement.{statement}
 use Rattle.blocks.proofs.location.is_register_plus.Tie as tie
 
-byte-at-requires : tie.Need-byte-at-requires
-byte-at-requires c κs = search needs
-
-byte-at-requires-2 : tie.Need-byte-at-requires-2
-byte-at-requires-2 c κs = search needs
-
-byte-at-requires-3 : tie.Need-byte-at-requires-3
-byte-at-requires-3 c κs = search needs
-
 returns : tie.Need-returns
 returns c = register-plus-made _ (c .before .before .byte-at .ensures) (c .before .byte-at2 .ensures) (c .byte-at3 .ensures)
 
 pub is-register-plus-spec : {M : Type 1} → statement M
 is-register-plus-spec =
-    tie.close (tie.spec byte-at-requires byte-at-requires-2 byte-at-requires-3 returns)
+    tie.close
+    (tie.spec (λ c κs. search needs) (λ c κs. search needs) (λ c κs. search needs) returns)

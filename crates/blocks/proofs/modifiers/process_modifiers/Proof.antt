@@ -18,29 +18,8 @@ abbrev μ-loop : tie.MeasureT-loop
 loop-holds : tie.Need-loop-holds Inv-loop μ-loop
 loop-holds c = begin _
 
-shared-slice-read-parse-int : tie.Need-shared-slice-read-parse-int Inv-loop μ-loop
-shared-slice-read-parse-int c = search needs
-
-parse-int-requires : tie.Need-parse-int-requires Inv-loop μ-loop
-parse-int-requires c κs = search needs
-
-is-known-requires : tie.Need-is-known-requires Inv-loop μ-loop
-is-known-requires c κs = search needs
-
-refused-block-requires : tie.Need-refused-block-requires Inv-loop μ-loop
-refused-block-requires c κs = search needs
-
 returns : tie.Need-returns Inv-loop μ-loop
 returns c = ap Refused (c .refused-block .ensures) ∙ unknown _ _ (c .before .before .before .before .before .loop-test .taken) _ (c .before .before .before .parse-int .ensures) (c .before .before .is-known .ensures) (not-true _ (c .before .if1 .taken)) ∙ c .before .before .before .before .before .before .loop .inv
-
-is-pointer-requires : tie.Need-is-pointer-requires Inv-loop μ-loop
-is-pointer-requires c κs = search needs
-
-add-i : tie.Need-add-i Inv-loop μ-loop
-add-i c = search needs
-
-loop-less : tie.Need-loop-less Inv-loop μ-loop
-loop-less c = search needs
 
 loop-again : tie.Need-loop-again Inv-loop μ-loop
 loop-again c = again _ _ (c .before .before .before .before .before .loop-test .taken) _ (c .before .before .before .parse-int .ensures) (c .before .before .is-known .ensures) (not-false _ (c .before .if1 .left)) (c .is-pointer .ensures) ∙ c .before .before .before .before .before .before .loop .inv
@@ -55,13 +34,13 @@ process-modifiers-spec =
     Inv-loop
     μ-loop
     loop-holds
-    shared-slice-read-parse-int
-    parse-int-requires
-    is-known-requires
-    refused-block-requires
+    (λ c. search needs)
+    (λ c κs. search needs)
+    (λ c κs. search needs)
+    (λ c κs. search needs)
     returns
-    is-pointer-requires
-    add-i
-    loop-less
+    (λ c κs. search needs)
+    (λ c. search needs)
+    (λ c. search needs)
     loop-again
     returns-2)

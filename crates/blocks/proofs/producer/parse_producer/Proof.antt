@@ -4,18 +4,6 @@ use Prim.Native.Nat.{_-_}
 use Rattle.blocks.proofs.producer.parse_producer.Statement.{statement}
 use Rattle.blocks.proofs.producer.parse_producer.Tie as tie
 
-slice-aggregate-starts-with : tie.Need-slice-aggregate-starts-with
-slice-aggregate-starts-with c = search needs
-
-starts-with-requires : tie.Need-starts-with-requires
-starts-with-requires c κs = search needs
-
-slice-aggregate-starts-with-2 : tie.Need-slice-aggregate-starts-with-2
-slice-aggregate-starts-with-2 c = search needs
-
-starts-with-requires-2 : tie.Need-starts-with-requires-2
-starts-with-requires-2 c κs = search needs
-
 returns : tie.Need-returns
 returns c = by-mwcc _ (c .before .starts-with .ensures) (c .if1 .taken)
 
@@ -29,10 +17,10 @@ pub parse-producer-spec : {M : Type 1} → statement M
 parse-producer-spec =
     tie.close
     (tie.spec
-    slice-aggregate-starts-with
-    starts-with-requires
-    slice-aggregate-starts-with-2
-    starts-with-requires-2
+    (λ c. search needs)
+    (λ c κs. search needs)
+    (λ c. search needs)
+    (λ c κs. search needs)
     returns
     returns-2
     returns-3)

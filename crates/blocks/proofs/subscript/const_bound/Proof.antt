@@ -4,18 +4,6 @@ use borrow.Author.Needs.{needs}
 use Rattle.blocks.proofs.subscript.const_bound.Statement.{statement}
 use Rattle.blocks.proofs.subscript.const_bound.Tie as tie
 
-index-at-requires : tie.Need-index-at-requires
-index-at-requires c κs = search needs
-
-enum-known-index : tie.Need-enum-known-index
-enum-known-index c = search needs
-
-high-bound-requires : tie.Need-high-bound-requires
-high-bound-requires c κs = search needs
-
-enum-known-why : tie.Need-enum-known-why
-enum-known-why c = search needs
-
 returns : tie.Need-returns
 unfolding constBound
 returns c = indexed-is _ (c .before .before .before .before .index-at .ensures) (c .before .before .index .given .1) (c .high-bound .ensures)
@@ -27,10 +15,4 @@ returns-2 c = indexed-refused _ (c .before .before .before .index-at .ensures) (
 pub const-bound-spec : {M : Type 1} → statement M
 const-bound-spec =
     tie.close
-    (tie.spec
-    index-at-requires
-    enum-known-index
-    high-bound-requires
-    enum-known-why
-    returns
-    returns-2)
+    (tie.spec (λ c κs. search needs) (λ c. search needs) (λ c κs. search needs) (λ c. search needs) returns returns-2)

@@ -3,15 +3,6 @@ use borrow.Author.Needs.{needs}
 use Rattle.blocks.proofs.subscript.element_type.Statement.{statement}
 use Rattle.blocks.proofs.subscript.element_type.Tie as tie
 
-process-type-requires : tie.Need-process-type-requires
-process-type-requires c κs = search needs
-
-enum-known-of : tie.Need-enum-known-of
-enum-known-of c = search needs
-
-enum-known-why : tie.Need-enum-known-why
-enum-known-why c = search needs
-
 returns : tie.Need-returns
 returns c = element-typed _ (c .before .before .before .process-type .ensures) (c .before .of .given .1)
 
@@ -20,4 +11,5 @@ returns-2 c = element-untyped _ (c .before .before .before .process-type .ensure
 
 pub element-type-spec : {M : Type 1} → statement M
 element-type-spec =
-    tie.close (tie.spec process-type-requires enum-known-of enum-known-why returns returns-2)
+    tie.close
+    (tie.spec (λ c κs. search needs) (λ c. search needs) (λ c. search needs) returns returns-2)

@@ -8,21 +8,6 @@ use mathlib.Core.Path.{sym, ap, _∙_}
 use Rattle.blocks.proofs.subscript.high_bound.Statement.{statement}
 use Rattle.blocks.proofs.subscript.high_bound.Tie as tie
 
-u32-at-requires : tie.Need-u32-at-requires
-u32-at-requires c κs = search needs
-
-enum-known-high : tie.Need-enum-known-high
-enum-known-high c = search needs
-
-wrapping-add-u32-requires : tie.Need-wrapping-add-u32-requires
-wrapping-add-u32-requires c κs = search needs
-
-enum-told : tie.Need-enum-told
-enum-told c = search needs
-
-refused-block-requires : tie.Need-refused-block-requires
-refused-block-requires c κs = search needs
-
 returns : tie.Need-returns
 returns c = high-read _ _ _ (says32 _ _ _ _ (sym (c .before .before .before .before .u32-at .ensures) ∙ c .before .before .high .given .1)) (search needs) (c .wrapping-add-u32 .ensures)
 
@@ -34,10 +19,10 @@ pub high-bound-spec : {M : Type 1} → statement M
 high-bound-spec =
     tie.close
     (tie.spec
-    u32-at-requires
-    enum-known-high
-    wrapping-add-u32-requires
-    enum-told
-    refused-block-requires
+    (λ c κs. search needs)
+    (λ c. search needs)
+    (λ c κs. search needs)
+    (λ c. search needs)
+    (λ c κs. search needs)
     returns
     returns-2)

@@ -7,21 +7,6 @@ use mathlib.Core.Path.{sym, ap, _∙_}
 use Rattle.blocks.proofs.subscript.index_at.Statement.{statement}
 use Rattle.blocks.proofs.subscript.index_at.Tie as tie
 
-u16-at-requires : tie.Need-u16-at-requires
-u16-at-requires c κs = search needs
-
-enum-known-number : tie.Need-enum-known-number
-enum-known-number c = search needs
-
-known-index-requires : tie.Need-known-index-requires
-known-index-requires c κs = search needs
-
-enum-told : tie.Need-enum-told
-enum-told c = search needs
-
-refused-block-requires : tie.Need-refused-block-requires
-refused-block-requires c κs = search needs
-
 returns : tie.Need-returns
 unfolding indexAt
 returns c = c .known-index .ensures ∙ goes-on _ _ (says16 _ _ _ _ (sym (c .before .before .before .before .u16-at .ensures) ∙ c .before .before .number .given .1))
@@ -34,10 +19,10 @@ pub index-at-spec : {M : Type 1} → statement M
 index-at-spec =
     tie.close
     (tie.spec
-    u16-at-requires
-    enum-known-number
-    known-index-requires
-    enum-told
-    refused-block-requires
+    (λ c κs. search needs)
+    (λ c. search needs)
+    (λ c κs. search needs)
+    (λ c. search needs)
+    (λ c κs. search needs)
     returns
     returns-2)

@@ -3,9 +3,6 @@ use borrow.Author.Needs.{needs}
 use Rattle.blocks.proofs.subscript.location_size.Statement.{statement}
 use Rattle.blocks.proofs.subscript.location_size.Tie as tie
 
-process-offset-requires : tie.Need-process-offset-requires
-process-offset-requires c κs = search needs
-
 returns : tie.Need-returns
 returns c = size-none _ _ (c .if1 .taken)
 
@@ -13,4 +10,4 @@ returns-2 : tie.Need-returns-2
 returns-2 c = size-offset _ _ (c .before .if1 .left) (c .process-offset .ensures)
 
 pub location-size-spec : {M : Type 1} → statement M
-location-size-spec = tie.close (tie.spec process-offset-requires returns returns-2)
+location-size-spec = tie.close (tie.spec (λ c κs. search needs) returns returns-2)

@@ -8,21 +8,6 @@ use mathlib.Core.Path.{sym, ap, _∙_}
 use Rattle.blocks.proofs.subscript.low_bound.Statement.{statement}
 use Rattle.blocks.proofs.subscript.low_bound.Tie as tie
 
-u32-at-requires : tie.Need-u32-at-requires
-u32-at-requires c κs = search needs
-
-enum-known-low : tie.Need-enum-known-low
-enum-known-low c = search needs
-
-refused-block-requires : tie.Need-refused-block-requires
-refused-block-requires c κs = search needs
-
-enum-told : tie.Need-enum-told
-enum-told c = search needs
-
-refused-block-requires-2 : tie.Need-refused-block-requires-2
-refused-block-requires-2 c κs = search needs
-
 returns : tie.Need-returns
 returns c = low-zero _ _ _ (says32 _ _ _ _ (sym (c .before .before .before .before .u32-at .ensures) ∙ c .before .before .low .given .1)) (c .if1 .taken)
 
@@ -37,11 +22,11 @@ pub low-bound-spec : {M : Type 1} → statement M
 low-bound-spec =
     tie.close
     (tie.spec
-    u32-at-requires
-    enum-known-low
-    refused-block-requires
-    enum-told
-    refused-block-requires-2
+    (λ c κs. search needs)
+    (λ c. search needs)
+    (λ c κs. search needs)
+    (λ c. search needs)
+    (λ c κs. search needs)
     returns
     returns-2
     returns-3)

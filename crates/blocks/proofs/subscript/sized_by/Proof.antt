@@ -4,18 +4,6 @@ use mathlib.Core.Path.{sym, _∙_}
 use Rattle.blocks.proofs.subscript.sized_by.Statement.{statement}
 use Rattle.blocks.proofs.subscript.sized_by.Tie as tie
 
-bytes-there-requires : tie.Need-bytes-there-requires
-bytes-there-requires c κs = search needs
-
-part-requires : tie.Need-part-requires
-part-requires c κs = search needs
-
-sized-dimension-requires : tie.Need-sized-dimension-requires
-sized-dimension-requires c κs = search needs
-
-refused-block-requires : tie.Need-refused-block-requires
-refused-block-requires c κs = search needs
-
 returns : tie.Need-returns
 returns c = sized-there _ _ _ _ (sym (c .before .before .before .bytes-there .ensures) ∙ c .before .before .if1 .taken) (c .before .part .ensures) (c .sized-dimension .ensures)
 
@@ -26,9 +14,9 @@ pub sized-by-spec : {M : Type 1} → statement M
 sized-by-spec =
     tie.close
     (tie.spec
-    bytes-there-requires
-    part-requires
-    sized-dimension-requires
-    refused-block-requires
+    (λ c κs. search needs)
+    (λ c κs. search needs)
+    (λ c κs. search needs)
+    (λ c κs. search needs)
     returns
     returns-2)

@@ -3,21 +3,6 @@ use borrow.Author.Needs.{needs}
 use Rattle.blocks.proofs.subscripts.process_array_subscript_data.Statement.{statement}
 use Rattle.blocks.proofs.subscripts.process_array_subscript_data.Tie as tie
 
-count-subscripts-requires : tie.Need-count-subscripts-requires
-count-subscripts-requires c κs = search needs
-
-enum-known-element : tie.Need-enum-known-element
-enum-known-element c = search needs
-
-walk-subscripts-requires : tie.Need-walk-subscripts-requires
-walk-subscripts-requires c κs = search needs
-
-enum-known-why : tie.Need-enum-known-why
-enum-known-why c = search needs
-
-same-length : tie.Need-same-length
-same-length c = search needs
-
 returns : tie.Need-returns
 returns c = all-read _ _ _ (c .before .before .before .before .before .before .before .before .count-subscripts .ensures) (c .before .before .before .before .before .before .element .given .1) (c .before .before .before .before .if1 .taken) (c .before .before .walk-subscripts .ensures)
 
@@ -31,11 +16,11 @@ pub process-array-subscript-data-spec : {M : Type 1} → statement M
 process-array-subscript-data-spec =
     tie.close
     (tie.spec
-    count-subscripts-requires
-    enum-known-element
-    walk-subscripts-requires
-    enum-known-why
-    same-length
+    (λ c κs. search needs)
+    (λ c. search needs)
+    (λ c κs. search needs)
+    (λ c. search needs)
+    (λ c. search needs)
     returns
     returns-2
     returns-3)

@@ -13,15 +13,6 @@ abbrev μ-loop : tie.MeasureT-loop
 loop-holds : tie.Need-loop-holds Inv-loop μ-loop
 loop-holds c = begin _ _ _
 
-next-subscript-requires : tie.Need-next-subscript-requires Inv-loop μ-loop
-next-subscript-requires c κs = search needs
-
-enum-known-index : tie.Need-enum-known-index Inv-loop μ-loop
-enum-known-index c = search needs
-
-put-dimension-requires : tie.Need-put-dimension-requires Inv-loop μ-loop
-put-dimension-requires c κs = search needs
-
 add-dimensions : tie.Need-add-dimensions Inv-loop μ-loop
 add-dimensions c = search (needs, c .before .before .before .before .before .before .before .before .before .loop .inv .few, c .before .before .before .before .before .before .before .before .loop-test .taken)
 
@@ -31,17 +22,11 @@ sub-rest c = dimension-inside (c .before .before .before .before .before .before
 part-rest-start : tie.Need-part-rest-start Inv-loop μ-loop
 part-rest-start c = dimension-inside (c .before .before .before .before .before .before .before .before .before .loop .inv) (c .before .before .before .before .before .before .before .before .loop-test .taken) (c .before .before .before .before .before .before .before .next-subscript .ensures) (c .before .before .before .before .before .index .given .1)
 
-part-rest-end : tie.Need-part-rest-end Inv-loop μ-loop
-part-rest-end c = search needs
-
 loop-less : tie.Need-loop-less Inv-loop μ-loop
 loop-less c = dimension-less (c .before .before .before .before .before .before .before .before .before .before .loop .inv) (c .before .before .before .before .before .before .before .before .before .loop-test .taken) (c .before .before .before .before .before .before .before .before .next-subscript .ensures) (c .before .before .before .before .before .before .index .given .1)
 
 loop-again : tie.Need-loop-again Inv-loop μ-loop
 loop-again c = again-dimension (c .before .before .before .before .before .before .before .before .before .before .loop .inv) (c .before .before .before .before .before .before .before .before .before .loop-test .taken) (c .before .before .before .before .before .before .before .before .next-subscript .ensures) (c .before .before .before .before .before .before .index .given .1) (c .before .before .before .put-dimension .ensures)
-
-enum-known-of : tie.Need-enum-known-of Inv-loop μ-loop
-enum-known-of c = search needs
 
 sub-rest-2 : tie.Need-sub-rest-2 Inv-loop μ-loop
 sub-rest-2 c = element-inside (c .before .before .before .before .before .loop .inv) (c .before .before .before .before .loop-test .taken) (c .before .before .before .next-subscript .ensures) (c .before .of .given .1)
@@ -49,26 +34,17 @@ sub-rest-2 c = element-inside (c .before .before .before .before .before .loop .
 part-rest-start-2 : tie.Need-part-rest-start-2 Inv-loop μ-loop
 part-rest-start-2 c = element-inside (c .before .before .before .before .before .loop .inv) (c .before .before .before .before .loop-test .taken) (c .before .before .before .next-subscript .ensures) (c .before .of .given .1)
 
-part-rest-end-2 : tie.Need-part-rest-end-2 Inv-loop μ-loop
-part-rest-end-2 c = search needs
-
 loop-less-2 : tie.Need-loop-less-2 Inv-loop μ-loop
 loop-less-2 c = element-less (c .before .before .before .before .before .before .loop .inv) (c .before .before .before .before .before .loop-test .taken) (c .before .before .before .before .next-subscript .ensures) (c .before .before .of .given .1)
 
 loop-again-2 : tie.Need-loop-again-2 Inv-loop μ-loop
 loop-again-2 c = again-element (c .before .before .before .before .before .before .loop .inv) (c .before .before .before .before .before .loop-test .taken) (c .before .before .before .before .next-subscript .ensures) (c .before .before .of .given .1)
 
-enum-known-why : tie.Need-enum-known-why Inv-loop μ-loop
-enum-known-why c = search needs
-
 same-length : tie.Need-same-length Inv-loop μ-loop
 same-length c = c .before .before .before .before .before .loop .inv .kept
 
 returns : tie.Need-returns Inv-loop μ-loop
 returns c = walk-refused (c .before .before .before .before .before .loop .inv) (c .before .before .before .before .loop-test .taken) (c .before .before .before .next-subscript .ensures) (c .before .why .given .1)
-
-element-or-requires : tie.Need-element-or-requires Inv-loop μ-loop
-element-or-requires c κs = search needs
 
 same-length-2 : tie.Need-same-length-2 Inv-loop μ-loop
 same-length-2 c = c .before .before .loop .inv .kept
@@ -83,24 +59,24 @@ walk-subscripts-spec =
     Inv-loop
     μ-loop
     loop-holds
-    next-subscript-requires
-    enum-known-index
-    put-dimension-requires
+    (λ c κs. search needs)
+    (λ c. search needs)
+    (λ c κs. search needs)
     add-dimensions
     sub-rest
     part-rest-start
-    part-rest-end
+    (λ c. search needs)
     loop-less
     loop-again
-    enum-known-of
+    (λ c. search needs)
     sub-rest-2
     part-rest-start-2
-    part-rest-end-2
+    (λ c. search needs)
     loop-less-2
     loop-again-2
-    enum-known-why
+    (λ c. search needs)
     same-length
     returns
-    element-or-requires
+    (λ c κs. search needs)
     same-length-2
     returns-2)

@@ -7,24 +7,6 @@ use mathlib.Core.Path.{sym, ap, _∙_}
 use Rattle.blocks.proofs.types.fund_type.Statement.{statement}
 use Rattle.blocks.proofs.types.fund_type.Tie as tie
 
-data2-requires : tie.Need-data2-requires
-data2-requires c κs = search needs
-
-enum-known-number : tie.Need-enum-known-number
-enum-known-number c = search needs
-
-slice-aggregate-fundamental : tie.Need-slice-aggregate-fundamental
-slice-aggregate-fundamental c = search needs
-
-fundamental-requires : tie.Need-fundamental-requires
-fundamental-requires c κs = search needs
-
-enum-told : tie.Need-enum-told
-enum-told c = search needs
-
-refused-block-requires : tie.Need-refused-block-requires
-refused-block-requires c κs = search needs
-
 returns : tie.Need-returns
 unfolding fundType
 returns c = c .fundamental .ensures ∙ goes-on _ _ (says16 _ _ _ _ (sym (c .before .before .before .before .before .data2 .ensures) ∙ c .before .before .before .number .given .1))
@@ -37,11 +19,11 @@ pub fund-type-spec : {M : Type 1} → statement M
 fund-type-spec =
     tie.close
     (tie.spec
-    data2-requires
-    enum-known-number
-    slice-aggregate-fundamental
-    fundamental-requires
-    enum-told
-    refused-block-requires
+    (λ c κs. search needs)
+    (λ c. search needs)
+    (λ c. search needs)
+    (λ c κs. search needs)
+    (λ c. search needs)
+    (λ c κs. search needs)
     returns
     returns-2)

@@ -8,33 +8,12 @@ use mathlib.Core.Path.{sym, _∙_}
 use Rattle.blocks.proofs.types.mod_fund_type.Statement.{statement}
 use Rattle.blocks.proofs.types.mod_fund_type.Tie as tie
 
-refused-block-requires : tie.Need-refused-block-requires
-refused-block-requires c κs = search needs
-
 returns : tie.Need-returns
 unfolding modFundType
 returns c = last-missing _ _ _ _ (c .before .if1 .taken) (c .refused-block .ensures)
 
-sub-count : tie.Need-sub-count
-sub-count c = search needs
-
-u16-at-requires : tie.Need-u16-at-requires
-u16-at-requires c κs = search needs
-
-enum-known-number : tie.Need-enum-known-number
-enum-known-number c = search needs
-
 slice-aggregate-fundamental : tie.Need-slice-aggregate-fundamental
 slice-aggregate-fundamental c = sym (length-take-le _ _ (omega arith))
-
-fundamental-requires : tie.Need-fundamental-requires
-fundamental-requires c κs = search needs
-
-enum-told : tie.Need-enum-told
-enum-told c = search needs
-
-refused-block-requires-2 : tie.Need-refused-block-requires-2
-refused-block-requires-2 c κs = search needs
 
 returns-2 : tie.Need-returns-2
 unfolding modFundType
@@ -48,14 +27,14 @@ pub mod-fund-type-spec : {M : Type 1} → statement M
 mod-fund-type-spec =
     tie.close
     (tie.spec
-    refused-block-requires
+    (λ c κs. search needs)
     returns
-    sub-count
-    u16-at-requires
-    enum-known-number
+    (λ c. search needs)
+    (λ c κs. search needs)
+    (λ c. search needs)
     slice-aggregate-fundamental
-    fundamental-requires
-    enum-told
-    refused-block-requires-2
+    (λ c κs. search needs)
+    (λ c. search needs)
+    (λ c κs. search needs)
     returns-2
     returns-3)

@@ -8,33 +8,12 @@ use mathlib.Core.Path.{sym, _∙_}
 use Rattle.blocks.proofs.types.mod_u_d_type.Statement.{statement}
 use Rattle.blocks.proofs.types.mod_u_d_type.Tie as tie
 
-refused-block-requires : tie.Need-refused-block-requires
-refused-block-requires c κs = search needs
-
 returns : tie.Need-returns
 unfolding modUDType
 returns c = last-missing _ _ _ _ (c .before .if1 .taken) (c .refused-block .ensures)
 
-sub-count : tie.Need-sub-count
-sub-count c = search needs
-
-u32-at-requires : tie.Need-u32-at-requires
-u32-at-requires c κs = search needs
-
-enum-known-key : tie.Need-enum-known-key
-enum-known-key c = search needs
-
 slice-aggregate-modified : tie.Need-slice-aggregate-modified
 slice-aggregate-modified c = sym (length-take-le _ _ (omega arith))
-
-modified-requires : tie.Need-modified-requires
-modified-requires c κs = search needs
-
-enum-told : tie.Need-enum-told
-enum-told c = search needs
-
-refused-block-requires-2 : tie.Need-refused-block-requires-2
-refused-block-requires-2 c κs = search needs
 
 returns-2 : tie.Need-returns-2
 unfolding modUDType
@@ -48,14 +27,14 @@ pub mod-u-d-type-spec : {M : Type 1} → statement M
 mod-u-d-type-spec =
     tie.close
     (tie.spec
-    refused-block-requires
+    (λ c κs. search needs)
     returns
-    sub-count
-    u32-at-requires
-    enum-known-key
+    (λ c. search needs)
+    (λ c κs. search needs)
+    (λ c. search needs)
     slice-aggregate-modified
-    modified-requires
-    enum-told
-    refused-block-requires-2
+    (λ c κs. search needs)
+    (λ c. search needs)
+    (λ c κs. search needs)
     returns-2
     returns-3)

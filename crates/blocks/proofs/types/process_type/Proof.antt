@@ -5,38 +5,8 @@ use mathlib.Core.Path.{ap, _∙_}
 use Rattle.blocks.proofs.types.process_type.Statement.{statement}
 use Rattle.blocks.proofs.types.process_type.Tie as tie
 
-refused-block-requires : tie.Need-refused-block-requires
-refused-block-requires c κs = search needs
-
 returns : tie.Need-returns
 returns c = past-end _ _ _ _ (c .before .if1 .taken) (c .refused-block .ensures)
-
-fund-type-requires : tie.Need-fund-type-requires
-fund-type-requires c κs = search needs
-
-block2-requires : tie.Need-block2-requires
-block2-requires c κs = search needs
-
-add-mod-fund-type : tie.Need-add-mod-fund-type
-add-mod-fund-type c = search needs
-
-mod-fund-type-requires : tie.Need-mod-fund-type-requires
-mod-fund-type-requires c κs = search needs
-
-user-def-type-requires : tie.Need-user-def-type-requires
-user-def-type-requires c κs = search needs
-
-block2-requires-2 : tie.Need-block2-requires-2
-block2-requires-2 c κs = search needs
-
-add-mod-u-d-type : tie.Need-add-mod-u-d-type
-add-mod-u-d-type c = search needs
-
-mod-u-d-type-requires : tie.Need-mod-u-d-type-requires
-mod-u-d-type-requires c κs = search needs
-
-refused-block-requires-2 : tie.Need-refused-block-requires-2
-refused-block-requires-2 c κs = search needs
 
 returns-2 : tie.Need-returns-2
 unfolding typeAt
@@ -61,17 +31,17 @@ pub process-type-spec : {M : Type 1} → statement M
 process-type-spec =
     tie.close
     (tie.spec
-    refused-block-requires
+    (λ c κs. search needs)
     returns
-    fund-type-requires
-    block2-requires
-    add-mod-fund-type
-    mod-fund-type-requires
-    user-def-type-requires
-    block2-requires-2
-    add-mod-u-d-type
-    mod-u-d-type-requires
-    refused-block-requires-2
+    (λ c κs. search needs)
+    (λ c κs. search needs)
+    (λ c. search needs)
+    (λ c κs. search needs)
+    (λ c κs. search needs)
+    (λ c κs. search needs)
+    (λ c. search needs)
+    (λ c κs. search needs)
+    (λ c κs. search needs)
     returns-2
     returns-3
     returns-4

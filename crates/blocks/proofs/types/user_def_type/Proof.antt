@@ -7,24 +7,6 @@ use mathlib.Core.Path.{sym, ap, _∙_}
 use Rattle.blocks.proofs.types.user_def_type.Statement.{statement}
 use Rattle.blocks.proofs.types.user_def_type.Tie as tie
 
-reference-requires : tie.Need-reference-requires
-reference-requires c κs = search needs
-
-enum-known-key : tie.Need-enum-known-key
-enum-known-key c = search needs
-
-slice-aggregate-modified : tie.Need-slice-aggregate-modified
-slice-aggregate-modified c = search needs
-
-modified-requires : tie.Need-modified-requires
-modified-requires c κs = search needs
-
-enum-told : tie.Need-enum-told
-enum-told c = search needs
-
-refused-block-requires : tie.Need-refused-block-requires
-refused-block-requires c κs = search needs
-
 returns : tie.Need-returns
 unfolding userDefType
 returns c = c .modified .ensures ∙ goes-on _ _ (says32 _ _ _ _ (sym (c .before .before .before .before .before .reference .ensures) ∙ c .before .before .before .key .given .1))
@@ -37,11 +19,11 @@ pub user-def-type-spec : {M : Type 1} → statement M
 user-def-type-spec =
     tie.close
     (tie.spec
-    reference-requires
-    enum-known-key
-    slice-aggregate-modified
-    modified-requires
-    enum-told
-    refused-block-requires
+    (λ c κs. search needs)
+    (λ c. search needs)
+    (λ c. search needs)
+    (λ c κs. search needs)
+    (λ c. search needs)
+    (λ c κs. search needs)
     returns
     returns-2)

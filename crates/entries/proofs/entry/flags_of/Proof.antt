@@ -5,19 +5,10 @@ use native.Mathlib.Omega.{arith}
 use Rattle.entries.proofs.entry.flags_of.Statement.{statement}
 use Rattle.entries.proofs.entry.flags_of.Tie as tie
 
-flag-requires : tie.Need-flag-requires
-flag-requires c κs = search needs
-
-flag-requires-2 : tie.Need-flag-requires-2
-flag-requires-2 c κs = search needs
-
 add-result : tie.Need-add-result
 add-result c =
     let a = c .before .before .args in
     omega (arith, c .before .flag .ensures, c .flag2 .ensures, flag-small (a .erased) 1, flag-small (a .root) 2)
-
-little-flag-requires : tie.Need-little-flag-requires
-little-flag-requires c κs = search needs
 
 add-result-2 : tie.Need-add-result-2
 add-result-2 c =
@@ -31,4 +22,4 @@ returns c = rw (c .before .before .flag .ensures, c .before .flag2 .ensures, c .
 pub flags-of-spec : {M : Type 1} → statement M
 flags-of-spec =
     tie.close
-    (tie.spec flag-requires flag-requires-2 add-result little-flag-requires add-result-2 returns)
+    (tie.spec (λ c κs. search needs) (λ c κs. search needs) add-result (λ c κs. search needs) add-result-2 returns)

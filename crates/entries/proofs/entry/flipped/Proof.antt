@@ -4,12 +4,6 @@ use mathlib.Core.Path.{sym, ap}
 use Rattle.entries.proofs.entry.flipped.Statement.{statement}
 use Rattle.entries.proofs.entry.flipped.Tie as tie
 
-enum-told : tie.Need-enum-told
-enum-told c = search needs
-
-enum-told-2 : tie.Need-enum-told-2
-enum-told-2 c = search needs
-
 returns : tie.Need-returns
 unfolding flip
 returns c = sym (ap flip (c .enum-told .given .1))
@@ -19,4 +13,4 @@ unfolding flip
 returns-2 c = sym (ap flip (c .enum-told2 .given .1))
 
 pub flipped-spec : {M : Type 1} → statement M
-flipped-spec = tie.close (tie.spec enum-told enum-told-2 returns returns-2)
+flipped-spec = tie.close (tie.spec (λ c. search needs) (λ c. search needs) returns returns-2)

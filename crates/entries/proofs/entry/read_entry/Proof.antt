@@ -5,39 +5,18 @@ use native.Mathlib.Omega.{arith}
 use Rattle.entries.proofs.entry.read_entry.Statement.{statement}
 use Rattle.entries.proofs.entry.read_entry.Tie as tie
 
-head-at-requires : tie.Need-head-at-requires
-head-at-requires c κs = search needs
-
-enum-known-place : tie.Need-enum-known-place
-enum-known-place c = search needs
-
 read-null-requires : tie.Need-read-null-requires
 read-null-requires c κs =
     let b = head-bounds _ _ (c .before .before .before .before .head-at .ensures) (c .before .before .place .given .1) in
     record { small = omega (arith, b .0, c .before .before .before .before .before .before .before .before .before .pre .small); rows-few = c .before .before .before .before .before .before .before .before .before .pre .rows-few; attrs-few = c .before .before .before .before .before .before .before .before .before .pre .attrs-few }
-
-enum-known-place-2 : tie.Need-enum-known-place-2
-enum-known-place-2 c = search needs
-
-enum-known-end : tie.Need-enum-known-end
-enum-known-end c = search needs
 
 read-root-requires : tie.Need-read-root-requires
 read-root-requires c κs =
     let b = head-bounds _ _ (c .before .before .before .before .before .head-at .ensures) (c .before .before .before .end .given .1) in
     (record { ready = c .before .before .before .before .before .before .before .before .before .before .pre; here = b .0 }, omega (arith, b .0, b .1, c .before .before .before .before .before .before .before .before .before .before .pre .small))
 
-enum-known-kind : tie.Need-enum-known-kind
-enum-known-kind c = search needs
-
 read-ordinary-requires : tie.Need-read-ordinary-requires
 read-ordinary-requires c κs = record { ready = c .before .before .before .before .before .before .before .before .before .before .pre; here = head-bounds _ _ (c .before .before .before .before .before .head-at .ensures) (c .before .before .before .kind .given .1) .0 }
-
-enum-known-why : tie.Need-enum-known-why
-enum-known-why c = search needs
-
-same-length : tie.Need-same-length
-same-length c = search needs
 
 returns : tie.Need-returns
 returns c =
@@ -49,20 +28,8 @@ returns-2 c =
     renamed _ _ (at-head _ _ _ _ _ _ _ _ _ (c .before .before .before .head-at .ensures .answer) (c .before .place2 .given .1))
     (entry-skipped _ _ _ _ _ _ _ (c .before .before .before .before .before .before .before .before .pre) _ (head-bounds _ _ (c .before .before .before .head-at .ensures) (c .before .place2 .given .1)))
 
-same-length-2 : tie.Need-same-length-2
-same-length-2 c = search needs
-
-same-length-3 : tie.Need-same-length-3
-same-length-3 c = search needs
-
 returns-3 : tie.Need-returns-3
 returns-3 c = renamed _ _ (at-head _ _ _ _ _ _ _ _ _ (c .before .before .before .before .before .before .before .before .before .before .head-at .ensures .answer) (c .before .before .before .before .before .before .before .before .end .given .1)) (c .before .before .before .before .read-root .ensures)
-
-same-length-4 : tie.Need-same-length-4
-same-length-4 c = search needs
-
-same-length-5 : tie.Need-same-length-5
-same-length-5 c = search needs
 
 returns-4 : tie.Need-returns-4
 unfolding entryFrom
@@ -76,22 +43,22 @@ pub read-entry-spec : {M : Type 1} → statement M
 read-entry-spec =
     tie.close
     (tie.spec
-    head-at-requires
-    enum-known-place
+    (λ c κs. search needs)
+    (λ c. search needs)
     read-null-requires
-    enum-known-place-2
-    enum-known-end
+    (λ c. search needs)
+    (λ c. search needs)
     read-root-requires
-    enum-known-kind
+    (λ c. search needs)
     read-ordinary-requires
-    enum-known-why
-    same-length
+    (λ c. search needs)
+    (λ c. search needs)
     returns
     returns-2
-    same-length-2
-    same-length-3
+    (λ c. search needs)
+    (λ c. search needs)
     returns-3
-    same-length-4
-    same-length-5
+    (λ c. search needs)
+    (λ c. search needs)
     returns-4
     returns-5)

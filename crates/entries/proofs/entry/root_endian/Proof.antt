@@ -9,24 +9,6 @@ use Rattle.entries.proofs.entry.root_endian.Tie as tie
 returns : tie.Need-returns
 returns c = endian-inside _ _ _ _ (c .if1 .taken)
 
-add-u16-at : tie.Need-add-u16-at
-add-u16-at c = search needs
-
-u16-at-requires : tie.Need-u16-at-requires
-u16-at-requires c κs = search needs
-
-enum-known-n : tie.Need-enum-known-n
-enum-known-n c = search needs
-
-is-known-requires : tie.Need-is-known-requires
-is-known-requires c κs = search needs
-
-flipped-requires : tie.Need-flipped-requires
-flipped-requires c κs = search needs
-
-enum-told : tie.Need-enum-told
-enum-told c = search needs
-
 returns-2 : tie.Need-returns-2
 returns-2 c =
     endian-known _ _ _ _ _ (c .before .before .before .before .before .before .if1 .left) (sym (c .before .is-known .ensures) ∙ c .if2 .taken) (goes-on _ _ (says16 _ _ _ _ (sym (c .before .before .before .before .before .u16-at .ensures) ∙ c .before .before .before .n .given .1)))
@@ -44,12 +26,12 @@ root-endian-spec =
     tie.close
     (tie.spec
     returns
-    add-u16-at
-    u16-at-requires
-    enum-known-n
-    is-known-requires
-    flipped-requires
-    enum-told
+    (λ c. search needs)
+    (λ c κs. search needs)
+    (λ c. search needs)
+    (λ c κs. search needs)
+    (λ c κs. search needs)
+    (λ c. search needs)
     returns-2
     returns-3
     returns-4)

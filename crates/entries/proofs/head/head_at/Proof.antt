@@ -6,17 +6,8 @@ use mathlib.Core.Path.{sym, _∙_}
 use Rattle.entries.proofs.head.head_at.Statement.{statement}
 use Rattle.entries.proofs.head.head_at.Tie as tie
 
-u32-at-requires : tie.Need-u32-at-requires
-u32-at-requires c κs = search needs
-
-enum-known-size : tie.Need-enum-known-size
-enum-known-size c = search needs
-
 size-head-requires : tie.Need-size-head-requires
 size-head-requires c κs = says-inside (says32 _ _ _ _ (sym (c .before .before .before .u32-at .ensures) ∙ c .before .size .given .1))
-
-enum-told : tie.Need-enum-told
-enum-told c = search needs
 
 returns : tie.Need-returns
 returns c = head-sized _ _ _ _ _ (c .size-head .ensures) (goes-on _ _ (says32 _ _ _ _ (sym (c .before .before .before .before .u32-at .ensures) ∙ c .before .before .size .given .1)))
@@ -27,4 +18,4 @@ returns-2 c = head-short _ _ _ _ (reads-short _ _ _ _ _ _ (short32 _ _ _ _ (sym 
 pub head-at-spec : {M : Type 1} → statement M
 head-at-spec =
     tie.close
-    (tie.spec u32-at-requires enum-known-size size-head-requires enum-told returns returns-2)
+    (tie.spec (λ c κs. search needs) (λ c. search needs) size-head-requires (λ c. search needs) returns returns-2)

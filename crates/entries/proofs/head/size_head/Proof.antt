@@ -10,29 +10,8 @@ use lib.ListN.{length}
 use Rattle.entries.proofs.head.size_head.Statement.{statement}
 use Rattle.entries.proofs.head.size_head.Tie as tie
 
-null-end-requires : tie.Need-null-end-requires
-null-end-requires c κs = search needs
-
 returns : tie.Need-returns
 returns c = size-null _ _ _ _ _ (c .before .before .before .pre) (c .before .if1 .taken) (c .null-end .ensures)
-
-add-u16-at : tie.Need-add-u16-at
-add-u16-at c = search needs
-
-u16-at-requires : tie.Need-u16-at-requires
-u16-at-requires c κs = search needs
-
-enum-known-kind : tie.Need-enum-known-kind
-enum-known-kind c = search needs
-
-add-tag-head : tie.Need-add-tag-head
-add-tag-head c = search needs
-
-tag-head-requires : tie.Need-tag-head-requires
-tag-head-requires c κs = search needs
-
-enum-told : tie.Need-enum-told
-enum-told c = search needs
 
 returns-2 : tie.Need-returns-2
 returns-2 c =
@@ -47,13 +26,13 @@ pub size-head-spec : {M : Type 1} → statement M
 size-head-spec =
     tie.close
     (tie.spec
-    null-end-requires
+    (λ c κs. search needs)
     returns
-    add-u16-at
-    u16-at-requires
-    enum-known-kind
-    add-tag-head
-    tag-head-requires
-    enum-told
+    (λ c. search needs)
+    (λ c κs. search needs)
+    (λ c. search needs)
+    (λ c. search needs)
+    (λ c κs. search needs)
+    (λ c. search needs)
     returns-2
     returns-3)

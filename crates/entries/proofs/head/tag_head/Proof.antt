@@ -4,9 +4,6 @@ use mathlib.Core.Path.{sym, _∙_}
 use Rattle.entries.proofs.head.tag_head.Statement.{statement}
 use Rattle.entries.proofs.head.tag_head.Tie as tie
 
-is-tag-requires : tie.Need-is-tag-requires
-is-tag-requires c κs = search needs
-
 returns : tie.Need-returns
 returns c = tag-root _ _ _ (sym (c .before .before .before .is-tag .ensures) ∙ c .before .before .if1 .taken) (c .before .if2 .taken) (c .if3 .taken)
 
@@ -20,4 +17,4 @@ returns-4 : tie.Need-returns-4
 returns-4 c = tag-unknown _ _ _ (sym (c .before .is-tag .ensures) ∙ c .if1 .left)
 
 pub tag-head-spec : {M : Type 1} → statement M
-tag-head-spec = tie.close (tie.spec is-tag-requires returns returns-2 returns-3 returns-4)
+tag-head-spec = tie.close (tie.spec (λ c κs. search needs) returns returns-2 returns-3 returns-4)

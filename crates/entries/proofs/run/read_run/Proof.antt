@@ -14,32 +14,14 @@ abbrev μ-loop : tie.MeasureT-loop
 loop-holds : tie.Need-loop-holds Inv-loop μ-loop
 loop-holds c = begin _ _ _ _ _ _ _ (c .before .before .before .pre)
 
-run-ends-requires : tie.Need-run-ends-requires Inv-loop μ-loop
-run-ends-requires c κs = search needs
-
 same-length : tie.Need-same-length Inv-loop μ-loop
 same-length c = kept _ _ _ _ _ _ (c .before .before .before .loop .inv)
 
 returns : tie.Need-returns Inv-loop μ-loop
 returns c = ends _ _ _ _ _ _ (c .before .before .before .loop .inv) (sym (c .before .run-ends .ensures) ∙ c .if1 .taken)
 
-read-attribute-requires : tie.Need-read-attribute-requires Inv-loop μ-loop
-read-attribute-requires c κs = search needs
-
-enum-known-number : tie.Need-enum-known-number Inv-loop μ-loop
-enum-known-number c = search needs
-
-cast-t22 : tie.Need-cast-t22 Inv-loop μ-loop
-cast-t22 c = search needs
-
 cast-t23 : tie.Need-cast-t23 Inv-loop μ-loop
 cast-t23 c = record { fits = value-small _ _ _ _ _ _ (c .before .before .before .before .before .before .before .before .loop .inv) (sym (c .before .before .before .before .read-attribute .ensures) ∙ c .before .before .number .given .1) }
-
-put-attr-requires : tie.Need-put-attr-requires Inv-loop μ-loop
-put-attr-requires c κs = search needs
-
-add-n : tie.Need-add-n Inv-loop μ-loop
-add-n c = search needs
 
 loop-less : tie.Need-loop-less Inv-loop μ-loop
 loop-less c = falls _ _ _ _ _ _ (c .before .before .before .before .before .before .before .before .before .before .before .loop .inv) (c .before .before .before .before .before .before .before .before .before .before .loop-test .taken) (sym (c .before .before .before .before .before .before .before .read-attribute .ensures) ∙ c .before .before .before .before .before .number .given .1)
@@ -49,18 +31,12 @@ loop-again c =
     again _ _ _ _ _ _ (c .before .before .before .before .before .before .before .before .before .before .before .loop .inv) (c .before .before .before .before .before .before .before .before .before .before .loop-test .taken) (sym (c .before .before .before .before .before .before .before .before .before .run-ends .ensures) ∙ c .before .before .before .before .before .before .before .before .if1 .left)
     (sym (c .before .before .before .before .before .before .before .read-attribute .ensures) ∙ c .before .before .before .before .before .number .given .1) (c .before .before .put-attr .ensures)
 
-enum-told : tie.Need-enum-told Inv-loop μ-loop
-enum-told c = search needs
-
 same-length-2 : tie.Need-same-length-2 Inv-loop μ-loop
 same-length-2 c = kept _ _ _ _ _ _ (c .before .before .before .before .before .before .loop .inv)
 
 returns-2 : tie.Need-returns-2 Inv-loop μ-loop
 returns-2 c =
     short _ _ _ _ _ _ (c .before .before .before .before .before .before .loop .inv) (c .before .before .before .before .before .loop-test .taken) (sym (c .before .before .before .before .run-ends .ensures) ∙ c .before .before .before .if1 .left) (sym (c .before .before .read-attribute .ensures) ∙ c .enum-told .given .1)
-
-enum-told-2 : tie.Need-enum-told-2 Inv-loop μ-loop
-enum-told-2 c = search needs
 
 same-length-3 : tie.Need-same-length-3 Inv-loop μ-loop
 same-length-3 c = kept _ _ _ _ _ _ (c .before .before .before .before .before .before .loop .inv)
@@ -82,21 +58,21 @@ read-run-spec =
     Inv-loop
     μ-loop
     loop-holds
-    run-ends-requires
+    (λ c κs. search needs)
     same-length
     returns
-    read-attribute-requires
-    enum-known-number
-    cast-t22
+    (λ c κs. search needs)
+    (λ c. search needs)
+    (λ c. search needs)
     cast-t23
-    put-attr-requires
-    add-n
+    (λ c κs. search needs)
+    (λ c. search needs)
     loop-less
     loop-again
-    enum-told
+    (λ c. search needs)
     same-length-2
     returns-2
-    enum-told-2
+    (λ c. search needs)
     same-length-3
     returns-3
     same-length-4

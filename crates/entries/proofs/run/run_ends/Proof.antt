@@ -6,18 +6,6 @@ use mathlib.Core.Path.{sym, _∙_}
 use Rattle.entries.proofs.run.run_ends.Statement.{statement}
 use Rattle.entries.proofs.run.run_ends.Tie as tie
 
-u16-at-requires : tie.Need-u16-at-requires
-u16-at-requires c κs = search needs
-
-enum-known-n : tie.Need-enum-known-n
-enum-known-n c = search needs
-
-plays-role-requires : tie.Need-plays-role-requires
-plays-role-requires c κs = search needs
-
-enum-told : tie.Need-enum-told
-enum-told c = search needs
-
 returns : tie.Need-returns
 returns c = ends-read _ _ _ _ _ (c .before .before .before .before .before .if1 .taken) (c .plays-role .ensures) (goes-on _ _ (says16 _ _ _ _ (sym (c .before .before .before .before .u16-at .ensures) ∙ c .before .before .n .given .1)))
 
@@ -31,10 +19,10 @@ pub run-ends-spec : {M : Type 1} → statement M
 run-ends-spec =
     tie.close
     (tie.spec
-    u16-at-requires
-    enum-known-n
-    plays-role-requires
-    enum-told
+    (λ c κs. search needs)
+    (λ c. search needs)
+    (λ c κs. search needs)
+    (λ c. search needs)
     returns
     returns-2
     returns-3)

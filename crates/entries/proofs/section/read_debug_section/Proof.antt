@@ -4,26 +4,8 @@ use mathlib.Core.Path.{sym, _∙_}
 use Rattle.entries.proofs.section.read_debug_section.Statement.{statement}
 use Rattle.entries.proofs.section.read_debug_section.Tie as tie
 
-count-debug-section-requires : tie.Need-count-debug-section-requires
-count-debug-section-requires c κs = search needs
-
-enum-known-counts : tie.Need-enum-known-counts
-enum-known-counts c = search needs
-
-fits-tables-requires : tie.Need-fits-tables-requires
-fits-tables-requires c κs = search needs
-
 read-whole-requires : tie.Need-read-whole-requires
 read-whole-requires c κs = countable _ _ _ _ (sym (c .before .before .before .before .before .before .before .count-debug-section .ensures) ∙ c .before .before .before .before .before .counts .given .1) .short
-
-enum-known-why : tie.Need-enum-known-why
-enum-known-why c = search needs
-
-same-length : tie.Need-same-length
-same-length c = search needs
-
-same-length-2 : tie.Need-same-length-2
-same-length-2 c = search needs
 
 returns : tie.Need-returns
 returns c =
@@ -39,13 +21,13 @@ pub read-debug-section-spec : {M : Type 1} → statement M
 read-debug-section-spec =
     tie.close
     (tie.spec
-    count-debug-section-requires
-    enum-known-counts
-    fits-tables-requires
+    (λ c κs. search needs)
+    (λ c. search needs)
+    (λ c κs. search needs)
     read-whole-requires
-    enum-known-why
-    same-length
-    same-length-2
+    (λ c. search needs)
+    (λ c. search needs)
+    (λ c. search needs)
     returns
     returns-2
     returns-3)

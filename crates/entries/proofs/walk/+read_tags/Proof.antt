@@ -39,17 +39,11 @@ read-tags-loop-holds t c = begin _ _ _ _ _ _ _ _ _ _ (c .before .before .before 
 read-tags-read-entry-requires : (t : ℕ) → read-tags-lts.Need-read-entry-requires (G t) (read-tags-at t) read-tags.Post read-tags-Inv-loop read-tags-μ-loop
 read-tags-read-entry-requires t c κs = c .before .before .before .before .loop .inv .ready
 
-read-tags-enum-known-next : (t : ℕ) → read-tags-lts.Need-enum-known-next (G t) (read-tags-at t) read-tags.Post read-tags-Inv-loop read-tags-μ-loop
-read-tags-enum-known-next t c = search needs
-
 read-tags-loop-less : (t : ℕ) → read-tags-lts.Need-loop-less (G t) (read-tags-at t) read-tags.Post read-tags-Inv-loop read-tags-μ-loop
 read-tags-loop-less t c = forward _ _ _ _ _ _ _ _ (c .before .before .before .before .before .before .before .before .before .before .before .before .loop .inv) (c .before .before .before .before .before .before .before .before .before .before .if1 .taken) (c .before .before .before .before .before .before .before .read-entry .ensures) (c .before .next .given .1)
 
 read-tags-loop-again : (t : ℕ) → read-tags-lts.Need-loop-again (G t) (read-tags-at t) read-tags.Post read-tags-Inv-loop read-tags-μ-loop
 read-tags-loop-again t c = again _ _ _ _ _ _ _ _ (c .before .before .before .before .before .before .before .before .before .before .before .before .loop .inv) (c .before .before .before .before .before .before .before .before .before .before .if1 .taken) (c .before .before .before .before .before .before .before .read-entry .ensures) (c .before .next .given .1)
-
-read-tags-enum-known-next-2 : (t : ℕ) → read-tags-lts.Need-enum-known-next-2 (G t) (read-tags-at t) read-tags.Post read-tags-Inv-loop read-tags-μ-loop
-read-tags-enum-known-next-2 t c = search needs
 
 read-tags-sub-read-tags : (t : ℕ) → read-tags-lts.Need-sub-read-tags (G t) (read-tags-at t) read-tags.Post read-tags-Inv-loop read-tags-μ-loop
 read-tags-sub-read-tags t c = level-left _ _ _ _ _ _ _ _ (c .before .before .before .before .before .before .before .before .before .before .before .before .before .before .loop .inv) (c .before .before .before .before .before .before .before .before .before .before .before .before .if1 .taken) (c .before .before .before .before .before .before .before .before .before .read-entry .ensures) (c .before .before .before .next2 .given .1)
@@ -59,17 +53,11 @@ read-tags-read-tags-requires t c κs =
     let left : 0 < c .before .before .before .before .before .before .before .before .before .before .before .before .before .before .before .before .before .before .before .args .levels = level-left _ _ _ _ _ _ _ _ (c .before .before .before .before .before .before .before .before .before .before .before .before .before .before .loop .inv) (c .before .before .before .before .before .before .before .before .before .before .before .before .if1 .taken) (c .before .before .before .before .before .before .before .before .before .read-entry .ensures) (c .before .before .before .next2 .given .1) in
     (omega (arith, c .before .before .before .before .before .before .before .before .before .before .before .before .before .before .before .before .before .before .before .pre .0), (inside-ready _ _ _ _ _ _ _ _ (c .before .before .before .before .before .before .before .before .before .before .before .before .before .before .loop .inv) (c .before .before .before .before .before .before .before .before .before .before .before .before .if1 .taken) (c .before .before .before .before .before .before .before .before .before .read-entry .ensures) (c .before .before .before .next2 .given .1), inside-near _ _ _ _ _ _ _ _ (c .before .before .before .before .before .before .before .before .before .before .before .before .before .before .loop .inv) (c .before .before .before .before .before .before .before .before .before .before .before .before .if1 .taken) (c .before .before .before .before .before .before .before .before .before .read-entry .ensures) (c .before .before .before .next2 .given .1)))
 
-read-tags-enum-known-after : (t : ℕ) → read-tags-lts.Need-enum-known-after (G t) (read-tags-at t) read-tags.Post read-tags-Inv-loop read-tags-μ-loop
-read-tags-enum-known-after t c = search needs
-
 read-tags-loop-less-2 : (t : ℕ) → read-tags-lts.Need-loop-less-2 (G t) (read-tags-at t) read-tags.Post read-tags-Inv-loop read-tags-μ-loop
 read-tags-loop-less-2 t c = falls-inside _ _ _ _ _ _ _ _ (c .before .before .before .before .before .before .before .before .before .before .before .before .before .before .before .before .before .before .before .before .before .before .loop .inv) (c .before .before .before .before .before .before .before .before .before .before .before .before .before .before .before .before .before .before .before .before .if1 .taken) (c .before .before .before .before .before .before .before .before .before .before .before .before .before .before .before .before .before .read-entry .ensures) (c .before .before .before .before .before .before .before .before .before .before .before .next2 .given .1) (c .before .before .before .before .before .before .before .read-tags .ensures) (c .before .after .given .1)
 
 read-tags-loop-again-2 : (t : ℕ) → read-tags-lts.Need-loop-again-2 (G t) (read-tags-at t) read-tags.Post read-tags-Inv-loop read-tags-μ-loop
 read-tags-loop-again-2 t c = again-inside _ _ _ _ _ _ _ _ (c .before .before .before .before .before .before .before .before .before .before .before .before .before .before .before .before .before .before .before .before .before .before .loop .inv) (c .before .before .before .before .before .before .before .before .before .before .before .before .before .before .before .before .before .before .before .before .if1 .taken) (c .before .before .before .before .before .before .before .before .before .before .before .before .before .before .before .before .before .read-entry .ensures) (c .before .before .before .before .before .before .before .before .before .before .before .next2 .given .1) (c .before .before .before .before .before .before .before .read-tags .ensures) (c .before .after .given .1)
-
-read-tags-enum-known-why : (t : ℕ) → read-tags-lts.Need-enum-known-why (G t) (read-tags-at t) read-tags.Post read-tags-Inv-loop read-tags-μ-loop
-read-tags-enum-known-why t c = search needs
 
 read-tags-same-length : (t : ℕ) → read-tags-lts.Need-same-length (G t) (read-tags-at t) read-tags.Post read-tags-Inv-loop read-tags-μ-loop
 read-tags-same-length t c = c .before .before .before .before .before .before .before .read-tags .kept .1 .1 .1 .0 ∙ c .before .before .before .before .before .before .before .before .before .before .before .before .before .before .before .before .before .read-entry .kept .1 .1 .1 .0 ∙ rows-kept _ _ _ _ _ _ _ _ (c .before .before .before .before .before .before .before .before .before .before .before .before .before .before .before .before .before .before .before .before .before .before .loop .inv)
@@ -79,9 +67,6 @@ read-tags-same-length-2 t c = c .before .before .before .before .before .before 
 
 read-tags-returns : (t : ℕ) → read-tags-lts.Need-returns (G t) (read-tags-at t) read-tags.Post read-tags-Inv-loop read-tags-μ-loop
 read-tags-returns t c = refused-inside _ _ _ _ _ _ _ _ (c .before .before .before .before .before .before .before .before .before .before .before .before .before .before .before .before .before .before .before .before .before .before .loop .inv) (c .before .before .before .before .before .before .before .before .before .before .before .before .before .before .before .before .before .before .before .before .if1 .taken) (c .before .before .before .before .before .before .before .before .before .before .before .before .before .before .before .before .before .read-entry .ensures) (c .before .before .before .before .before .before .before .before .before .before .before .next2 .given .1) (c .before .before .before .before .before .before .before .read-tags .ensures) (c .before .why .given .1)
-
-read-tags-enum-known-why-2 : (t : ℕ) → read-tags-lts.Need-enum-known-why-2 (G t) (read-tags-at t) read-tags.Post read-tags-Inv-loop read-tags-μ-loop
-read-tags-enum-known-why-2 t c = search needs
 
 read-tags-same-length-3 : (t : ℕ) → read-tags-lts.Need-same-length-3 (G t) (read-tags-at t) read-tags.Post read-tags-Inv-loop read-tags-μ-loop
 read-tags-same-length-3 t c = c .before .before .before .before .before .before .before .read-entry .kept .1 .1 .1 .0 ∙ rows-kept _ _ _ _ _ _ _ _ (c .before .before .before .before .before .before .before .before .before .before .before .before .loop .inv)
@@ -109,20 +94,20 @@ pub +read-tags-spec : {M : Type 1} → statement M
     read-tags-μ-loop
     (read-tags-loop-holds t)
     (read-tags-read-entry-requires t)
-    (read-tags-enum-known-next t)
+    (λ c. search needs)
     (read-tags-loop-less t)
     (read-tags-loop-again t)
-    (read-tags-enum-known-next-2 t)
+    (λ c. search needs)
     (read-tags-sub-read-tags t)
     (read-tags-read-tags-requires t)
-    (read-tags-enum-known-after t)
+    (λ c. search needs)
     (read-tags-loop-less-2 t)
     (read-tags-loop-again-2 t)
-    (read-tags-enum-known-why t)
+    (λ c. search needs)
     (read-tags-same-length t)
     (read-tags-same-length-2 t)
     (read-tags-returns t)
-    (read-tags-enum-known-why-2 t)
+    (λ c. search needs)
     (read-tags-same-length-3 t)
     (read-tags-same-length-4 t)
     (read-tags-returns-2 t)

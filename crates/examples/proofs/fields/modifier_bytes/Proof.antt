@@ -13,18 +13,6 @@ abbrev μ-loop : tie.MeasureT-loop
 loop-holds : tie.Need-loop-holds Inv-loop μ-loop
 loop-holds c = tt
 
-shared-slice-read-modifier-byte : tie.Need-shared-slice-read-modifier-byte Inv-loop μ-loop
-shared-slice-read-modifier-byte c = search needs
-
-modifier-byte-requires : tie.Need-modifier-byte-requires Inv-loop μ-loop
-modifier-byte-requires c κs = search needs
-
-add-i : tie.Need-add-i Inv-loop μ-loop
-add-i c = search needs
-
-loop-less : tie.Need-loop-less Inv-loop μ-loop
-loop-less c = search needs
-
 loop-again : tie.Need-loop-again Inv-loop μ-loop
 loop-again c = tt
 
@@ -38,9 +26,9 @@ modifier-bytes-spec =
     Inv-loop
     μ-loop
     loop-holds
-    shared-slice-read-modifier-byte
-    modifier-byte-requires
-    add-i
-    loop-less
+    (λ c. search needs)
+    (λ c κs. search needs)
+    (λ c. search needs)
+    (λ c. search needs)
     loop-again
     returns)

@@ -13,23 +13,11 @@ abbrev μ-loop : tie.MeasureT-loop
 loop-holds : tie.Need-loop-holds Inv-loop μ-loop
 loop-holds c = tt
 
-word-of-requires : tie.Need-word-of-requires Inv-loop μ-loop
-word-of-requires c κs = search needs
-
-is-by-key-requires : tie.Need-is-by-key-requires Inv-loop μ-loop
-is-by-key-requires c κs = search needs
-
 returns : tie.Need-returns Inv-loop μ-loop
 returns c = tt
 
-ask-row-requires : tie.Need-ask-row-requires Inv-loop μ-loop
-ask-row-requires c κs = search needs
-
 returns-2 : tie.Need-returns-2 Inv-loop μ-loop
 returns-2 c = tt
-
-loop-less : tie.Need-loop-less Inv-loop μ-loop
-loop-less c = search needs
 
 loop-again : tie.Need-loop-again Inv-loop μ-loop
 loop-again c = tt
@@ -44,11 +32,11 @@ ask-rows-spec =
     Inv-loop
     μ-loop
     loop-holds
-    word-of-requires
-    is-by-key-requires
+    (λ c κs. search needs)
+    (λ c κs. search needs)
     returns
-    ask-row-requires
+    (λ c κs. search needs)
     returns-2
-    loop-less
+    (λ c. search needs)
     loop-again
     returns-3)

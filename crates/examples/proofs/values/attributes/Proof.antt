@@ -9,29 +9,8 @@ Inv-loop body s attrs ends first n d₀ k₀ d k = Unit {0}
 abbrev μ-loop : tie.MeasureT-loop
 μ-loop body s attrs ends first n d₀ k₀ d k = n - k
 
-cast-first : tie.Need-cast-first Inv-loop μ-loop
-cast-first c = search needs
-
-cast-n : tie.Need-cast-n Inv-loop μ-loop
-cast-n c = search needs
-
 loop-holds : tie.Need-loop-holds Inv-loop μ-loop
 loop-holds c = tt
-
-wrapping-add-usize-requires : tie.Need-wrapping-add-usize-requires Inv-loop μ-loop
-wrapping-add-usize-requires c κs = search needs
-
-attr-at-requires : tie.Need-attr-at-requires Inv-loop μ-loop
-attr-at-requires c κs = search needs
-
-attribute-requires : tie.Need-attribute-requires Inv-loop μ-loop
-attribute-requires c κs = search needs
-
-add-k : tie.Need-add-k Inv-loop μ-loop
-add-k c = search needs
-
-loop-less : tie.Need-loop-less Inv-loop μ-loop
-loop-less c = search needs
 
 loop-again : tie.Need-loop-again Inv-loop μ-loop
 loop-again c = tt
@@ -45,13 +24,13 @@ attributes-spec =
     (tie.spec
     Inv-loop
     μ-loop
-    cast-first
-    cast-n
+    (λ c. search needs)
+    (λ c. search needs)
     loop-holds
-    wrapping-add-usize-requires
-    attr-at-requires
-    attribute-requires
-    add-k
-    loop-less
+    (λ c κs. search needs)
+    (λ c κs. search needs)
+    (λ c κs. search needs)
+    (λ c. search needs)
+    (λ c. search needs)
     loop-again
     returns)

@@ -4,21 +4,6 @@ use mathlib.Core.Path.{sym, ap, _∙_}
 use Rattle.exports.proofs.block.offset_told.Statement.{statement}
 use Rattle.exports.proofs.block.offset_told.Tie as tie
 
-enum-known-answer : tie.Need-enum-known-answer
-enum-known-answer c = search needs
-
-cast-told-as : tie.Need-cast-told-as
-cast-told-as c = search needs
-
-told-as-requires : tie.Need-told-as-requires
-told-as-requires c κs = search needs
-
-enum-known-answer-2 : tie.Need-enum-known-answer-2
-enum-known-answer-2 c = search needs
-
-refused-as-requires : tie.Need-refused-as-requires
-refused-as-requires c κs = search needs
-
 returns : tie.Need-returns
 unfolding offsetTold
 returns c = c .told-as .ensures ∙ sym (ap offsetTold (c .before .before .answer .given .1))
@@ -31,10 +16,10 @@ pub offset-told-spec : {M : Type 1} → statement M
 offset-told-spec =
     tie.close
     (tie.spec
-    enum-known-answer
-    cast-told-as
-    told-as-requires
-    enum-known-answer-2
-    refused-as-requires
+    (λ c. search needs)
+    (λ c. search needs)
+    (λ c κs. search needs)
+    (λ c. search needs)
+    (λ c κs. search needs)
     returns
     returns-2)

@@ -3,12 +3,9 @@ use borrow.Author.Needs.{needs}
 use Rattle.exports.proofs.layouts.layouts_as.Statement.{statement}
 use Rattle.exports.proofs.layouts.layouts_as.Tie as tie
 
-told-as-requires : tie.Need-told-as-requires
-told-as-requires c κs = search needs
-
 returns : tie.Need-returns
 unfolding layoutsAs
 returns c = c .told-as .ensures
 
 pub layouts-as-spec : {M : Type 1} → statement M
-layouts-as-spec = tie.close (tie.spec told-as-requires returns)
+layouts-as-spec = tie.close (tie.spec (λ c κs. search needs) returns)

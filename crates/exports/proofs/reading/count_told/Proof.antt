@@ -4,18 +4,6 @@ use mathlib.Core.Path.{sym, ap, _∙_}
 use Rattle.exports.proofs.reading.count_told.Statement.{statement}
 use Rattle.exports.proofs.reading.count_told.Tie as tie
 
-enum-known-answer : tie.Need-enum-known-answer
-enum-known-answer c = search needs
-
-counted-as-requires : tie.Need-counted-as-requires
-counted-as-requires c κs = search needs
-
-enum-known-answer-2 : tie.Need-enum-known-answer-2
-enum-known-answer-2 c = search needs
-
-refused-as-requires : tie.Need-refused-as-requires
-refused-as-requires c κs = search needs
-
 returns : tie.Need-returns
 unfolding countTold
 returns c = c .counted-as .ensures ∙ sym (ap countTold (c .before .before .answer .given .1))
@@ -27,10 +15,4 @@ returns-2 c = c .refused-as .ensures ∙ sym (ap countTold (c .before .before .a
 pub count-told-spec : {M : Type 1} → statement M
 count-told-spec =
     tie.close
-    (tie.spec
-    enum-known-answer
-    counted-as-requires
-    enum-known-answer-2
-    refused-as-requires
-    returns
-    returns-2)
+    (tie.spec (λ c. search needs) (λ c κs. search needs) (λ c. search needs) (λ c κs. search needs) returns returns-2)

@@ -3,12 +3,9 @@ use borrow.Author.Needs.{needs}
 use Rattle.exports.proofs.reading.counted_as.Statement.{statement}
 use Rattle.exports.proofs.reading.counted_as.Tie as tie
 
-told-as-requires : tie.Need-told-as-requires
-told-as-requires c κs = search needs
-
 returns : tie.Need-returns
 unfolding countedAs
 returns c = c .told-as .ensures
 
 pub counted-as-spec : {M : Type 1} → statement M
-counted-as-spec = tie.close (tie.spec told-as-requires returns)
+counted-as-spec = tie.close (tie.spec (λ c κs. search needs) returns)

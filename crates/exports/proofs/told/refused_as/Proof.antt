@@ -3,12 +3,9 @@ use borrow.Author.Needs.{needs}
 use Rattle.exports.proofs.told.refused_as.Statement.{statement}
 use Rattle.exports.proofs.told.refused_as.Tie as tie
 
-number-of-requires : tie.Need-number-of-requires
-number-of-requires c κs = search needs
-
 returns : tie.Need-returns
 unfolding refusedAs
 returns c = rw (c .number-of .ensures)
 
 pub refused-as-spec : {M : Type 1} → statement M
-refused-as-spec = tie.close (tie.spec number-of-requires returns)
+refused-as-spec = tie.close (tie.spec (λ c κs. search needs) returns)

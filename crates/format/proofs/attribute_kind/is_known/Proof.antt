@@ -4,12 +4,6 @@ use mathlib.Core.Path.{sym, _∙_}
 use Rattle.format.proofs.attribute_kind.is_known.Statement.{statement}
 use Rattle.format.proofs.attribute_kind.is_known.Tie as tie
 
-is-named-requires : tie.Need-is-named-requires
-is-named-requires c κs = search needs
-
-on-list-requires : tie.Need-on-list-requires
-on-list-requires c κs = search needs
-
 returns : tie.Need-returns
 unfolding known
 returns c = rw (sym (c .before .is-named .ensures) ∙ c .if1 .taken)
@@ -19,4 +13,4 @@ unfolding known
 returns-2 c = rw (sym (c .before .before .is-named .ensures) ∙ c .before .if1 .left) (c .on-list .ensures)
 
 pub is-known-spec : {M : Type 1} → statement M
-is-known-spec = tie.close (tie.spec is-named-requires on-list-requires returns returns-2)
+is-known-spec = tie.close (tie.spec (λ c κs. search needs) (λ c κs. search needs) returns returns-2)

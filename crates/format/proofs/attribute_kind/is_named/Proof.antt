@@ -9,15 +9,6 @@ use mathlib.Core.Path.{refl, sym, ap, _∙_}
 use Rattle.format.proofs.attribute_kind.is_named.Statement.{statement}
 use Rattle.format.proofs.attribute_kind.is_named.Tie as tie
 
-named-word-requires : tie.Need-named-word-requires
-named-word-requires c κs = search needs
-
-cast-result : tie.Need-cast-result
-cast-result c = search needs
-
-shr-result : tie.Need-shr-result
-shr-result c = search needs
-
 returns : tie.Need-returns
 unfolding attributeKinds used alsoKnown member below lookup namedWords
 returns c =
@@ -29,6 +20,4 @@ unfolding attributeKinds used alsoKnown member allBelow
 returns-2 c = sym (beyond 800 57 attributeKinds _ refl (c .if1 .left))
 
 pub is-named-spec : {M : Type 1} → statement M
-is-named-spec =
-    tie.close
-    (tie.spec named-word-requires cast-result shr-result returns returns-2)
+is-named-spec = tie.close (tie.spec (λ c κs. search needs) (λ c. search needs) (λ c. search needs) returns returns-2)

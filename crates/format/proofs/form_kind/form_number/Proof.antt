@@ -4,88 +4,30 @@ use mathlib.Core.Path.{sym, ap}
 use Rattle.format.proofs.form_kind.form_number.Statement.{statement}
 use Rattle.format.proofs.form_kind.form_number.Tie as tie
 
-enum-told : tie.Need-enum-told
-enum-told c = search needs
-
-enum-told-2 : tie.Need-enum-told-2
-enum-told-2 c = search needs
-
-enum-told-3 : tie.Need-enum-told-3
-enum-told-3 c = search needs
-
-enum-told-4 : tie.Need-enum-told-4
-enum-told-4 c = search needs
-
-enum-told-5 : tie.Need-enum-told-5
-enum-told-5 c = search needs
-
-enum-told-6 : tie.Need-enum-told-6
-enum-told-6 c = search needs
-
-enum-told-7 : tie.Need-enum-told-7
-enum-told-7 c = search needs
-
-enum-told-8 : tie.Need-enum-told-8
-enum-told-8 c = search needs
-
-enum-told-9 : tie.Need-enum-told-9
-enum-told-9 c = search needs
-
-returns : tie.Need-returns
-unfolding formNumber
-returns c = ap formNumber (sym (c .enum-told .given .1))
-
-returns-2 : tie.Need-returns-2
-unfolding formNumber
-returns-2 c = ap formNumber (sym (c .enum-told2 .given .1))
-
-returns-3 : tie.Need-returns-3
-unfolding formNumber
-returns-3 c = ap formNumber (sym (c .enum-told3 .given .1))
-
-returns-4 : tie.Need-returns-4
-unfolding formNumber
-returns-4 c = ap formNumber (sym (c .enum-told4 .given .1))
-
-returns-5 : tie.Need-returns-5
-unfolding formNumber
-returns-5 c = ap formNumber (sym (c .enum-told5 .given .1))
-
 returns-6 : tie.Need-returns-6
 unfolding formNumber
 returns-6 c = ap formNumber (sym (c .enum-told6 .given .1))
 
-returns-7 : tie.Need-returns-7
-unfolding formNumber
-returns-7 c = ap formNumber (sym (c .enum-told7 .given .1))
-
-returns-8 : tie.Need-returns-8
-unfolding formNumber
-returns-8 c = ap formNumber (sym (c .enum-told8 .given .1))
-
-returns-9 : tie.Need-returns-9
-unfolding formNumber
-returns-9 c = ap formNumber (sym (c .enum-told9 .given .1))
-
 pub form-number-spec : {M : Type 1} → statement M
+unfolding formNumber
 form-number-spec =
     tie.close
     (tie.spec
-    enum-told
-    enum-told-2
-    enum-told-3
-    enum-told-4
-    enum-told-5
-    enum-told-6
-    enum-told-7
-    enum-told-8
-    enum-told-9
-    returns
-    returns-2
-    returns-3
-    returns-4
-    returns-5
+    (λ c. search needs)
+    (λ c. search needs)
+    (λ c. search needs)
+    (λ c. search needs)
+    (λ c. search needs)
+    (λ c. search needs)
+    (λ c. search needs)
+    (λ c. search needs)
+    (λ c. search needs)
+    (λ c. ap formNumber (sym (c .enum-told .given .1)))
+    (λ c. ap formNumber (sym (c .enum-told2 .given .1)))
+    (λ c. ap formNumber (sym (c .enum-told3 .given .1)))
+    (λ c. ap formNumber (sym (c .enum-told4 .given .1)))
+    (λ c. ap formNumber (sym (c .enum-told5 .given .1)))
     returns-6
-    returns-7
-    returns-8
-    returns-9)
+    (λ c. ap formNumber (sym (c .enum-told7 .given .1)))
+    (λ c. ap formNumber (sym (c .enum-told8 .given .1)))
+    (λ c. ap formNumber (sym (c .enum-told9 .given .1))))

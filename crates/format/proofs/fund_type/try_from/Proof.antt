@@ -5,9 +5,6 @@ use borrow.Author.Needs.{needs}
 use Rattle.format.proofs.fund_type.try_from.Statement.{statement}
 use Rattle.format.proofs.fund_type.try_from.Tie as tie
 
-order-of-requires : tie.Need-order-of-requires
-order-of-requires c κs = search needs
-
 returns : tie.Need-returns
 unfolding fundTypeOf fundTypes
 returns c = rw (member-index fundTypes (c .before .before .args .n), ← c .before .order-of .ensures, lt-ltb (c .before .order-of .result) 28 (c .if1 .taken))
@@ -17,4 +14,4 @@ unfolding fundTypeOf fundTypes
 returns-2 c = rw (member-index fundTypes (c .before .before .args .n), ← c .before .order-of .ensures, le-ltb (c .before .order-of .result) 28 (c .if1 .left))
 
 pub try-from-spec : {M : Type 1} → statement M
-try-from-spec = tie.close (tie.spec order-of-requires returns returns-2)
+try-from-spec = tie.close (tie.spec (λ c κs. search needs) returns returns-2)

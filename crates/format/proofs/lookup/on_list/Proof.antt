@@ -11,29 +11,11 @@ Inv-loop list x last found₀ i₀ found i = Sought list x last i found
 abbrev μ-loop : tie.MeasureT-loop
 μ-loop list x last found₀ i₀ found i = last - i
 
-among-few-requires : tie.Need-among-few-requires Inv-loop μ-loop
-among-few-requires c κs = search needs
-
 returns : tie.Need-returns Inv-loop μ-loop
 returns c = c .among-few .ensures
 
-sub-last : tie.Need-sub-last Inv-loop μ-loop
-sub-last c = search needs
-
-among-sixteen-requires : tie.Need-among-sixteen-requires Inv-loop μ-loop
-among-sixteen-requires c κs = omega arith
-
 loop-holds : tie.Need-loop-holds Inv-loop μ-loop
 loop-holds c = sought-first (omega arith) (c .among-sixteen .ensures)
-
-among-sixteen-requires-2 : tie.Need-among-sixteen-requires-2 Inv-loop μ-loop
-among-sixteen-requires-2 c κs = omega arith
-
-add-i : tie.Need-add-i Inv-loop μ-loop
-add-i c = search needs
-
-loop-less : tie.Need-loop-less Inv-loop μ-loop
-loop-less c = omega arith
 
 loop-again : tie.Need-loop-again Inv-loop μ-loop
 loop-again c = sought-next (c .before .before .loop .inv) (omega arith) (c .among-sixteen2 .ensures)
@@ -47,13 +29,13 @@ on-list-spec =
     (tie.spec
     Inv-loop
     μ-loop
-    among-few-requires
+    (λ c κs. search needs)
     returns
-    sub-last
-    among-sixteen-requires
+    (λ c. search needs)
+    (λ c κs. omega arith)
     loop-holds
-    among-sixteen-requires-2
-    add-i
-    loop-less
+    (λ c κs. omega arith)
+    (λ c. search needs)
+    (λ c. omega arith)
     loop-again
     returns-2)

@@ -11,16 +11,9 @@ returns : tie.Need-returns
 unfolding settingsHold
 returns c = rw (lt-leb (length (now (c .before .before .before .args .vendors))) 64 (c .if1 .taken))
 
-vendors-hold-requires : tie.Need-vendors-hold-requires
-vendors-hold-requires c κs = search needs
-
-roles-hold-requires : tie.Need-roles-hold-requires
-roles-hold-requires c κs = search needs
-
 returns-2 : tie.Need-returns-2
 unfolding settingsHold fundTypes
 returns-2 c = rw (le-leb (length (now (c .before .before .before .before .before .before .args .vendors))) 64 (c .before .before .before .if1 .left), c .before .vendors-hold .ensures, c .roles-hold .ensures)
 
 pub settings-hold-spec : {M : Type 1} → statement M
-settings-hold-spec =
-    tie.close (tie.spec returns vendors-hold-requires roles-hold-requires returns-2)
+settings-hold-spec = tie.close (tie.spec returns (λ c κs. search needs) (λ c κs. search needs) returns-2)

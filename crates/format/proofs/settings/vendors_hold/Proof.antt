@@ -18,20 +18,11 @@ abbrev μ-loop : tie.MeasureT-loop
 loop-holds : tie.Need-loop-holds Inv-loop μ-loop
 loop-holds c = (omega arith, refl)
 
-mul-n : tie.Need-mul-n Inv-loop μ-loop
-mul-n c = search needs
-
-shared-slice-read-n : tie.Need-shared-slice-read-n Inv-loop μ-loop
-shared-slice-read-n c = search needs
-
 cast-if1 : tie.Need-cast-if1 Inv-loop μ-loop
 cast-if1 c = omega (arith, c .shared-slice-known2 .given (c .before .before .loop .i))
 
 returns : tie.Need-returns Inv-loop μ-loop
 returns c = vendors-low _ _ _ (c .before .before .loop-test .taken) (c .if1 .taken) ∙ c .before .before .before .loop .inv .1
-
-vendor-number-requires : tie.Need-vendor-number-requires Inv-loop μ-loop
-vendor-number-requires c κs = search needs
 
 returns-2 : tie.Need-returns-2 Inv-loop μ-loop
 returns-2 c = vendors-bad _ _ _ (c .before .before .before .before .loop-test .taken) (c .before .before .if1 .left) (sym (c .before .vendor-number .ensures) ∙ not-true _ (c .if2 .taken)) ∙ c .before .before .before .before .before .loop .inv .1
@@ -41,12 +32,6 @@ cast-least c = omega (arith, c .before .before .before .shared-slice-known2 .giv
 
 add-least : tie.Need-add-least Inv-loop μ-loop
 add-least c = omega (arith, c .before .before .before .shared-slice-known2 .given (c .before .before .before .before .before .loop .i))
-
-add-i : tie.Need-add-i Inv-loop μ-loop
-add-i c = search needs
-
-loop-less : tie.Need-loop-less Inv-loop μ-loop
-loop-less c = search needs
 
 loop-again : tie.Need-loop-again Inv-loop μ-loop
 loop-again c = (
@@ -64,15 +49,15 @@ vendors-hold-spec =
     Inv-loop
     μ-loop
     loop-holds
-    mul-n
-    shared-slice-read-n
+    (λ c. search needs)
+    (λ c. search needs)
     cast-if1
     returns
-    vendor-number-requires
+    (λ c κs. search needs)
     returns-2
     cast-least
     add-least
-    add-i
-    loop-less
+    (λ c. search needs)
+    (λ c. search needs)
     loop-again
     returns-3)

@@ -9,9 +9,6 @@ use mathlib.Core.Path.{refl, sym, _∙_}
 use Rattle.format.proofs.tag_kind.is_tag.Statement.{statement}
 use Rattle.format.proofs.tag_kind.is_tag.Tie as tie
 
-shr-result : tie.Need-shr-result
-shr-result c = search needs
-
 returns : tie.Need-returns
 unfolding tags member below
 returns c = same-below 64 (λ n. eqb (34359721215 / 2 ^ n % 2) 1) (λ n. member n tags) refl _ (c .if1 .taken)
@@ -21,4 +18,4 @@ unfolding tags member allBelow
 returns-2 c = sym (beyond 64 32 tags (c .before .args .n) refl (c .if1 .left) ∙ or-false (eqb 16512 (c .before .args .n)))
 
 pub is-tag-spec : {M : Type 1} → statement M
-is-tag-spec = tie.close (tie.spec shr-result returns returns-2)
+is-tag-spec = tie.close (tie.spec (λ c. search needs) returns returns-2)

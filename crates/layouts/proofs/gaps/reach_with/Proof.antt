@@ -3,9 +3,6 @@ use borrow.Author.Needs.{needs}
 use Rattle.layouts.proofs.gaps.reach_with.Statement.{statement}
 use Rattle.layouts.proofs.gaps.reach_with.Tie as tie
 
-add-end : tie.Need-add-end
-add-end c = search needs
-
 returns : tie.Need-returns
 returns c = reach-grows _ _ _ (search needs)
 
@@ -13,4 +10,4 @@ returns-2 : tie.Need-returns-2
 returns-2 c = reach-stays _ _ _ (search needs)
 
 pub reach-with-spec : {M : Type 1} → statement M
-reach-with-spec = tie.close (tie.spec add-end returns returns-2)
+reach-with-spec = tie.close (tie.spec (λ c. search needs) returns returns-2)

@@ -3,9 +3,6 @@ use borrow.Author.Needs.{needs}
 use Rattle.layouts.proofs.presets.preset_of.Statement.{statement}
 use Rattle.layouts.proofs.presets.preset_of.Tie as tie
 
-endian-of-requires : tie.Need-endian-of-requires
-endian-of-requires c κs = search needs
-
 returns : tie.Need-returns
 unfolding presetOf
 returns c = rw (c .before .endian-of .ensures, c .if1 .taken)
@@ -15,4 +12,4 @@ unfolding presetOf
 returns-2 c = rw (c .before .endian-of .ensures, c .if1 .left)
 
 pub preset-of-spec : {M : Type 1} → statement M
-preset-of-spec = tie.close (tie.spec endian-of-requires returns returns-2)
+preset-of-spec = tie.close (tie.spec (λ c κs. search needs) returns returns-2)

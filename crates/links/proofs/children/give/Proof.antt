@@ -3,24 +3,6 @@ use borrow.Author.Needs.{needs}
 use Rattle.links.proofs.children.give.Statement.{statement}
 use Rattle.links.proofs.children.give.Tie as tie
 
-count-children-requires : tie.Need-count-children-requires
-count-children-requires c κs = search needs
-
-enum-known-k : tie.Need-enum-known-k
-enum-known-k c = search needs
-
-gather-requires : tie.Need-gather-requires
-gather-requires c κs = search needs
-
-enum-told : tie.Need-enum-told
-enum-told c = search needs
-
-refused-requires : tie.Need-refused-requires
-refused-requires c κs = search needs
-
-same-length : tie.Need-same-length
-same-length c = search needs
-
 returns : tie.Need-returns
 returns c = given-listed _ _ _ _ (c .before .before .before .before .before .before .before .before .count-children .ensures) (c .before .before .before .before .before .before .k .given .1) (c .before .before .before .before .if1 .taken) (c .before .before .gather .ensures)
 
@@ -34,12 +16,12 @@ pub give-spec : {M : Type 1} → statement M
 give-spec =
     tie.close
     (tie.spec
-    count-children-requires
-    enum-known-k
-    gather-requires
-    enum-told
-    refused-requires
-    same-length
+    (λ c κs. search needs)
+    (λ c. search needs)
+    (λ c κs. search needs)
+    (λ c. search needs)
+    (λ c κs. search needs)
+    (λ c. search needs)
     returns
     returns-2
     returns-3)

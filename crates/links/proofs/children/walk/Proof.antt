@@ -32,12 +32,6 @@ take-child-requires c κs = small-turn _ (c .before .before .before .before .bef
 sibling-row-requires : tie.Need-sibling-row-requires Inv-loop μ-loop
 sibling-row-requires c κs = record { rising = c .before .before .before .before .before .before .before .before .before .before .before .before .pre .rising; there = c .before .before .before .before .before .if1 .left }
 
-add-turns : tie.Need-add-turns Inv-loop μ-loop
-add-turns c = search needs
-
-loop-less : tie.Need-loop-less Inv-loop μ-loop
-loop-less c = search needs
-
 loop-again : tie.Need-loop-again Inv-loop μ-loop
 loop-again c = walking-on (c .before .before .before .before .before .before .before .before .loop .inv) (c .before .before .before .before .before .before .before .loop-test .taken) (c .before .before .before .before .before .before .if1 .left) (c .before .before .before .before .before .if2 .left) (c .before .before .before .take-child .ensures) (c .sibling-row .ensures)
 
@@ -60,8 +54,8 @@ walk-spec =
     returns-2
     take-child-requires
     sibling-row-requires
-    add-turns
-    loop-less
+    (λ c. search needs)
+    (λ c. search needs)
     loop-again
     same-length-3
     returns-3)

@@ -17,9 +17,6 @@ loop-holds c = seeking-begins _ _ _ _ _ _ (c .before .before .before .pre)
 returns : tie.Need-returns Inv-loop μ-loop
 returns c = seeking-past _ _ _ _ _ _ (c .before .before .loop .inv) (c .if1 .taken)
 
-row-at-requires : tie.Need-row-at-requires Inv-loop μ-loop
-row-at-requires c κs = search needs
-
 returns-2 : tie.Need-returns-2 Inv-loop μ-loop
 returns-2 c = seeking-found _ _ _ _ _ _ (c .before .before .before .before .before .loop .inv) (c .before .before .before .before .loop-test .taken) (c .before .before .before .if1 .left) (c .before .before .row-at .ensures) (c .if2 .taken)
 
@@ -43,7 +40,7 @@ child-from-spec =
     μ-loop
     loop-holds
     returns
-    row-at-requires
+    (λ c κs. search needs)
     returns-2
     sibling-row-requires
     loop-less

@@ -19,20 +19,8 @@ loop-holds c = (c .before .pre, refl)
 returns : tie.Need-returns Inv-loop μ-loop
 returns c = next-asked _ _ _ _ (c .before .loop-test .taken) (c .if1 .taken) ∙ c .before .before .loop .inv .1
 
-row-at-requires : tie.Need-row-at-requires Inv-loop μ-loop
-row-at-requires c κs = search needs
-
-is-erased-requires : tie.Need-is-erased-requires Inv-loop μ-loop
-is-erased-requires c κs = search needs
-
 returns-2 : tie.Need-returns-2 Inv-loop μ-loop
 returns-2 c = next-here _ _ _ _ (c .before .before .before .before .loop-test .taken) (c .before .before .before .if1 .left) (c .before .before .row-at .ensures) (c .before .is-erased .ensures) (not-true _ (c .if2 .taken)) ∙ c .before .before .before .before .before .loop .inv .1
-
-add-j : tie.Need-add-j Inv-loop μ-loop
-add-j c = search needs
-
-loop-less : tie.Need-loop-less Inv-loop μ-loop
-loop-less c = search needs
 
 loop-again : tie.Need-loop-again Inv-loop μ-loop
 loop-again c = (search needs, next-passed _ _ _ _ (c .before .before .before .before .loop-test .taken) (c .before .before .before .if1 .left) (c .before .before .row-at .ensures) (c .before .is-erased .ensures) (not-false _ (c .if2 .left)) ∙ c .before .before .before .before .before .loop .inv .1)
@@ -48,10 +36,10 @@ next-from-spec =
     μ-loop
     loop-holds
     returns
-    row-at-requires
-    is-erased-requires
+    (λ c κs. search needs)
+    (λ c κs. search needs)
     returns-2
-    add-j
-    loop-less
+    (λ c. search needs)
+    (λ c. search needs)
     loop-again
     returns-3)

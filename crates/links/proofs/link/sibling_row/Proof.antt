@@ -3,21 +3,6 @@ use borrow.Author.Needs.{needs}
 use Rattle.links.proofs.link.sibling_row.Statement.{statement}
 use Rattle.links.proofs.link.sibling_row.Tie as tie
 
-reference-of-requires : tie.Need-reference-of-requires
-reference-of-requires c κs = search needs
-
-enum-known-key : tie.Need-enum-known-key
-enum-known-key c = search needs
-
-row-number-requires : tie.Need-row-number-requires
-row-number-requires c κs = search needs
-
-enum-told : tie.Need-enum-told
-enum-told c = search needs
-
-next-row-requires : tie.Need-next-row-requires
-next-row-requires c κs = search needs
-
 returns : tie.Need-returns
 returns c = sibling-named _ _ _ _ _ _ (c .before .before .before .before .reference-of .ensures) (c .before .before .key .given .1) (c .row-number .ensures)
 
@@ -28,10 +13,10 @@ pub sibling-row-spec : {M : Type 1} → statement M
 sibling-row-spec =
     tie.close
     (tie.spec
-    reference-of-requires
-    enum-known-key
-    row-number-requires
-    enum-told
-    next-row-requires
+    (λ c κs. search needs)
+    (λ c. search needs)
+    (λ c κs. search needs)
+    (λ c. search needs)
+    (λ c κs. search needs)
     returns
     returns-2)

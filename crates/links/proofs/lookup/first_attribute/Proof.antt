@@ -16,26 +16,8 @@ abbrev μ-loop : tie.MeasureT-loop
 loop-holds : tie.Need-loop-holds Inv-loop μ-loop
 loop-holds c = (search needs, rw (add-zero, sub-zero))
 
-add-attr-at : tie.Need-add-attr-at Inv-loop μ-loop
-add-attr-at c = search needs
-
-attr-at-requires : tie.Need-attr-at-requires Inv-loop μ-loop
-attr-at-requires c κs = search needs
-
-is-wanted-requires : tie.Need-is-wanted-requires Inv-loop μ-loop
-is-wanted-requires c κs = search needs
-
-add-t11 : tie.Need-add-t11 Inv-loop μ-loop
-add-t11 c = search needs
-
 returns : tie.Need-returns Inv-loop μ-loop
 returns c = attr-wanted _ _ _ _ _ (c .before .before .before .loop-test .taken) (c .before .before .attr-at .ensures) (c .before .is-wanted .ensures) (c .if1 .taken) ∙ c .before .before .before .before .loop .inv .1
-
-add-k : tie.Need-add-k Inv-loop μ-loop
-add-k c = search needs
-
-loop-less : tie.Need-loop-less Inv-loop μ-loop
-loop-less c = search needs
 
 loop-again : tie.Need-loop-again Inv-loop μ-loop
 loop-again c = (search needs, attr-unwanted _ _ _ _ _ (c .before .before .before .loop-test .taken) (c .before .before .attr-at .ensures) (c .before .is-wanted .ensures) (c .if1 .left) ∙ c .before .before .before .before .loop .inv .1)
@@ -50,12 +32,12 @@ first-attribute-spec =
     Inv-loop
     μ-loop
     loop-holds
-    add-attr-at
-    attr-at-requires
-    is-wanted-requires
-    add-t11
+    (λ c. search needs)
+    (λ c κs. search needs)
+    (λ c κs. search needs)
+    (λ c. search needs)
     returns
-    add-k
-    loop-less
+    (λ c. search needs)
+    (λ c. search needs)
     loop-again
     returns-2)

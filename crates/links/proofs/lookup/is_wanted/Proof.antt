@@ -4,12 +4,6 @@ use mathlib.Core.Path.{sym, ap}
 use Rattle.links.proofs.lookup.is_wanted.Statement.{statement}
 use Rattle.links.proofs.lookup.is_wanted.Tie as tie
 
-enum-known-wanted : tie.Need-enum-known-wanted
-enum-known-wanted c = search needs
-
-enum-told : tie.Need-enum-told
-enum-told c = search needs
-
 returns : tie.Need-returns
 unfolding wants
 returns c = ap (λ w. wants w (c .before .before .before .args .number)) (sym (c .before .wanted .given .1))
@@ -19,4 +13,4 @@ unfolding wants
 returns-2 c = ap (λ w. wants w (c .before .before .args .number)) (sym (c .enum-told .given .1))
 
 pub is-wanted-spec : {M : Type 1} → statement M
-is-wanted-spec = tie.close (tie.spec enum-known-wanted enum-told returns returns-2)
+is-wanted-spec = tie.close (tie.spec (λ c. search needs) (λ c. search needs) returns returns-2)

@@ -3,24 +3,6 @@ use borrow.Author.Needs.{needs}
 use Rattle.links.proofs.lookup.reference_of.Statement.{statement}
 use Rattle.links.proofs.lookup.reference_of.Tie as tie
 
-attribute-of-requires : tie.Need-attribute-of-requires
-attribute-of-requires c κs = search needs
-
-enum-known-k : tie.Need-enum-known-k
-enum-known-k c = search needs
-
-attr-at-requires : tie.Need-attr-at-requires
-attr-at-requires c κs = search needs
-
-cast-reference-at : tie.Need-cast-reference-at
-cast-reference-at c = search needs
-
-reference-at-requires : tie.Need-reference-at-requires
-reference-at-requires c κs = search needs
-
-enum-told : tie.Need-enum-told
-enum-told c = search needs
-
 returns : tie.Need-returns
 returns c = reference-there _ _ _ _ _ _ (c .before .before .before .before .before .before .attribute-of .ensures) (c .before .before .before .before .k .given .1) (c .before .before .attr-at .ensures) (c .reference-at .ensures)
 
@@ -31,11 +13,11 @@ pub reference-of-spec : {M : Type 1} → statement M
 reference-of-spec =
     tie.close
     (tie.spec
-    attribute-of-requires
-    enum-known-k
-    attr-at-requires
-    cast-reference-at
-    reference-at-requires
-    enum-told
+    (λ c κs. search needs)
+    (λ c. search needs)
+    (λ c κs. search needs)
+    (λ c. search needs)
+    (λ c κs. search needs)
+    (λ c. search needs)
     returns
     returns-2)

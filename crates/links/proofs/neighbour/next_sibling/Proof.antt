@@ -4,17 +4,8 @@ use borrow.Author.Needs.{needs}
 use Rattle.links.proofs.neighbour.next_sibling.Statement.{statement}
 use Rattle.links.proofs.neighbour.next_sibling.Tie as tie
 
-check-table-requires : tie.Need-check-table-requires
-check-table-requires c κs = search needs
-
-enum-told : tie.Need-enum-told
-enum-told c = search needs
-
 sibling-by-key-requires : tie.Need-sibling-by-key-requires
 sibling-by-key-requires c κs = tested-rows (c .before .before .check-table .ensures) (c .enum-told .given .1)
-
-enum-known-why : tie.Need-enum-known-why
-enum-known-why c = search needs
 
 returns : tie.Need-returns
 returns c = sibling-passed _ _ _ _ _ _ _ _ (c .before .before .before .check-table .ensures) (c .before .enum-told .given .1) (c .sibling-by-key .ensures)
@@ -25,10 +16,4 @@ returns-2 c = sibling-refused _ _ _ _ _ _ _ _ (c .before .before .before .check-
 pub next-sibling-spec : {M : Type 1} → statement M
 next-sibling-spec =
     tie.close
-    (tie.spec
-    check-table-requires
-    enum-told
-    sibling-by-key-requires
-    enum-known-why
-    returns
-    returns-2)
+    (tie.spec (λ c κs. search needs) (λ c. search needs) sibling-by-key-requires (λ c. search needs) returns returns-2)

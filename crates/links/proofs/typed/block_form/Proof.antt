@@ -3,9 +3,6 @@ use borrow.Author.Needs.{needs}
 use Rattle.links.proofs.typed.block_form.Statement.{statement}
 use Rattle.links.proofs.typed.block_form.Tie as tie
 
-is-form-requires : tie.Need-is-form-requires
-is-form-requires c κs = search needs
-
 returns : tie.Need-returns
 returns c = block-two _ (c .before .is-form .ensures) (c .if1 .taken)
 
@@ -13,4 +10,4 @@ returns-2 : tie.Need-returns-2
 returns-2 c = block-four _ (c .before .is-form .ensures) (c .if1 .left)
 
 pub block-form-spec : {M : Type 1} → statement M
-block-form-spec = tie.close (tie.spec is-form-requires returns returns-2)
+block-form-spec = tie.close (tie.spec (λ c κs. search needs) returns returns-2)

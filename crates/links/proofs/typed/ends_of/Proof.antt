@@ -3,14 +3,8 @@ use borrow.Author.Needs.{needs}
 use Rattle.links.proofs.typed.ends_of.Statement.{statement}
 use Rattle.links.proofs.typed.ends_of.Tie as tie
 
-row-at-requires : tie.Need-row-at-requires
-row-at-requires c κs = search needs
-
-endian-of-requires : tie.Need-endian-of-requires
-endian-of-requires c κs = search needs
-
 returns : tie.Need-returns
 returns c = ends-of _ _ _ (c .before .row-at .ensures) (c .endian-of .ensures)
 
 pub ends-of-spec : {M : Type 1} → statement M
-ends-of-spec = tie.close (tie.spec row-at-requires endian-of-requires returns)
+ends-of-spec = tie.close (tie.spec (λ c κs. search needs) (λ c κs. search needs) returns)

@@ -4,24 +4,6 @@ use mathlib.Core.Path.{sym, ap, _∙_}
 use Rattle.links.proofs.typed.part_of.Statement.{statement}
 use Rattle.links.proofs.typed.part_of.Tie as tie
 
-enum-known-placed : tie.Need-enum-known-placed
-enum-known-placed c = search needs
-
-part-as-requires : tie.Need-part-as-requires
-part-as-requires c κs = search needs
-
-enum-told : tie.Need-enum-told
-enum-told c = search needs
-
-slice-aggregate-result : tie.Need-slice-aggregate-result
-slice-aggregate-result c = search needs
-
-enum-known-placed-2 : tie.Need-enum-known-placed-2
-enum-known-placed-2 c = search needs
-
-slice-aggregate-result-2 : tie.Need-slice-aggregate-result-2
-slice-aggregate-result-2 c = search needs
-
 returns : tie.Need-returns
 unfolding partOf
 returns c = c .part-as .ensures ∙ ap (partOf _ _) (sym (c .before .before .placed .given .1))
@@ -38,12 +20,12 @@ pub part-of-spec : {M : Type 1} → statement M
 part-of-spec =
     tie.close
     (tie.spec
-    enum-known-placed
-    part-as-requires
-    enum-told
-    slice-aggregate-result
-    enum-known-placed-2
-    slice-aggregate-result-2
+    (λ c. search needs)
+    (λ c κs. search needs)
+    (λ c. search needs)
+    (λ c. search needs)
+    (λ c. search needs)
+    (λ c. search needs)
     returns
     returns-2
     returns-3)

@@ -4,17 +4,8 @@ use borrow.Author.Needs.{needs}
 use Rattle.links.proofs.typed.row_of.Statement.{statement}
 use Rattle.links.proofs.typed.row_of.Tie as tie
 
-check-table-requires : tie.Need-check-table-requires
-check-table-requires c κs = search needs
-
-enum-told : tie.Need-enum-told
-enum-told c = search needs
-
 find-key-requires : tie.Need-find-key-requires
 find-key-requires c κs = tested-rows (c .before .before .check-table .ensures) (c .enum-told .given .1) .rising
-
-enum-known-why : tie.Need-enum-known-why
-enum-known-why c = search needs
 
 returns : tie.Need-returns
 returns c = row-passed _ _ _ _ _ _ _ _ (c .before .before .before .check-table .ensures) (c .before .enum-told .given .1) (c .find-key .ensures)
@@ -25,4 +16,4 @@ returns-2 c = row-refused _ _ _ _ _ _ _ _ (c .before .before .before .check-tabl
 pub row-of-spec : {M : Type 1} → statement M
 row-of-spec =
     tie.close
-    (tie.spec check-table-requires enum-told find-key-requires enum-known-why returns returns-2)
+    (tie.spec (λ c κs. search needs) (λ c. search needs) find-key-requires (λ c. search needs) returns returns-2)

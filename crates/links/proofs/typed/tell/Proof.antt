@@ -5,21 +5,6 @@ use mathlib.Core.Path.{sym, ap}
 use Rattle.links.proofs.typed.tell.Statement.{statement}
 use Rattle.links.proofs.typed.tell.Tie as tie
 
-enum-known-placed : tie.Need-enum-known-placed
-enum-known-placed c = search needs
-
-enum-told : tie.Need-enum-told
-enum-told c = search needs
-
-enum-known-placed-2 : tie.Need-enum-known-placed-2
-enum-known-placed-2 c = search needs
-
-number-of-requires : tie.Need-number-of-requires
-number-of-requires c κs = search needs
-
-cast-t7 : tie.Need-cast-t7
-cast-t7 c = search needs
-
 returns : tie.Need-returns
 unfolding toldWords
 returns c = ap toldWords (sym (c .before .before .placed .given .1))
@@ -35,11 +20,11 @@ pub tell-spec : {M : Type 1} → statement M
 tell-spec =
     tie.close
     (tie.spec
-    enum-known-placed
-    enum-told
-    enum-known-placed-2
-    number-of-requires
-    cast-t7
+    (λ c. search needs)
+    (λ c. search needs)
+    (λ c. search needs)
+    (λ c κs. search needs)
+    (λ c. search needs)
     returns
     returns-2
     returns-3)

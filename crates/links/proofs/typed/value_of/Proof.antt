@@ -4,21 +4,6 @@ use borrow.Author.Needs.{needs}
 use Rattle.links.proofs.typed.value_of.Statement.{statement}
 use Rattle.links.proofs.typed.value_of.Tie as tie
 
-place-of-requires : tie.Need-place-of-requires
-place-of-requires c κs = search needs
-
-enum-known-spot : tie.Need-enum-known-spot
-enum-known-spot c = search needs
-
-word-at-requires : tie.Need-word-at-requires
-word-at-requires c κs = search needs
-
-enum-told : tie.Need-enum-told
-enum-told c = search needs
-
-enum-known-why : tie.Need-enum-known-why
-enum-known-why c = search needs
-
 returns : tie.Need-returns
 unfolding valueBy
 returns c = word-there _ _ (c .before .before .before .before .place-of .ensures) (c .before .before .spot .given .1) (c .word-at .ensures)
@@ -35,11 +20,11 @@ pub value-of-spec : {M : Type 1} → statement M
 value-of-spec =
     tie.close
     (tie.spec
-    place-of-requires
-    enum-known-spot
-    word-at-requires
-    enum-told
-    enum-known-why
+    (λ c κs. search needs)
+    (λ c. search needs)
+    (λ c κs. search needs)
+    (λ c. search needs)
+    (λ c. search needs)
     returns
     returns-2
     returns-3)

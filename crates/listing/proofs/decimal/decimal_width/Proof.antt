@@ -16,12 +16,6 @@ abbrev μ-loop : tie.MeasureT-loop
 loop-holds : tie.Need-loop-holds Inv-loop μ-loop
 loop-holds c = (omega arith, omega arith)
 
-add-w : tie.Need-add-w Inv-loop μ-loop
-add-w c = search needs
-
-loop-less : tie.Need-loop-less Inv-loop μ-loop
-loop-less c = search needs
-
 loop-again : tie.Need-loop-again Inv-loop μ-loop
 loop-again c =
     (omega arith, omega (arith, decimal-more (c .before .loop .left) (c .loop-test .taken)))
@@ -31,4 +25,5 @@ returns c = omega (arith, decimal-one (c .before .loop .left) (c .loop-test .lef
 
 pub decimal-width-spec : {M : Type 1} → statement M
 decimal-width-spec =
-    tie.close (tie.spec Inv-loop μ-loop loop-holds add-w loop-less loop-again returns)
+    tie.close
+    (tie.spec Inv-loop μ-loop loop-holds (λ c. search needs) (λ c. search needs) loop-again returns)

@@ -20,23 +20,8 @@ abbrev μ-loop : tie.MeasureT-loop
 loop-holds : tie.Need-loop-holds Inv-loop μ-loop
 loop-holds c = (refl, refl)
 
-sub-i : tie.Need-sub-i Inv-loop μ-loop
-sub-i c = search needs
-
-rem-glyph : tie.Need-rem-glyph Inv-loop μ-loop
-rem-glyph c = search needs
-
 glyph-requires : tie.Need-glyph-requires Inv-loop μ-loop
 glyph-requires c κs = omega (arith, mod-lt (c .before .before .loop .left) {m = c .before .before .before .before .args .base} (c .before .before .before .before .pre .0))
-
-put-requires : tie.Need-put-requires Inv-loop μ-loop
-put-requires c κs = search needs
-
-div-left : tie.Need-div-left Inv-loop μ-loop
-div-left c = search needs
-
-loop-less : tie.Need-loop-less Inv-loop μ-loop
-loop-less c = search needs
 
 loop-again : tie.Need-loop-again Inv-loop μ-loop
 loop-again c =
@@ -55,12 +40,12 @@ write-digits-spec =
     Inv-loop
     μ-loop
     loop-holds
-    sub-i
-    rem-glyph
+    (λ c. search needs)
+    (λ c. search needs)
     glyph-requires
-    put-requires
-    div-left
-    loop-less
+    (λ c κs. search needs)
+    (λ c. search needs)
+    (λ c. search needs)
     loop-again
     same-length
     returns)

@@ -4,32 +4,14 @@ use native.Mathlib.Omega.{arith}
 use Rattle.listing.proofs.line.write_refusal.Statement.{statement}
 use Rattle.listing.proofs.line.write_refusal.Tie as tie
 
-slice-aggregate-put-text : tie.Need-slice-aggregate-put-text
-slice-aggregate-put-text c = search needs
-
-put-text-requires : tie.Need-put-text-requires
-put-text-requires c κs = search needs
-
-put-decimal-requires : tie.Need-put-decimal-requires
-put-decimal-requires c κs = search needs
-
-slice-aggregate-put-text-2 : tie.Need-slice-aggregate-put-text-2
-slice-aggregate-put-text-2 c = search needs
-
 put-text-requires-2 : tie.Need-put-text-requires-2
 put-text-requires-2 c κs = omega (arith, short-place (c .before .before .before .before .before .before .before .before .before .before .before .before .args .number) (search needs) (c .before .before .before .before .put-decimal .ensures))
 
 put-hex-requires : tie.Need-put-hex-requires
 put-hex-requires c κs = omega (arith, short-place (c .before .before .before .before .before .before .before .before .before .before .before .before .before .before .before .before .args .number) (search needs) (c .before .before .before .before .before .before .before .before .put-decimal .ensures))
 
-slice-aggregate-put-text-3 : tie.Need-slice-aggregate-put-text-3
-slice-aggregate-put-text-3 c = search needs
-
 put-text-requires-3 : tie.Need-put-text-requires-3
 put-text-requires-3 c κs = omega (arith, short-place (c .before .before .before .before .before .before .before .before .before .before .before .before .before .before .before .before .before .before .before .before .before .args .number) (search needs) (c .before .before .before .before .before .before .before .before .before .before .before .before .before .put-decimal .ensures), hex-place 8 _ (c .before .before .before .before .put-hex .ensures))
-
-same-length : tie.Need-same-length
-same-length c = search needs
 
 returns : tie.Need-returns
 returns c = refusal-put _ _ (c .before .before .before .before .before .before .before .before .before .before .before .before .before .before .before .before .before .before .before .before .put-text .ensures) (c .before .before .before .before .before .before .before .before .before .before .before .before .before .before .before .before .put-decimal .ensures) (c .before .before .before .before .before .before .before .before .before .before .before .put-text2 .ensures) (c .before .before .before .before .before .before .before .put-hex .ensures) (c .before .before .put-text3 .ensures)
@@ -38,13 +20,13 @@ pub write-refusal-spec : {M : Type 1} → statement M
 write-refusal-spec =
     tie.close
     (tie.spec
-    slice-aggregate-put-text
-    put-text-requires
-    put-decimal-requires
-    slice-aggregate-put-text-2
+    (λ c. search needs)
+    (λ c κs. search needs)
+    (λ c κs. search needs)
+    (λ c. search needs)
     put-text-requires-2
     put-hex-requires
-    slice-aggregate-put-text-3
+    (λ c. search needs)
     put-text-requires-3
-    same-length
+    (λ c. search needs)
     returns)

@@ -4,20 +4,11 @@ use native.Mathlib.Omega.{arith}
 use Rattle.listing.proofs.line.write_row.Statement.{statement}
 use Rattle.listing.proofs.line.write_row.Tie as tie
 
-put-hex-requires : tie.Need-put-hex-requires
-put-hex-requires c κs = search needs
-
-slice-aggregate-put-text : tie.Need-slice-aggregate-put-text
-slice-aggregate-put-text c = search needs
-
 put-text-requires : tie.Need-put-text-requires
 put-text-requires c κs = omega (arith, hex-place 8 _ (c .before .before .before .before .put-hex .ensures))
 
 put-decimal-requires : tie.Need-put-decimal-requires
 put-decimal-requires c κs = omega (arith, hex-place 8 _ (c .before .before .before .before .before .before .before .before .put-hex .ensures))
-
-slice-aggregate-put-text-2 : tie.Need-slice-aggregate-put-text-2
-slice-aggregate-put-text-2 c = search needs
 
 put-text-requires-2 : tie.Need-put-text-requires-2
 put-text-requires-2 c κs = omega (arith, hex-place 8 _ (c .before .before .before .before .before .before .before .before .before .before .before .before .before .put-hex .ensures), short-place (c .before .before .before .before .before .before .before .before .before .before .before .before .before .before .before .before .args .depth) (search needs) (c .before .before .before .before .put-decimal .ensures))
@@ -25,14 +16,8 @@ put-text-requires-2 c κs = omega (arith, hex-place 8 _ (c .before .before .befo
 put-hex-requires-2 : tie.Need-put-hex-requires-2
 put-hex-requires-2 c κs = omega (arith, hex-place 8 _ (c .before .before .before .before .before .before .before .before .before .before .before .before .before .before .before .before .before .put-hex .ensures), short-place (c .before .before .before .before .before .before .before .before .before .before .before .before .before .before .before .before .before .before .before .before .args .depth) (search needs) (c .before .before .before .before .before .before .before .before .put-decimal .ensures))
 
-slice-aggregate-put-text-3 : tie.Need-slice-aggregate-put-text-3
-slice-aggregate-put-text-3 c = search needs
-
 put-text-requires-3 : tie.Need-put-text-requires-3
 put-text-requires-3 c κs = omega (arith, hex-place 8 _ (c .before .before .before .before .before .before .before .before .before .before .before .before .before .before .before .before .before .before .before .before .before .before .put-hex .ensures), short-place (c .before .before .before .before .before .before .before .before .before .before .before .before .before .before .before .before .before .before .before .before .before .before .before .before .before .args .depth) (search needs) (c .before .before .before .before .before .before .before .before .before .before .before .before .before .put-decimal .ensures), hex-place 4 _ (c .before .before .before .before .put-hex2 .ensures))
-
-same-length : tie.Need-same-length
-same-length c = search needs
 
 returns : tie.Need-returns
 returns c = row-put _ _ _ (c .before .before .before .before .before .before .before .before .before .before .before .before .before .before .before .before .before .before .before .before .before .before .before .before .before .put-hex .ensures) (c .before .before .before .before .before .before .before .before .before .before .before .before .before .before .before .before .before .before .before .before .put-text .ensures) (c .before .before .before .before .before .before .before .before .before .before .before .before .before .before .before .before .put-decimal .ensures) (c .before .before .before .before .before .before .before .before .before .before .before .put-text2 .ensures) (c .before .before .before .before .before .before .before .put-hex2 .ensures) (c .before .before .put-text3 .ensures)
@@ -41,14 +26,14 @@ pub write-row-spec : {M : Type 1} → statement M
 write-row-spec =
     tie.close
     (tie.spec
-    put-hex-requires
-    slice-aggregate-put-text
+    (λ c κs. search needs)
+    (λ c. search needs)
     put-text-requires
     put-decimal-requires
-    slice-aggregate-put-text-2
+    (λ c. search needs)
     put-text-requires-2
     put-hex-requires-2
-    slice-aggregate-put-text-3
+    (λ c. search needs)
     put-text-requires-3
-    same-length
+    (λ c. search needs)
     returns)

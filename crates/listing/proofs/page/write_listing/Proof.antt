@@ -5,18 +5,11 @@ use native.Mathlib.Omega.{arith}
 use Rattle.listing.proofs.page.write_listing.Statement.{statement}
 use Rattle.listing.proofs.page.write_listing.Tie as tie
 
-write-header-requires : tie.Need-write-header-requires
-write-header-requires c κs = search needs
-
 write-rows-requires : tie.Need-write-rows-requires
 write-rows-requires c κs = omega (arith, header-length (c .before .before .before .before .before .before .before .before .args .n) (search needs), c .before .before .before .write-header .ensures .place-is)
-
-same-length : tie.Need-same-length
-same-length c = search needs
 
 returns : tie.Need-returns
 returns c = listing-printed _ _ _ (c .before .before .before .before .before .before .before .before .before .before .before .pre) (c .before .before .before .before .before .before .write-header .ensures) (c .before .before .write-rows .ensures)
 
 pub write-listing-spec : {M : Type 1} → statement M
-write-listing-spec =
-    tie.close (tie.spec write-header-requires write-rows-requires same-length returns)
+write-listing-spec = tie.close (tie.spec (λ c κs. search needs) write-rows-requires (λ c. search needs) returns)

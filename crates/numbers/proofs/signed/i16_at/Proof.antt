@@ -5,17 +5,8 @@ use mathlib.Core.Path.{sym, _∙_}
 use Rattle.numbers.proofs.signed.i16_at.Statement.{statement}
 use Rattle.numbers.proofs.signed.i16_at.Tie as tie
 
-bytes-there-requires : tie.Need-bytes-there-requires
-bytes-there-requires c κs = search needs
-
 half16-requires : tie.Need-half16-requires
 half16-requires c κs = there-inside _ _ _ (sym (c .before .bytes-there .ensures) ∙ c .if1 .taken)
-
-cast-signed-of : tie.Need-cast-signed-of
-cast-signed-of c = search needs
-
-signed-of-requires : tie.Need-signed-of-requires
-signed-of-requires c κs = search needs
 
 returns : tie.Need-returns
 returns c = reads-signed _ _ _ _ (sym (c .before .before .before .bytes-there .ensures) ∙ c .before .before .if1 .taken) (c .before .half16 .ensures) (c .signed-of .ensures) (c .signed-of .ok)
@@ -26,10 +17,4 @@ returns-2 c = reads-short _ _ _ _ _ _ (sym (c .before .bytes-there .ensures) ∙
 pub i16-at-spec : {M : Type 1} → statement M
 i16-at-spec =
     tie.close
-    (tie.spec
-    bytes-there-requires
-    half16-requires
-    cast-signed-of
-    signed-of-requires
-    returns
-    returns-2)
+    (tie.spec (λ c κs. search needs) half16-requires (λ c. search needs) (λ c κs. search needs) returns returns-2)

@@ -9,9 +9,6 @@ use lib.ListN.{length}
 use Rattle.numbers.proofs.signed.i8_at.Statement.{statement}
 use Rattle.numbers.proofs.signed.i8_at.Tie as tie
 
-bytes-there-requires : tie.Need-bytes-there-requires
-bytes-there-requires c κs = search needs
-
 shared-slice-read-signed-of : tie.Need-shared-slice-read-signed-of
 shared-slice-read-signed-of c =
     let h : c .before .before .before .before .args .at + 1 ≤ length (now (c .before .before .before .before .args .s)) = there-inside _ _ _ (sym (c .before .before .bytes-there .ensures) ∙ c .before .if1 .taken) in
@@ -32,10 +29,4 @@ returns-2 c = reads-short _ _ _ _ _ _ (sym (c .before .bytes-there .ensures) ∙
 pub i8-at-spec : {M : Type 1} → statement M
 i8-at-spec =
     tie.close
-    (tie.spec
-    bytes-there-requires
-    shared-slice-read-signed-of
-    cast-signed-of
-    signed-of-requires
-    returns
-    returns-2)
+    (tie.spec (λ c κs. search needs) shared-slice-read-signed-of cast-signed-of signed-of-requires returns returns-2)

@@ -5,18 +5,6 @@ use Prim.Native.Nat.{_-_}
 use Rattle.numbers.proofs.signed.signed_of.Statement.{statement}
 use Rattle.numbers.proofs.signed.signed_of.Tie as tie
 
-cast-result : tie.Need-cast-result
-cast-result c = search needs
-
-sub-back : tie.Need-sub-back
-sub-back c = search needs
-
-sub-back-2 : tie.Need-sub-back-2
-sub-back-2 c = search needs
-
-cast-result-2 : tie.Need-cast-result-2
-cast-result-2 c = search needs
-
 sub-result : tie.Need-sub-result
 sub-result c = let a = c .before .args in back-fits (a .half - 1 - (a .n - a .half)) (omega arith)
 
@@ -28,4 +16,12 @@ returns-2 c = signed-high _ _ (c .if1 .left) (c .before .pre .0) (c .before .pre
 
 pub signed-of-spec : {M : Type 1} → statement M
 signed-of-spec =
-    tie.close (tie.spec cast-result sub-back sub-back-2 cast-result-2 sub-result returns returns-2)
+    tie.close
+    (tie.spec
+    (λ c. search needs)
+    (λ c. search needs)
+    (λ c. search needs)
+    (λ c. search needs)
+    sub-result
+    returns
+    returns-2)

@@ -6,32 +6,17 @@ use mathlib.Core.Path.{sym}
 use Rattle.numbers.proofs.unsigned.half16.Statement.{statement}
 use Rattle.numbers.proofs.unsigned.half16.Tie as tie
 
-shared-slice-read-first : tie.Need-shared-slice-read-first
-shared-slice-read-first c = search needs
-
 cast-first : tie.Need-cast-first
 cast-first c = omega (arith, c .shared-slice-known .given (c .before .args .at))
 
-add-second : tie.Need-add-second
-add-second c = search needs
-
-shared-slice-read-second : tie.Need-shared-slice-read-second
-shared-slice-read-second c = search needs
-
 cast-second : tie.Need-cast-second
 cast-second c = omega (arith, c .shared-slice-known2 .given (c .before .before .args .at + 1))
-
-enum-told : tie.Need-enum-told
-enum-told c = search needs
 
 mul-result : tie.Need-mul-result
 mul-result c = omega (arith, c .before .before .before .shared-slice-known .given (c .before .before .before .before .args .at))
 
 add-result : tie.Need-add-result
 add-result c = omega (arith, c .before .before .before .shared-slice-known .given (c .before .before .before .before .args .at), c .before .before .before .shared-slice-known .given (c .before .before .before .before .args .at + 1))
-
-enum-told-2 : tie.Need-enum-told-2
-enum-told-2 c = search needs
 
 mul-result-2 : tie.Need-mul-result-2
 mul-result-2 c = omega (arith, c .before .before .before .shared-slice-known .given (c .before .before .before .before .args .at + 1))
@@ -49,15 +34,15 @@ pub half16-spec : {M : Type 1} → statement M
 half16-spec =
     tie.close
     (tie.spec
-    shared-slice-read-first
+    (λ c. search needs)
     cast-first
-    add-second
-    shared-slice-read-second
+    (λ c. search needs)
+    (λ c. search needs)
     cast-second
-    enum-told
+    (λ c. search needs)
     mul-result
     add-result
-    enum-told-2
+    (λ c. search needs)
     mul-result-2
     add-result-2
     returns

@@ -4,9 +4,6 @@ use mathlib.Core.Path.{sym, _∙_}
 use Rattle.numbers.proofs.unsigned.u16_at.Statement.{statement}
 use Rattle.numbers.proofs.unsigned.u16_at.Tie as tie
 
-bytes-there-requires : tie.Need-bytes-there-requires
-bytes-there-requires c κs = search needs
-
 half16-requires : tie.Need-half16-requires
 half16-requires c κs = there-inside _ _ _ (sym (c .before .bytes-there .ensures) ∙ c .if1 .taken)
 
@@ -17,4 +14,4 @@ returns-2 : tie.Need-returns-2
 returns-2 c = reads-short _ _ _ _ _ _ (sym (c .before .bytes-there .ensures) ∙ c .if1 .left)
 
 pub u16-at-spec : {M : Type 1} → statement M
-u16-at-spec = tie.close (tie.spec bytes-there-requires half16-requires returns returns-2)
+u16-at-spec = tie.close (tie.spec (λ c κs. search needs) half16-requires returns returns-2)

@@ -8,9 +8,6 @@ use lib.ListN.{length}
 use Rattle.numbers.proofs.unsigned.u8_at.Statement.{statement}
 use Rattle.numbers.proofs.unsigned.u8_at.Tie as tie
 
-bytes-there-requires : tie.Need-bytes-there-requires
-bytes-there-requires c κs = search needs
-
 shared-slice-read-t6 : tie.Need-shared-slice-read-t6
 shared-slice-read-t6 c =
     let h : c .before .before .before .before .args .at + 1 ≤ length (now (c .before .before .before .before .args .s)) = there-inside _ _ _ (sym (c .before .before .bytes-there .ensures) ∙ c .before .if1 .taken) in
@@ -23,4 +20,4 @@ returns-2 : tie.Need-returns-2
 returns-2 c = reads-short _ _ _ _ _ _ (sym (c .before .bytes-there .ensures) ∙ c .if1 .left)
 
 pub u8-at-spec : {M : Type 1} → statement M
-u8-at-spec = tie.close (tie.spec bytes-there-requires shared-slice-read-t6 returns returns-2)
+u8-at-spec = tie.close (tie.spec (λ c κs. search needs) shared-slice-read-t6 returns returns-2)

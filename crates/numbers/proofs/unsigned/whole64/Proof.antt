@@ -3,39 +3,6 @@ use borrow.Author.Needs.{needs}
 use Rattle.numbers.proofs.unsigned.whole64.Statement.{statement}
 use Rattle.numbers.proofs.unsigned.whole64.Tie as tie
 
-half32-requires : tie.Need-half32-requires
-half32-requires c κs = search needs
-
-cast-first : tie.Need-cast-first
-cast-first c = search needs
-
-add-half32 : tie.Need-add-half32
-add-half32 c = search needs
-
-half32-requires-2 : tie.Need-half32-requires-2
-half32-requires-2 c κs = search needs
-
-cast-second : tie.Need-cast-second
-cast-second c = search needs
-
-enum-told : tie.Need-enum-told
-enum-told c = search needs
-
-mul-result : tie.Need-mul-result
-mul-result c = search needs
-
-add-result : tie.Need-add-result
-add-result c = search needs
-
-enum-told-2 : tie.Need-enum-told-2
-enum-told-2 c = search needs
-
-mul-result-2 : tie.Need-mul-result-2
-mul-result-2 c = search needs
-
-add-result-2 : tie.Need-add-result-2
-add-result-2 c = search needs
-
 returns : tie.Need-returns
 returns c = joined-big 4 _ _ (c .enum-told .given .1) (c .before .before .before .half32 .ensures) (c .before .before .half322 .ensures)
 
@@ -46,16 +13,16 @@ pub whole64-spec : {M : Type 1} → statement M
 whole64-spec =
     tie.close
     (tie.spec
-    half32-requires
-    cast-first
-    add-half32
-    half32-requires-2
-    cast-second
-    enum-told
-    mul-result
-    add-result
-    enum-told-2
-    mul-result-2
-    add-result-2
+    (λ c κs. search needs)
+    (λ c. search needs)
+    (λ c. search needs)
+    (λ c κs. search needs)
+    (λ c. search needs)
+    (λ c. search needs)
+    (λ c. search needs)
+    (λ c. search needs)
+    (λ c. search needs)
+    (λ c. search needs)
+    (λ c. search needs)
     returns
     returns-2)

@@ -7,26 +7,11 @@ use mathlib.Core.Path.{_≡_}
 use Rattle.records.proofs.elements.element_at.Statement.{statement}
 use Rattle.records.proofs.elements.element_at.Tie as tie
 
-name-from-requires : tie.Need-name-from-requires
-name-from-requires c κs = search needs
-
 returns : tie.Need-returns
 returns c = element-name _ _ _ _ (c .before .if1 .taken) (c .name-from .ensures)
 
-value-at-requires : tie.Need-value-at-requires
-value-at-requires c κs = search needs
-
-enum-known-value : tie.Need-enum-known-value
-enum-known-value c = search needs
-
 add-named-from : tie.Need-add-named-from
 add-named-from c = record { fits = c .before .before .before .before .before .before .pre }
-
-named-from-requires : tie.Need-named-from-requires
-named-from-requires c κs = search needs
-
-enum-told : tie.Need-enum-told
-enum-told c = search needs
 
 returns-2 : tie.Need-returns-2
 returns-2 c = let back : toZ w32 (ofZ w32 (c .before .before .value .given .0 .0)) ≡ c .before .before .value .given .0 .0 = search needs in element-value _ _ _ _ (c .before .before .before .before .value-at .ensures) (c .before .before .before .before .before .if1 .left) (c .before .before .value .given .1) back (c .named-from .ensures)
@@ -38,12 +23,12 @@ pub element-at-spec : {M : Type 1} → statement M
 element-at-spec =
     tie.close
     (tie.spec
-    name-from-requires
+    (λ c κs. search needs)
     returns
-    value-at-requires
-    enum-known-value
+    (λ c κs. search needs)
+    (λ c. search needs)
     add-named-from
-    named-from-requires
-    enum-told
+    (λ c κs. search needs)
+    (λ c. search needs)
     returns-2
     returns-3)

@@ -8,12 +8,6 @@ use mathlib.Core.Path.{refl, ap, _∙_}
 use Rattle.records.proofs.elements.list_width.Statement.{statement}
 use Rattle.records.proofs.elements.list_width.Tie as tie
 
-enum-known-size : tie.Need-enum-known-size
-enum-known-size c = search needs
-
-enum-told : tie.Need-enum-told
-enum-told c = search needs
-
 returns : tie.Need-returns
 unfolding listWidth
 returns c = by-case listWidth (c .before .before .size .given .1 ∙ ap word.Is (c .if1 .taken)) refl
@@ -35,4 +29,5 @@ returns-5 c = by-case listWidth (c .enum-told .given .1) refl
 
 pub list-width-spec : {M : Type 1} → statement M
 list-width-spec =
-    tie.close (tie.spec enum-known-size enum-told returns returns-2 returns-3 returns-4 returns-5)
+    tie.close
+    (tie.spec (λ c. search needs) (λ c. search needs) returns returns-2 returns-3 returns-4 returns-5)

@@ -4,12 +4,6 @@ use Prim.Native.Nat.{_-_}
 use Rattle.records.proofs.elements.name_from.Statement.{statement}
 use Rattle.records.proofs.elements.name_from.Tie as tie
 
-zero-from-requires : tie.Need-zero-from-requires
-zero-from-requires c κs = search needs
-
-add-t7 : tie.Need-add-t7
-add-t7 c = search needs
-
 returns : tie.Need-returns
 returns c = name-there _ _ (c .before .zero-from .ensures) (c .if1 .taken)
 
@@ -17,4 +11,4 @@ returns-2 : tie.Need-returns-2
 returns-2 c = name-missing _ _ (c .before .zero-from .ensures) (c .if1 .left)
 
 pub name-from-spec : {M : Type 1} → statement M
-name-from-spec = tie.close (tie.spec zero-from-requires add-t7 returns returns-2)
+name-from-spec = tie.close (tie.spec (λ c κs. search needs) (λ c. search needs) returns returns-2)

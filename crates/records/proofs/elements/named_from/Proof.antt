@@ -8,14 +8,8 @@ use mathlib.Core.Path.{_≡_}
 use Rattle.records.proofs.elements.named_from.Statement.{statement}
 use Rattle.records.proofs.elements.named_from.Tie as tie
 
-zero-from-requires : tie.Need-zero-from-requires
-zero-from-requires c κs = search needs
-
 sub-t8 : tie.Need-sub-t8
 sub-t8 c = zero-after _ _ (c .before .zero-from .ensures)
-
-add-t9 : tie.Need-add-t9
-add-t9 c = search needs
 
 returns : tie.Need-returns
 returns c = let back : toZ w32 (ofZ w32 (c .before .before .before .args .value)) ≡ c .before .before .before .args .value = search needs in named-there _ _ (c .before .zero-from .ensures) (c .if1 .taken) (c .before .before .before .args .value) back
@@ -24,4 +18,4 @@ returns-2 : tie.Need-returns-2
 returns-2 c = named-missing _ _ (c .before .zero-from .ensures) (c .if1 .left) _
 
 pub named-from-spec : {M : Type 1} → statement M
-named-from-spec = tie.close (tie.spec zero-from-requires sub-t8 add-t9 returns returns-2)
+named-from-spec = tie.close (tie.spec (λ c κs. search needs) sub-t8 (λ c. search needs) returns returns-2)

@@ -21,17 +21,8 @@ loop-holds c = loop-begin _ _ _ _ _ _ _ _
 element-at-requires : tie.Need-element-at-requires Inv-loop μ-loop
 element-at-requires c κs = omega (arith, c .before .before .before .before .pre .width-small, c .loop-test .taken)
 
-enum-known-value : tie.Need-enum-known-value Inv-loop μ-loop
-enum-known-value c = search needs
-
-slot-of-requires : tie.Need-slot-of-requires Inv-loop μ-loop
-slot-of-requires c κs = search needs
-
 add-put-element : tie.Need-add-put-element Inv-loop μ-loop
 add-put-element c = omega (arith, c .before .before .before .before .before .before .before .before .before .before .before .pre .place-small, element-place _ _ _ _ _ _ (c .before .before .before .before .before .before .before .before .loop .inv) (c .before .before .before .before .before .before .before .loop-test .taken) (c .before .before .before .before .before .before .element-at .ensures) (c .before .before .before .before .value .given .1))
-
-put-element-requires : tie.Need-put-element-requires Inv-loop μ-loop
-put-element-requires c κs = search needs
 
 add-count : tie.Need-add-count Inv-loop μ-loop
 add-count c = omega (arith, c .before .before .before .before .before .before .before .before .before .before .before .before .before .before .before .pre .count-small, element-count _ _ _ _ _ _ (c .before .before .before .before .before .before .before .before .before .before .before .before .loop .inv) (c .before .before .before .before .before .before .before .before .before .before .before .loop-test .taken) (c .before .before .before .before .before .before .before .before .before .before .element-at .ensures) (c .before .before .before .before .before .before .before .before .value .given .1))
@@ -42,20 +33,11 @@ loop-less c = element-less _ _ _ _ _ _ (c .before .before .before .before .befor
 loop-again : tie.Need-loop-again Inv-loop μ-loop
 loop-again c = let back : toZ w32 (ofZ w32 (c .before .before .before .before .before .before .before .before .value .given .0 .0)) ≡ c .before .before .before .before .before .before .before .before .value .given .0 .0 = search needs in element-again _ _ _ _ _ _ (c .before .before .before .before .before .before .before .before .before .before .before .before .loop .inv) (c .before .before .before .before .before .before .before .before .before .before .before .loop-test .taken) (c .before .before .before .before .before .before .before .before .before .before .element-at .ensures) (c .before .before .before .before .before .before .before .before .value .given .1) (c .before .before .before .before .before .before .slot-of .ensures) back (c .before .before .before .put-element .ensures)
 
-enum-known-next : tie.Need-enum-known-next Inv-loop μ-loop
-enum-known-next c = search needs
-
 loop-less-2 : tie.Need-loop-less-2 Inv-loop μ-loop
 loop-less-2 c = name-less _ _ _ _ _ _ (c .before .before .before .before .before .loop .inv) (c .before .before .before .before .loop-test .taken) (c .before .before .before .element-at .ensures) (c .before .next .given .1)
 
 loop-again-2 : tie.Need-loop-again-2 Inv-loop μ-loop
 loop-again-2 c = name-again _ _ _ _ _ _ (c .before .before .before .before .before .loop .inv) (c .before .before .before .before .loop-test .taken) (c .before .before .before .element-at .ensures) (c .before .next .given .1)
-
-enum-told : tie.Need-enum-told Inv-loop μ-loop
-enum-told c = search needs
-
-refused-requires : tie.Need-refused-requires Inv-loop μ-loop
-refused-requires c κs = search needs
 
 same-length : tie.Need-same-length Inv-loop μ-loop
 same-length c = loop-values _ _ _ _ _ _ (c .before .before .before .before .before .loop .inv)
@@ -83,18 +65,18 @@ read-list-spec =
     μ-loop
     loop-holds
     element-at-requires
-    enum-known-value
-    slot-of-requires
+    (λ c. search needs)
+    (λ c κs. search needs)
     add-put-element
-    put-element-requires
+    (λ c κs. search needs)
     add-count
     loop-less
     loop-again
-    enum-known-next
+    (λ c. search needs)
     loop-less-2
     loop-again-2
-    enum-told
-    refused-requires
+    (λ c. search needs)
+    (λ c κs. search needs)
     same-length
     same-length-2
     returns

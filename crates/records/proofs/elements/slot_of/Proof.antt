@@ -4,12 +4,6 @@ use Prim.Native.Nat.{_-_}
 use Rattle.records.proofs.elements.slot_of.Statement.{statement}
 use Rattle.records.proofs.elements.slot_of.Tie as tie
 
-sub-result : tie.Need-sub-result
-sub-result c = search needs
-
-sub-result-2 : tie.Need-sub-result-2
-sub-result-2 c = search needs
-
 returns : tie.Need-returns
 returns c = slot-back _ _ (c .before .before .before .if1 .taken) (c .before .if2 .taken)
 
@@ -20,4 +14,4 @@ returns-3 : tie.Need-returns-3
 returns-3 c = slot-same _ _ (c .if1 .left)
 
 pub slot-of-spec : {M : Type 1} → statement M
-slot-of-spec = tie.close (tie.spec sub-result sub-result-2 returns returns-2 returns-3)
+slot-of-spec = tie.close (tie.spec (λ c. search needs) (λ c. search needs) returns returns-2 returns-3)

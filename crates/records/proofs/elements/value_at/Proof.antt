@@ -4,15 +4,6 @@ use Prim.Native.Nat.{_-_}
 use Rattle.records.proofs.elements.value_at.Statement.{statement}
 use Rattle.records.proofs.elements.value_at.Tie as tie
 
-i8-at-requires : tie.Need-i8-at-requires
-i8-at-requires c κs = search needs
-
-i16-at-requires : tie.Need-i16-at-requires
-i16-at-requires c κs = search needs
-
-i32-at-requires : tie.Need-i32-at-requires
-i32-at-requires c κs = search needs
-
 returns : tie.Need-returns
 returns c = value-one _ _ _ _ (c .before .if1 .taken) (c .i8-at .ensures)
 
@@ -24,4 +15,5 @@ returns-3 c = value-four _ _ _ _ (c .before .before .if1 .left) (c .before .if2 
 
 pub value-at-spec : {M : Type 1} → statement M
 value-at-spec =
-    tie.close (tie.spec i8-at-requires i16-at-requires i32-at-requires returns returns-2 returns-3)
+    tie.close
+    (tie.spec (λ c κs. search needs) (λ c κs. search needs) (λ c κs. search needs) returns returns-2 returns-3)

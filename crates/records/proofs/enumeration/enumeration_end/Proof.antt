@@ -4,21 +4,6 @@ use Prim.Native.Nat.{_-_}
 use Rattle.records.proofs.enumeration.enumeration_end.Statement.{statement}
 use Rattle.records.proofs.enumeration.enumeration_end.Tie as tie
 
-childless-fault-requires : tie.Need-childless-fault-requires
-childless-fault-requires c κs = search needs
-
-enum-told : tie.Need-enum-told
-enum-told c = search needs
-
-run-of-requires : tie.Need-run-of-requires
-run-of-requires c κs = search needs
-
-enumeration-sized-requires : tie.Need-enumeration-sized-requires
-enumeration-sized-requires c κs = search needs
-
-enum-known-why : tie.Need-enum-known-why
-enum-known-why c = search needs
-
 returns : tie.Need-returns
 returns c = end-clear _ _ _ _ _ _ _ (c .before .before .before .before .childless-fault .ensures) (c .before .before .enum-told .given .1) (c .before .run-of .ensures) (c .enumeration-sized .ensures)
 
@@ -29,10 +14,10 @@ pub enumeration-end-spec : {M : Type 1} → statement M
 enumeration-end-spec =
     tie.close
     (tie.spec
-    childless-fault-requires
-    enum-told
-    run-of-requires
-    enumeration-sized-requires
-    enum-known-why
+    (λ c κs. search needs)
+    (λ c. search needs)
+    (λ c κs. search needs)
+    (λ c κs. search needs)
+    (λ c. search needs)
     returns
     returns-2)

@@ -6,21 +6,6 @@ use Prim.Native.Nat.{_-_}
 use Rattle.records.proofs.enumeration.enumeration_sized.Statement.{statement}
 use Rattle.records.proofs.enumeration.enumeration_sized.Tie as tie
 
-last-word-requires : tie.Need-last-word-requires
-last-word-requires c κs = search needs
-
-needs-requires : tie.Need-needs-requires
-needs-requires c κs = search needs
-
-enum-known-size : tie.Need-enum-known-size
-enum-known-size c = search needs
-
-last-name-requires : tie.Need-last-name-requires
-last-name-requires c κs = search needs
-
-enum-known-why : tie.Need-enum-known-why
-enum-known-why c = search needs
-
 returns : tie.Need-returns
 unfolding sizedBy
 returns c = byte-size-there whole.Refused (enumerationIs (c .before .before .before .before .before .before .before .before .args .members)) _ _ _ (c .before .before .before .before .before .last-word .ensures) (c .before .before .before .before .needs .ensures) (c .before .before .size .given .1) (c .last-name .ensures)
@@ -33,10 +18,10 @@ pub enumeration-sized-spec : {M : Type 1} → statement M
 enumeration-sized-spec =
     tie.close
     (tie.spec
-    last-word-requires
-    needs-requires
-    enum-known-size
-    last-name-requires
-    enum-known-why
+    (λ c κs. search needs)
+    (λ c κs. search needs)
+    (λ c. search needs)
+    (λ c κs. search needs)
+    (λ c. search needs)
     returns
     returns-2)

@@ -6,15 +6,6 @@ use mathlib.Core.Path.{refl}
 use Rattle.records.proofs.enumeration.is_gcc.Statement.{statement}
 use Rattle.records.proofs.enumeration.is_gcc.Tie as tie
 
-enum-told : tie.Need-enum-told
-enum-told c = search needs
-
-enum-told-2 : tie.Need-enum-told-2
-enum-told-2 c = search needs
-
-enum-told-3 : tie.Need-enum-told-3
-enum-told-3 c = search needs
-
 returns : tie.Need-returns
 unfolding isGcc
 returns c = by-case isGcc (c .enum-told .given .1) refl
@@ -28,4 +19,6 @@ unfolding isGcc
 returns-3 c = by-case isGcc (c .enum-told3 .given .1) refl
 
 pub is-gcc-spec : {M : Type 1} → statement M
-is-gcc-spec = tie.close (tie.spec enum-told enum-told-2 enum-told-3 returns returns-2 returns-3)
+is-gcc-spec =
+    tie.close
+    (tie.spec (λ c. search needs) (λ c. search needs) (λ c. search needs) returns returns-2 returns-3)

@@ -11,26 +11,17 @@ Inv-loop s settings attrs run slots values₀ names₀ count j₀ listed₀ valu
 abbrev μ-loop : tie.MeasureT-loop
 μ-loop s settings attrs run slots values₀ names₀ count j₀ listed₀ values names j listed = run .count - j
 
-cast-count : tie.Need-cast-count Inv-loop μ-loop
-cast-count c = search needs
-
 loop-holds : tie.Need-loop-holds Inv-loop μ-loop
 loop-holds c = lists-begin _ _ _ _ _ _ _
 
 list-step-requires : tie.Need-list-step-requires Inv-loop μ-loop
 list-step-requires c κs = lists-stepping _ _ _ _ _ (c .before .before .before .loop .inv) (c .before .before .before .before .before .before .before .before .pre) (c .before .before .loop-test .taken)
 
-enum-known-at : tie.Need-enum-known-at Inv-loop μ-loop
-enum-known-at c = search needs
-
 loop-less : tie.Need-loop-less Inv-loop μ-loop
 loop-less c = lists-less _ _ _ _ _ (c .before .before .before .before .before .before .before .before .before .before .loop .inv) _ _ _ (c .before .before .before .before .before .before .list-step .ensures) (c .before .at .given .1)
 
 loop-again : tie.Need-loop-again Inv-loop μ-loop
 loop-again c = lists-again _ _ _ _ _ (c .before .before .before .before .before .before .before .before .before .before .loop .inv) _ _ _ (c .before .before .before .before .before .before .list-step .ensures) (c .before .at .given .1)
-
-enum-known-why : tie.Need-enum-known-why Inv-loop μ-loop
-enum-known-why c = search needs
 
 same-length : tie.Need-same-length Inv-loop μ-loop
 same-length c = c .before .before .before .before .before .before .list-step .kept .1 .1 .1 .1 .1 .1 .1 .0 ∙ lists-values _ _ _ _ _ (c .before .before .before .before .before .before .before .before .before .before .loop .inv)
@@ -56,13 +47,13 @@ read-lists-spec =
     (tie.spec
     Inv-loop
     μ-loop
-    cast-count
+    (λ c. search needs)
     loop-holds
     list-step-requires
-    enum-known-at
+    (λ c. search needs)
     loop-less
     loop-again
-    enum-known-why
+    (λ c. search needs)
     same-length
     same-length-2
     returns

@@ -4,14 +4,8 @@ use Prim.Native.Nat.{_-_}
 use Rattle.records.proofs.enumeration.size_before.Statement.{statement}
 use Rattle.records.proofs.enumeration.size_before.Tie as tie
 
-last-from-requires : tie.Need-last-from-requires
-last-from-requires c κs = search needs
-
-word-by-requires : tie.Need-word-by-requires
-word-by-requires c κs = search needs
-
 returns : tie.Need-returns
 returns c = size-before _ _ _ _ (c .before .last-from .ensures) (c .word-by .ensures)
 
 pub size-before-spec : {M : Type 1} → statement M
-size-before-spec = tie.close (tie.spec last-from-requires word-by-requires returns)
+size-before-spec = tie.close (tie.spec (λ c κs. search needs) (λ c κs. search needs) returns)

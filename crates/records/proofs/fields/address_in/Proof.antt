@@ -3,15 +3,6 @@ use borrow.Author.Needs.{needs}
 use Rattle.records.proofs.fields.address_in.Statement.{statement}
 use Rattle.records.proofs.fields.address_in.Tie as tie
 
-process-address-requires : tie.Need-process-address-requires
-process-address-requires c κs = search needs
-
-enum-known-address : tie.Need-enum-known-address
-enum-known-address c = search needs
-
-enum-told : tie.Need-enum-told
-enum-told c = search needs
-
 returns : tie.Need-returns
 returns c = address-is _ _ (c .before .before .before .process-address .ensures) (c .before .address .given .1)
 
@@ -19,5 +10,4 @@ returns-2 : tie.Need-returns-2
 returns-2 c = address-refused _ _ (c .before .before .process-address .ensures) (c .enum-told .given .1)
 
 pub address-in-spec : {M : Type 1} → statement M
-address-in-spec =
-    tie.close (tie.spec process-address-requires enum-known-address enum-told returns returns-2)
+address-in-spec = tie.close (tie.spec (λ c κs. search needs) (λ c. search needs) (λ c. search needs) returns returns-2)

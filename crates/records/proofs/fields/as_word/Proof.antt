@@ -4,15 +4,6 @@ use mathlib.Core.Path.{sym, ap}
 use Rattle.records.proofs.fields.as_word.Statement.{statement}
 use Rattle.records.proofs.fields.as_word.Tie as tie
 
-enum-known-value : tie.Need-enum-known-value
-enum-known-value c = search needs
-
-enum-told : tie.Need-enum-told
-enum-told c = search needs
-
-enum-told-2 : tie.Need-enum-told-2
-enum-told-2 c = search needs
-
 returns : tie.Need-returns
 unfolding asWord
 returns c = ap asWord (sym (c .before .value .given .1))
@@ -27,4 +18,5 @@ returns-3 c = ap asWord (sym (c .enum-told2 .given .1))
 
 pub as-word-spec : {M : Type 1} → statement M
 as-word-spec =
-    tie.close (tie.spec enum-known-value enum-told enum-told-2 returns returns-2 returns-3)
+    tie.close
+    (tie.spec (λ c. search needs) (λ c. search needs) (λ c. search needs) returns returns-2 returns-3)

@@ -5,18 +5,6 @@ use mathlib.Core.Path.{sym, ap, _∙_}
 use Rattle.records.proofs.fields.is_sought.Statement.{statement}
 use Rattle.records.proofs.fields.is_sought.Tie as tie
 
-enum-known-sought : tie.Need-enum-known-sought
-enum-known-sought c = search needs
-
-enum-told : tie.Need-enum-told
-enum-told c = search needs
-
-is-type-requires : tie.Need-is-type-requires
-is-type-requires c κs = search needs
-
-enum-told-2 : tie.Need-enum-told-2
-enum-told-2 c = search needs
-
 returns : tie.Need-returns
 unfolding isSought
 returns c = ap (λ (x : Sought). isSought x (c .before .before .before .args .number)) (sym (c .before .sought .given .1))
@@ -32,4 +20,11 @@ returns-3 c = ap (λ (x : Sought). isSought x (c .before .before .args .number))
 pub is-sought-spec : {M : Type 1} → statement M
 is-sought-spec =
     tie.close
-    (tie.spec enum-known-sought enum-told is-type-requires enum-told-2 returns returns-2 returns-3)
+    (tie.spec
+    (λ c. search needs)
+    (λ c. search needs)
+    (λ c κs. search needs)
+    (λ c. search needs)
+    returns
+    returns-2
+    returns-3)

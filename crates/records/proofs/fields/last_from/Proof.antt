@@ -16,26 +16,8 @@ abbrev μ-loop : tie.MeasureT-loop
 loop-holds : tie.Need-loop-holds Inv-loop μ-loop
 loop-holds c = (omega arith, refl)
 
-sub-k : tie.Need-sub-k Inv-loop μ-loop
-sub-k c = search needs
-
-add-attribute-at : tie.Need-add-attribute-at Inv-loop μ-loop
-add-attribute-at c = search needs
-
-attribute-at-requires : tie.Need-attribute-at-requires Inv-loop μ-loop
-attribute-at-requires c κs = search needs
-
-is-sought-requires : tie.Need-is-sought-requires Inv-loop μ-loop
-is-sought-requires c κs = search needs
-
-add-t11 : tie.Need-add-t11 Inv-loop μ-loop
-add-t11 c = search needs
-
 returns : tie.Need-returns Inv-loop μ-loop
 returns c = last-here _ _ _ (c .before .before .before .before .loop .k) (c .before .before .before .loop-test .taken) (c .before .before .attribute-at .ensures) (c .before .is-sought .ensures) (c .if1 .taken) ∙ c .before .before .before .before .loop .inv .1
-
-loop-less : tie.Need-loop-less Inv-loop μ-loop
-loop-less c = search needs
 
 loop-again : tie.Need-loop-again Inv-loop μ-loop
 loop-again c = (omega arith, last-before _ _ _ (c .before .before .before .before .loop .k) (c .before .before .before .loop-test .taken) (c .before .before .attribute-at .ensures) (c .before .is-sought .ensures) (c .if1 .left) ∙ c .before .before .before .before .loop .inv .1)
@@ -50,12 +32,12 @@ last-from-spec =
     Inv-loop
     μ-loop
     loop-holds
-    sub-k
-    add-attribute-at
-    attribute-at-requires
-    is-sought-requires
-    add-t11
+    (λ c. search needs)
+    (λ c. search needs)
+    (λ c κs. search needs)
+    (λ c κs. search needs)
+    (λ c. search needs)
     returns
-    loop-less
+    (λ c. search needs)
     loop-again
     returns-2)

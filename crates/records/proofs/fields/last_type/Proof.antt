@@ -4,14 +4,8 @@ use Prim.Native.Nat.{_-_}
 use Rattle.records.proofs.fields.last_type.Statement.{statement}
 use Rattle.records.proofs.fields.last_type.Tie as tie
 
-last-of-requires : tie.Need-last-of-requires
-last-of-requires c κs = search needs
-
-type-by-requires : tie.Need-type-by-requires
-type-by-requires c κs = search needs
-
 returns : tie.Need-returns
 returns c = type-last _ _ _ (c .before .last-of .ensures) (c .type-by .ensures)
 
 pub last-type-spec : {M : Type 1} → statement M
-last-type-spec = tie.close (tie.spec last-of-requires type-by-requires returns)
+last-type-spec = tie.close (tie.spec (λ c κs. search needs) (λ c κs. search needs) returns)

@@ -4,14 +4,8 @@ use Prim.Native.Nat.{_-_}
 use Rattle.records.proofs.fields.last_word.Statement.{statement}
 use Rattle.records.proofs.fields.last_word.Tie as tie
 
-last-of-requires : tie.Need-last-of-requires
-last-of-requires c κs = search needs
-
-word-by-requires : tie.Need-word-by-requires
-word-by-requires c κs = search needs
-
 returns : tie.Need-returns
 returns c = word-last _ _ _ _ (c .before .last-of .ensures) (c .word-by .ensures)
 
 pub last-word-spec : {M : Type 1} → statement M
-last-word-spec = tie.close (tie.spec last-of-requires word-by-requires returns)
+last-word-spec = tie.close (tie.spec (λ c κs. search needs) (λ c κs. search needs) returns)

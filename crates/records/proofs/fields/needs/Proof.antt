@@ -5,15 +5,6 @@ use mathlib.Core.Path.{sym, ap}
 use Rattle.records.proofs.fields.needs.Statement.{statement}
 use Rattle.records.proofs.fields.needs.Tie as tie
 
-enum-known-word : tie.Need-enum-known-word
-enum-known-word c = search needs
-
-enum-told : tie.Need-enum-told
-enum-told c = search needs
-
-refused-requires : tie.Need-refused-requires
-refused-requires c κs = search needs
-
 returns : tie.Need-returns
 unfolding needed
 returns c = ap (needed _) (sym (c .before .word .given .1))
@@ -22,4 +13,4 @@ returns-2 : tie.Need-returns-2
 returns-2 c = needed-none _ (c .before .enum-told .given .1) (c .refused .ensures)
 
 pub needs-spec : {M : Type 1} → statement M
-needs-spec = tie.close (tie.spec enum-known-word enum-told refused-requires returns returns-2)
+needs-spec = tie.close (tie.spec (λ c. search needs) (λ c. search needs) (λ c κs. search needs) returns returns-2)

@@ -3,18 +3,6 @@ use borrow.Author.Needs.{needs}
 use Rattle.records.proofs.fields.offset_in.Statement.{statement}
 use Rattle.records.proofs.fields.offset_in.Tie as tie
 
-process-offset-requires : tie.Need-process-offset-requires
-process-offset-requires c κs = search needs
-
-enum-known-offset : tie.Need-enum-known-offset
-enum-known-offset c = search needs
-
-enum-known-why : tie.Need-enum-known-why
-enum-known-why c = search needs
-
-placed-requires : tie.Need-placed-requires
-placed-requires c κs = search needs
-
 returns : tie.Need-returns
 returns c = offset-is _ _ (c .before .before .before .process-offset .ensures) (c .before .offset .given .1)
 
@@ -24,10 +12,4 @@ returns-2 c = offset-refused _ _ (c .before .before .before .before .process-off
 pub offset-in-spec : {M : Type 1} → statement M
 offset-in-spec =
     tie.close
-    (tie.spec
-    process-offset-requires
-    enum-known-offset
-    enum-known-why
-    placed-requires
-    returns
-    returns-2)
+    (tie.spec (λ c κs. search needs) (λ c. search needs) (λ c. search needs) (λ c κs. search needs) returns returns-2)

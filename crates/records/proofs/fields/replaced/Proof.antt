@@ -5,15 +5,6 @@ use mathlib.Core.Path.{sym, ap}
 use Rattle.records.proofs.fields.replaced.Statement.{statement}
 use Rattle.records.proofs.fields.replaced.Tie as tie
 
-enum-known-typed : tie.Need-enum-known-typed
-enum-known-typed c = search needs
-
-enum-known-typed-2 : tie.Need-enum-known-typed-2
-enum-known-typed-2 c = search needs
-
-placed-requires : tie.Need-placed-requires
-placed-requires c κs = search needs
-
 returns : tie.Need-returns
 unfolding replaced
 returns c = ap (replaced _) (sym (c .before .typed .given .1))
@@ -22,5 +13,4 @@ returns-2 : tie.Need-returns-2
 returns-2 c = replaced-refused _ (c .before .before .typed2 .given .1) (c .placed .ensures)
 
 pub replaced-spec : {M : Type 1} → statement M
-replaced-spec =
-    tie.close (tie.spec enum-known-typed enum-known-typed-2 placed-requires returns returns-2)
+replaced-spec = tie.close (tie.spec (λ c. search needs) (λ c. search needs) (λ c κs. search needs) returns returns-2)

@@ -6,9 +6,6 @@ use mathlib.Core.Path.{refl}
 use Rattle.records.proofs.fields.role_name.Statement.{statement}
 use Rattle.records.proofs.fields.role_name.Tie as tie
 
-last-name-requires : tie.Need-last-name-requires
-last-name-requires c κs = search needs
-
 returns : tie.Need-returns
 unfolding roleName
 returns c = test-passed refl _ (eq-eqb _ _ (c .if1 .taken)) refl
@@ -18,4 +15,4 @@ unfolding roleName
 returns-2 c = test-failed refl _ (ne-eqb _ _ (c .before .if1 .left)) (c .last-name .ensures)
 
 pub role-name-spec : {M : Type 1} → statement M
-role-name-spec = tie.close (tie.spec last-name-requires returns returns-2)
+role-name-spec = tie.close (tie.spec (λ c κs. search needs) returns returns-2)

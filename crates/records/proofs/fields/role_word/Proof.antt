@@ -6,9 +6,6 @@ use mathlib.Core.Path.{refl}
 use Rattle.records.proofs.fields.role_word.Statement.{statement}
 use Rattle.records.proofs.fields.role_word.Tie as tie
 
-last-word-requires : tie.Need-last-word-requires
-last-word-requires c κs = search needs
-
 returns : tie.Need-returns
 unfolding roleWord
 returns c = test-passed refl _ (eq-eqb _ _ (c .if1 .taken)) refl
@@ -18,4 +15,4 @@ unfolding roleWord
 returns-2 c = test-failed refl _ (ne-eqb _ _ (c .before .if1 .left)) (c .last-word .ensures)
 
 pub role-word-spec : {M : Type 1} → statement M
-role-word-spec = tie.close (tie.spec last-word-requires returns returns-2)
+role-word-spec = tie.close (tie.spec (λ c κs. search needs) returns returns-2)

@@ -4,9 +4,6 @@ use borrow.Author.Needs.{needs}
 use Rattle.records.proofs.fields.text_of.Statement.{statement}
 use Rattle.records.proofs.fields.text_of.Tie as tie
 
-zero-from-requires : tie.Need-zero-from-requires
-zero-from-requires c κs = search needs
-
 sub-t4 : tie.Need-sub-t4
 sub-t4 c = zero-after _ _ (c .zero-from .ensures)
 
@@ -14,4 +11,4 @@ returns : tie.Need-returns
 returns c = text-is _ _ (c .zero-from .ensures)
 
 pub text-of-spec : {M : Type 1} → statement M
-text-of-spec = tie.close (tie.spec zero-from-requires sub-t4 returns)
+text-of-spec = tie.close (tie.spec (λ c κs. search needs) sub-t4 returns)

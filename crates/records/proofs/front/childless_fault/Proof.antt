@@ -4,24 +4,6 @@ use Prim.Native.Nat.{_-_}
 use Rattle.records.proofs.front.childless_fault.Statement.{statement}
 use Rattle.records.proofs.front.childless_fault.Tie as tie
 
-row-at-requires : tie.Need-row-at-requires
-row-at-requires c κs = search needs
-
-count-children-requires : tie.Need-count-children-requires
-count-children-requires c κs = search needs
-
-enum-known-k : tie.Need-enum-known-k
-enum-known-k c = search needs
-
-refused-requires : tie.Need-refused-requires
-refused-requires c κs = search needs
-
-enum-told : tie.Need-enum-told
-enum-told c = search needs
-
-refused-requires-2 : tie.Need-refused-requires-2
-refused-requires-2 c κs = search needs
-
 returns : tie.Need-returns
 returns c = childless _ _ _ _ _ _ (c .before .before .before .before .count-children .ensures) (c .before .before .k .given .1) (c .if1 .taken)
 
@@ -35,12 +17,12 @@ pub childless-fault-spec : {M : Type 1} → statement M
 childless-fault-spec =
     tie.close
     (tie.spec
-    row-at-requires
-    count-children-requires
-    enum-known-k
-    refused-requires
-    enum-told
-    refused-requires-2
+    (λ c κs. search needs)
+    (λ c κs. search needs)
+    (λ c. search needs)
+    (λ c κs. search needs)
+    (λ c. search needs)
+    (λ c κs. search needs)
     returns
     returns-2
     returns-3)

@@ -5,18 +5,6 @@ use Prim.Native.Nat.{_-_}
 use Rattle.records.proofs.front.front_fault.Statement.{statement}
 use Rattle.records.proofs.front.front_fault.Tie as tie
 
-head-fault-requires : tie.Need-head-fault-requires
-head-fault-requires c κs = search needs
-
-enum-told : tie.Need-enum-told
-enum-told c = search needs
-
-childless-fault-requires : tie.Need-childless-fault-requires
-childless-fault-requires c κs = search needs
-
-enum-known-why : tie.Need-enum-known-why
-enum-known-why c = search needs
-
 returns : tie.Need-returns
 unfolding frontOf
 returns c = or-else-clear (c .before .before .before .head-fault .ensures) (c .before .enum-told .given .1) (c .childless-fault .ensures)
@@ -28,10 +16,4 @@ returns-2 c = or-else-refused (c .before .before .before .head-fault .ensures) _
 pub front-fault-spec : {M : Type 1} → statement M
 front-fault-spec =
     tie.close
-    (tie.spec
-    head-fault-requires
-    enum-told
-    childless-fault-requires
-    enum-known-why
-    returns
-    returns-2)
+    (tie.spec (λ c κs. search needs) (λ c. search needs) (λ c κs. search needs) (λ c. search needs) returns returns-2)

@@ -4,21 +4,6 @@ use Prim.Native.Nat.{_-_}
 use Rattle.records.proofs.front.head_fault.Statement.{statement}
 use Rattle.records.proofs.front.head_fault.Tie as tie
 
-kind-fault-requires : tie.Need-kind-fault-requires
-kind-fault-requires c κs = search needs
-
-enum-told : tie.Need-enum-told
-enum-told c = search needs
-
-run-of-requires : tie.Need-run-of-requires
-run-of-requires c κs = search needs
-
-attributes-fault-requires : tie.Need-attributes-fault-requires
-attributes-fault-requires c κs = search needs
-
-enum-known-why : tie.Need-enum-known-why
-enum-known-why c = search needs
-
 returns : tie.Need-returns
 returns c = head-clear _ _ _ _ _ _ (c .before .before .before .before .before .kind-fault .ensures) (c .before .before .before .enum-told .given .1) (c .before .before .run-of .ensures) (c .attributes-fault .ensures)
 
@@ -29,10 +14,10 @@ pub head-fault-spec : {M : Type 1} → statement M
 head-fault-spec =
     tie.close
     (tie.spec
-    kind-fault-requires
-    enum-told
-    run-of-requires
-    attributes-fault-requires
-    enum-known-why
+    (λ c κs. search needs)
+    (λ c. search needs)
+    (λ c κs. search needs)
+    (λ c κs. search needs)
+    (λ c. search needs)
     returns
     returns-2)

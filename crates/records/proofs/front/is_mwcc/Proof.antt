@@ -6,15 +6,6 @@ use mathlib.Core.Path.{refl}
 use Rattle.records.proofs.front.is_mwcc.Statement.{statement}
 use Rattle.records.proofs.front.is_mwcc.Tie as tie
 
-enum-told : tie.Need-enum-told
-enum-told c = search needs
-
-enum-told-2 : tie.Need-enum-told-2
-enum-told-2 c = search needs
-
-enum-told-3 : tie.Need-enum-told-3
-enum-told-3 c = search needs
-
 returns : tie.Need-returns
 unfolding isMwcc
 returns c = by-case isMwcc (c .enum-told .given .1) refl
@@ -28,4 +19,6 @@ unfolding isMwcc
 returns-3 c = by-case isMwcc (c .enum-told3 .given .1) refl
 
 pub is-mwcc-spec : {M : Type 1} → statement M
-is-mwcc-spec = tie.close (tie.spec enum-told enum-told-2 enum-told-3 returns returns-2 returns-3)
+is-mwcc-spec =
+    tie.close
+    (tie.spec (λ c. search needs) (λ c. search needs) (λ c. search needs) returns returns-2 returns-3)

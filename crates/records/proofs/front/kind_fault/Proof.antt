@@ -4,15 +4,6 @@ use Prim.Native.Nat.{_-_}
 use Rattle.records.proofs.front.kind_fault.Statement.{statement}
 use Rattle.records.proofs.front.kind_fault.Tie as tie
 
-row-at-requires : tie.Need-row-at-requires
-row-at-requires c κs = search needs
-
-kind-taken-requires : tie.Need-kind-taken-requires
-kind-taken-requires c κs = search needs
-
-refused-requires : tie.Need-refused-requires
-refused-requires c κs = search needs
-
 returns : tie.Need-returns
 returns c = kind-right _ _ _ _ (c .before .before .row-at .ensures) (c .before .kind-taken .ensures) (c .if1 .taken)
 
@@ -21,4 +12,5 @@ returns-2 c = kind-wrong _ _ _ _ (c .before .before .before .row-at .ensures) (c
 
 pub kind-fault-spec : {M : Type 1} → statement M
 kind-fault-spec =
-    tie.close (tie.spec row-at-requires kind-taken-requires refused-requires returns returns-2)
+    tie.close
+    (tie.spec (λ c κs. search needs) (λ c κs. search needs) (λ c κs. search needs) returns returns-2)

@@ -6,18 +6,6 @@ use mathlib.Core.Path.{refl}
 use Rattle.records.proofs.label.label_named.Statement.{statement}
 use Rattle.records.proofs.label.label_named.Tie as tie
 
-last-word-requires : tie.Need-last-word-requires
-last-word-requires c κs = search needs
-
-needs-requires : tie.Need-needs-requires
-needs-requires c κs = search needs
-
-enum-known-address : tie.Need-enum-known-address
-enum-known-address c = search needs
-
-enum-known-why : tie.Need-enum-known-why
-enum-known-why c = search needs
-
 returns : tie.Need-returns
 unfolding labelNamed labelPlaced
 returns c = by-told (labelPlaced (now (c .before .before .before .before .before .before .before .args .s)) (now (c .before .before .before .before .before .before .before .args .attrs)) (c .before .before .before .before .before .before .before .args .run) _) (needed-told _ (c .before .before .before .before .last-word .ensures) (c .before .before .before .needs .ensures)) (c .before .address .given .1) refl
@@ -29,10 +17,4 @@ returns-2 c = by-told (labelPlaced (now (c .before .before .before .before .befo
 pub label-named-spec : {M : Type 1} → statement M
 label-named-spec =
     tie.close
-    (tie.spec
-    last-word-requires
-    needs-requires
-    enum-known-address
-    enum-known-why
-    returns
-    returns-2)
+    (tie.spec (λ c κs. search needs) (λ c κs. search needs) (λ c. search needs) (λ c. search needs) returns returns-2)

@@ -9,18 +9,6 @@ use Rattle.records.proofs.member.member_at.Tie as tie
 front-fault-requires : tie.Need-front-fault-requires
 front-fault-requires c κs = record { plain = plain-member; asked = c .before .before .before .pre }
 
-enum-told : tie.Need-enum-told
-enum-told c = search needs
-
-run-of-requires : tie.Need-run-of-requires
-run-of-requires c κs = search needs
-
-member-fields-requires : tie.Need-member-fields-requires
-member-fields-requires c κs = search needs
-
-enum-known-why : tie.Need-enum-known-why
-enum-known-why c = search needs
-
 returns : tie.Need-returns
 unfolding memberAt
 returns c = fields-clear _ (memberFields _ _) (c .before .before .before .before .front-fault .ensures) (c .before .before .enum-told .given .1) (c .before .run-of .ensures) (c .member-fields .ensures)
@@ -34,9 +22,9 @@ member-at-spec =
     tie.close
     (tie.spec
     front-fault-requires
-    enum-told
-    run-of-requires
-    member-fields-requires
-    enum-known-why
+    (λ c. search needs)
+    (λ c κs. search needs)
+    (λ c κs. search needs)
+    (λ c. search needs)
     returns
     returns-2)

@@ -5,18 +5,6 @@ use mathlib.Core.Path.{refl}
 use Rattle.records.proofs.member.member_fields.Statement.{statement}
 use Rattle.records.proofs.member.member_fields.Tie as tie
 
-last-type-requires : tie.Need-last-type-requires
-last-type-requires c κs = search needs
-
-enum-known-of : tie.Need-enum-known-of
-enum-known-of c = search needs
-
-member-placed-requires : tie.Need-member-placed-requires
-member-placed-requires c κs = search needs
-
-enum-known-why : tie.Need-enum-known-why
-enum-known-why c = search needs
-
 returns : tie.Need-returns
 unfolding memberFields typedBy
 returns c = by-told (typedBy _ _ _) (c .before .before .before .before .last-type .ensures) (c .before .before .of .given .1) (c .member-placed .ensures)
@@ -28,10 +16,4 @@ returns-2 c = by-told (typedBy _ _ _) (c .before .before .before .last-type .ens
 pub member-fields-spec : {M : Type 1} → statement M
 member-fields-spec =
     tie.close
-    (tie.spec
-    last-type-requires
-    enum-known-of
-    member-placed-requires
-    enum-known-why
-    returns
-    returns-2)
+    (tie.spec (λ c κs. search needs) (λ c. search needs) (λ c κs. search needs) (λ c. search needs) returns returns-2)

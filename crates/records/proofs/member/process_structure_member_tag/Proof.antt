@@ -5,17 +5,8 @@ use borrow.Author.Needs.{needs}
 use Rattle.records.proofs.member.process_structure_member_tag.Statement.{statement}
 use Rattle.records.proofs.member.process_structure_member_tag.Tie as tie
 
-row-of-requires : tie.Need-row-of-requires
-row-of-requires c κs = search needs
-
-enum-known-i : tie.Need-enum-known-i
-enum-known-i c = search needs
-
 member-at-requires : tie.Need-member-at-requires
 member-at-requires c κs = keyed-asked _ _ _ _ _ _ _ _ (c .before .before .before .row-of .ensures) (c .before .i .given .1)
-
-enum-known-why : tie.Need-enum-known-why
-enum-known-why c = search needs
 
 returns : tie.Need-returns
 unfolding memberBy
@@ -28,4 +19,4 @@ returns-2 c = no-row _ _ _ _ _ _ _ _ (c .before .before .before .row-of .ensures
 pub process-structure-member-tag-spec : {M : Type 1} → statement M
 process-structure-member-tag-spec =
     tie.close
-    (tie.spec row-of-requires enum-known-i member-at-requires enum-known-why returns returns-2)
+    (tie.spec (λ c κs. search needs) (λ c. search needs) member-at-requires (λ c. search needs) returns returns-2)

@@ -5,12 +5,6 @@ use mathlib.Core.Path.{sym, ap}
 use Rattle.records.proofs.member_words.bits_flag.Statement.{statement}
 use Rattle.records.proofs.member_words.bits_flag.Tie as tie
 
-enum-told : tie.Need-enum-told
-enum-told c = search needs
-
-enum-told-2 : tie.Need-enum-told-2
-enum-told-2 c = search needs
-
 returns : tie.Need-returns
 unfolding bitsFlag
 returns c = ap bitsFlag (sym (c .enum-told .given .1))
@@ -20,4 +14,4 @@ unfolding bitsFlag
 returns-2 c = ap bitsFlag (sym (c .enum-told2 .given .1))
 
 pub bits-flag-spec : {M : Type 1} → statement M
-bits-flag-spec = tie.close (tie.spec enum-told enum-told-2 returns returns-2)
+bits-flag-spec = tie.close (tie.spec (λ c. search needs) (λ c. search needs) returns returns-2)

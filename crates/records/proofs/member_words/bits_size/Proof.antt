@@ -5,15 +5,6 @@ use mathlib.Core.Path.{sym, ap}
 use Rattle.records.proofs.member_words.bits_size.Statement.{statement}
 use Rattle.records.proofs.member_words.bits_size.Tie as tie
 
-enum-known-bits : tie.Need-enum-known-bits
-enum-known-bits c = search needs
-
-cast-result : tie.Need-cast-result
-cast-result c = search needs
-
-enum-told : tie.Need-enum-told
-enum-told c = search needs
-
 returns : tie.Need-returns
 unfolding bitsSize
 returns c = ap bitsSize (sym (c .before .bits .given .1))
@@ -23,4 +14,4 @@ unfolding bitsSize
 returns-2 c = ap bitsSize (sym (c .enum-told .given .1))
 
 pub bits-size-spec : {M : Type 1} → statement M
-bits-size-spec = tie.close (tie.spec enum-known-bits cast-result enum-told returns returns-2)
+bits-size-spec = tie.close (tie.spec (λ c. search needs) (λ c. search needs) (λ c. search needs) returns returns-2)

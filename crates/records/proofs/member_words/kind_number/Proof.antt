@@ -5,18 +5,6 @@ use mathlib.Core.Path.{sym, ap}
 use Rattle.records.proofs.member_words.kind_number.Statement.{statement}
 use Rattle.records.proofs.member_words.kind_number.Tie as tie
 
-enum-known-kind : tie.Need-enum-known-kind
-enum-known-kind c = search needs
-
-cast-result : tie.Need-cast-result
-cast-result c = search needs
-
-enum-known-kind-2 : tie.Need-enum-known-kind-2
-enum-known-kind-2 c = search needs
-
-cast-result-2 : tie.Need-cast-result-2
-cast-result-2 c = search needs
-
 returns : tie.Need-returns
 unfolding kindNumber
 returns c = ap kindNumber (sym (c .before .kind .given .1))
@@ -28,4 +16,4 @@ returns-2 c = ap kindNumber (sym (c .before .kind2 .given .1))
 pub kind-number-spec : {M : Type 1} → statement M
 kind-number-spec =
     tie.close
-    (tie.spec enum-known-kind cast-result enum-known-kind-2 cast-result-2 returns returns-2)
+    (tie.spec (λ c. search needs) (λ c. search needs) (λ c. search needs) (λ c. search needs) returns returns-2)

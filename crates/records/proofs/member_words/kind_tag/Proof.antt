@@ -5,12 +5,6 @@ use mathlib.Core.Path.{sym, ap}
 use Rattle.records.proofs.member_words.kind_tag.Statement.{statement}
 use Rattle.records.proofs.member_words.kind_tag.Tie as tie
 
-enum-told : tie.Need-enum-told
-enum-told c = search needs
-
-enum-told-2 : tie.Need-enum-told-2
-enum-told-2 c = search needs
-
 returns : tie.Need-returns
 unfolding kindTag
 returns c = ap kindTag (sym (c .enum-told .given .1))
@@ -20,4 +14,4 @@ unfolding kindTag
 returns-2 c = ap kindTag (sym (c .enum-told2 .given .1))
 
 pub kind-tag-spec : {M : Type 1} → statement M
-kind-tag-spec = tie.close (tie.spec enum-told enum-told-2 returns returns-2)
+kind-tag-spec = tie.close (tie.spec (λ c. search needs) (λ c. search needs) returns returns-2)

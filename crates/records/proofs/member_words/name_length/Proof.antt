@@ -5,12 +5,6 @@ use mathlib.Core.Path.{sym, ap}
 use Rattle.records.proofs.member_words.name_length.Statement.{statement}
 use Rattle.records.proofs.member_words.name_length.Tie as tie
 
-enum-known-name : tie.Need-enum-known-name
-enum-known-name c = search needs
-
-enum-told : tie.Need-enum-told
-enum-told c = search needs
-
 returns : tie.Need-returns
 unfolding nameLength
 returns c = ap nameLength (sym (c .before .name .given .1))
@@ -20,4 +14,4 @@ unfolding nameLength
 returns-2 c = ap nameLength (sym (c .enum-told .given .1))
 
 pub name-length-spec : {M : Type 1} → statement M
-name-length-spec = tie.close (tie.spec enum-known-name enum-told returns returns-2)
+name-length-spec = tie.close (tie.spec (λ c. search needs) (λ c. search needs) returns returns-2)

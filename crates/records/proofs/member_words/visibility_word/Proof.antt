@@ -5,15 +5,6 @@ use mathlib.Core.Path.{sym, ap}
 use Rattle.records.proofs.member_words.visibility_word.Statement.{statement}
 use Rattle.records.proofs.member_words.visibility_word.Tie as tie
 
-enum-told : tie.Need-enum-told
-enum-told c = search needs
-
-enum-told-2 : tie.Need-enum-told-2
-enum-told-2 c = search needs
-
-enum-told-3 : tie.Need-enum-told-3
-enum-told-3 c = search needs
-
 returns : tie.Need-returns
 unfolding visibilityWord
 returns c = ap visibilityWord (sym (c .enum-told .given .1))
@@ -28,4 +19,5 @@ returns-3 c = ap visibilityWord (sym (c .enum-told3 .given .1))
 
 pub visibility-word-spec : {M : Type 1} → statement M
 visibility-word-spec =
-    tie.close (tie.spec enum-told enum-told-2 enum-told-3 returns returns-2 returns-3)
+    tie.close
+    (tie.spec (λ c. search needs) (λ c. search needs) (λ c. search needs) returns returns-2 returns-3)

@@ -11,18 +11,6 @@ use Rattle.records.proofs.overlay_branch.overlay_at.Tie as tie
 head-fault-requires : tie.Need-head-fault-requires
 head-fault-requires c κs = plain-overlay-branch
 
-enum-told : tie.Need-enum-told
-enum-told c = search needs
-
-run-of-requires : tie.Need-run-of-requires
-run-of-requires c κs = search needs
-
-overlay-fields-requires : tie.Need-overlay-fields-requires
-overlay-fields-requires c κs = search needs
-
-enum-known-why : tie.Need-enum-known-why
-enum-known-why c = search needs
-
 returns : tie.Need-returns
 unfolding overlayAt
 returns c = fields-clear _ (λ (x : Run). overlayFields (now (c .before .before .before .before .before .before .before .before .before .args .s)) (now (c .before .before .before .before .before .before .before .before .before .args .attrs)) x (c .before .before .before .before .before .before .before .before .before .args .settings .roles)) (c .before .before .before .before .before .head-fault .ensures) (c .before .before .before .enum-told .given .1) (c .before .before .run-of .ensures) (c .overlay-fields .ensures)
@@ -36,9 +24,9 @@ overlay-at-spec =
     tie.close
     (tie.spec
     head-fault-requires
-    enum-told
-    run-of-requires
-    overlay-fields-requires
-    enum-known-why
+    (λ c. search needs)
+    (λ c κs. search needs)
+    (λ c κs. search needs)
+    (λ c. search needs)
     returns
     returns-2)

@@ -5,21 +5,6 @@ use mathlib.Core.Path.{refl}
 use Rattle.records.proofs.overlay_branch.overlay_begun.Statement.{statement}
 use Rattle.records.proofs.overlay_branch.overlay_begun.Tie as tie
 
-last-word-requires : tie.Need-last-word-requires
-last-word-requires c κs = search needs
-
-needs-requires : tie.Need-needs-requires
-needs-requires c κs = search needs
-
-enum-known-start : tie.Need-enum-known-start
-enum-known-start c = search needs
-
-overlay-ended-requires : tie.Need-overlay-ended-requires
-overlay-ended-requires c κs = search needs
-
-enum-known-why : tie.Need-enum-known-why
-enum-known-why c = search needs
-
 returns : tie.Need-returns
 unfolding overlayBegun startTaken
 returns c = by-told (startTaken _ _ _ _ _) (needed-told _ (c .before .before .before .before .before .last-word .ensures) (c .before .before .before .before .needs .ensures)) (c .before .before .start .given .1) (c .overlay-ended .ensures)
@@ -32,10 +17,10 @@ pub overlay-begun-spec : {M : Type 1} → statement M
 overlay-begun-spec =
     tie.close
     (tie.spec
-    last-word-requires
-    needs-requires
-    enum-known-start
-    overlay-ended-requires
-    enum-known-why
+    (λ c κs. search needs)
+    (λ c κs. search needs)
+    (λ c. search needs)
+    (λ c κs. search needs)
+    (λ c. search needs)
     returns
     returns-2)

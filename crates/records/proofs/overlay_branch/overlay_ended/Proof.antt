@@ -6,21 +6,6 @@ use mathlib.Core.Path.{refl}
 use Rattle.records.proofs.overlay_branch.overlay_ended.Statement.{statement}
 use Rattle.records.proofs.overlay_branch.overlay_ended.Tie as tie
 
-last-word-requires : tie.Need-last-word-requires
-last-word-requires c κs = search needs
-
-needs-requires : tie.Need-needs-requires
-needs-requires c κs = search needs
-
-enum-known-end : tie.Need-enum-known-end
-enum-known-end c = search needs
-
-last-word-requires-2 : tie.Need-last-word-requires-2
-last-word-requires-2 c κs = search needs
-
-enum-known-why : tie.Need-enum-known-why
-enum-known-why c = search needs
-
 returns : tie.Need-returns
 unfolding overlayEnded
 returns c = by-told (endTaken _ _ _ _ _ _) (needed-told _ (c .before .before .before .before .before .last-word .ensures) (c .before .before .before .before .needs .ensures)) (c .before .before .end .given .1) (overlay-whole _ _ _ _ _ _ _ (c .last-word2 .ensures))
@@ -33,10 +18,10 @@ pub overlay-ended-spec : {M : Type 1} → statement M
 overlay-ended-spec =
     tie.close
     (tie.spec
-    last-word-requires
-    needs-requires
-    enum-known-end
-    last-word-requires-2
-    enum-known-why
+    (λ c κs. search needs)
+    (λ c κs. search needs)
+    (λ c. search needs)
+    (λ c κs. search needs)
+    (λ c. search needs)
     returns
     returns-2)

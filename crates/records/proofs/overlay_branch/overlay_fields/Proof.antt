@@ -6,21 +6,6 @@ use mathlib.Core.Path.{ap}
 use Rattle.records.proofs.overlay_branch.overlay_fields.Statement.{statement}
 use Rattle.records.proofs.overlay_branch.overlay_fields.Tie as tie
 
-role-name-requires : tie.Need-role-name-requires
-role-name-requires c κs = search needs
-
-enum-known-name : tie.Need-enum-known-name
-enum-known-name c = search needs
-
-overlay-numbered-requires : tie.Need-overlay-numbered-requires
-overlay-numbered-requires c κs = search needs
-
-enum-told : tie.Need-enum-told
-enum-told c = search needs
-
-refused-requires : tie.Need-refused-requires
-refused-requires c κs = search needs
-
 returns : tie.Need-returns
 unfolding overlayFields overlayNamed
 returns c = by-told (overlayNamed _ _ _ _) (c .before .before .before .before .role-name .ensures) (c .before .before .name .given .1) (c .overlay-numbered .ensures)
@@ -33,10 +18,10 @@ pub overlay-fields-spec : {M : Type 1} → statement M
 overlay-fields-spec =
     tie.close
     (tie.spec
-    role-name-requires
-    enum-known-name
-    overlay-numbered-requires
-    enum-told
-    refused-requires
+    (λ c κs. search needs)
+    (λ c. search needs)
+    (λ c κs. search needs)
+    (λ c. search needs)
+    (λ c κs. search needs)
     returns
     returns-2)

@@ -5,21 +5,6 @@ use mathlib.Core.Path.{refl}
 use Rattle.records.proofs.overlay_branch.overlay_numbered.Statement.{statement}
 use Rattle.records.proofs.overlay_branch.overlay_numbered.Tie as tie
 
-role-word-requires : tie.Need-role-word-requires
-role-word-requires c κs = search needs
-
-needs-requires : tie.Need-needs-requires
-needs-requires c κs = search needs
-
-enum-known-id : tie.Need-enum-known-id
-enum-known-id c = search needs
-
-overlay-begun-requires : tie.Need-overlay-begun-requires
-overlay-begun-requires c κs = search needs
-
-enum-known-why : tie.Need-enum-known-why
-enum-known-why c = search needs
-
 returns : tie.Need-returns
 unfolding overlayNumbered idTaken
 returns c = by-told (idTaken _ _ _ _) (needed-told _ (c .before .before .before .before .before .role-word .ensures) (c .before .before .before .before .needs .ensures)) (c .before .before .id .given .1) (c .overlay-begun .ensures)
@@ -32,10 +17,10 @@ pub overlay-numbered-spec : {M : Type 1} → statement M
 overlay-numbered-spec =
     tie.close
     (tie.spec
-    role-word-requires
-    needs-requires
-    enum-known-id
-    overlay-begun-requires
-    enum-known-why
+    (λ c κs. search needs)
+    (λ c κs. search needs)
+    (λ c. search needs)
+    (λ c κs. search needs)
+    (λ c. search needs)
     returns
     returns-2)

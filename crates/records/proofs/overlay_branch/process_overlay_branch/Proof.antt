@@ -5,18 +5,6 @@ use borrow.Author.Needs.{needs}
 use Rattle.records.proofs.overlay_branch.process_overlay_branch.Statement.{statement}
 use Rattle.records.proofs.overlay_branch.process_overlay_branch.Tie as tie
 
-row-of-requires : tie.Need-row-of-requires
-row-of-requires c κs = search needs
-
-enum-known-i : tie.Need-enum-known-i
-enum-known-i c = search needs
-
-overlay-at-requires : tie.Need-overlay-at-requires
-overlay-at-requires c κs = search needs
-
-enum-known-why : tie.Need-enum-known-why
-enum-known-why c = search needs
-
 returns : tie.Need-returns
 unfolding overlayBy
 returns c = record-there _ _ _ _ _ _ _ _ _ _ (c .before .before .before .before .row-of .ensures) (c .before .before .i .given .1) (c .overlay-at .ensures)
@@ -28,4 +16,4 @@ returns-2 c = no-row _ _ _ _ _ _ _ _ (c .before .before .before .row-of .ensures
 pub process-overlay-branch-spec : {M : Type 1} → statement M
 process-overlay-branch-spec =
     tie.close
-    (tie.spec row-of-requires enum-known-i overlay-at-requires enum-known-why returns returns-2)
+    (tie.spec (λ c κs. search needs) (λ c. search needs) (λ c κs. search needs) (λ c. search needs) returns returns-2)

@@ -5,17 +5,8 @@ use borrow.Author.Needs.{needs}
 use Rattle.records.proofs.ptr_to_member.process_ptr_to_member_tag.Statement.{statement}
 use Rattle.records.proofs.ptr_to_member.process_ptr_to_member_tag.Tie as tie
 
-row-of-requires : tie.Need-row-of-requires
-row-of-requires c κs = search needs
-
-enum-known-i : tie.Need-enum-known-i
-enum-known-i c = search needs
-
 ptr-to-member-at-requires : tie.Need-ptr-to-member-at-requires
 ptr-to-member-at-requires c κs = keyed-asked _ _ _ _ _ _ _ _ (c .before .before .before .row-of .ensures) (c .before .i .given .1)
-
-enum-known-why : tie.Need-enum-known-why
-enum-known-why c = search needs
 
 returns : tie.Need-returns
 unfolding ptrBy
@@ -29,9 +20,9 @@ pub process-ptr-to-member-tag-spec : {M : Type 1} → statement M
 process-ptr-to-member-tag-spec =
     tie.close
     (tie.spec
-    row-of-requires
-    enum-known-i
+    (λ c κs. search needs)
+    (λ c. search needs)
     ptr-to-member-at-requires
-    enum-known-why
+    (λ c. search needs)
     returns
     returns-2)

@@ -5,18 +5,6 @@ use mathlib.Core.Path.{refl}
 use Rattle.records.proofs.ptr_to_member.ptr_fields.Statement.{statement}
 use Rattle.records.proofs.ptr_to_member.ptr_fields.Tie as tie
 
-last-type-requires : tie.Need-last-type-requires
-last-type-requires c κs = search needs
-
-enum-known-of : tie.Need-enum-known-of
-enum-known-of c = search needs
-
-ptr-typed-requires : tie.Need-ptr-typed-requires
-ptr-typed-requires c κs = search needs
-
-enum-known-why : tie.Need-enum-known-why
-enum-known-why c = search needs
-
 returns : tie.Need-returns
 unfolding ptrFields typeTaken
 returns c = by-told (typeTaken _ _ _) (c .before .before .before .before .last-type .ensures) (c .before .before .of .given .1) (c .ptr-typed .ensures)
@@ -28,4 +16,4 @@ returns-2 c = by-told (typeTaken _ _ _) (c .before .before .before .last-type .e
 pub ptr-fields-spec : {M : Type 1} → statement M
 ptr-fields-spec =
     tie.close
-    (tie.spec last-type-requires enum-known-of ptr-typed-requires enum-known-why returns returns-2)
+    (tie.spec (λ c κs. search needs) (λ c. search needs) (λ c κs. search needs) (λ c. search needs) returns returns-2)

@@ -9,18 +9,6 @@ use Rattle.records.proofs.ptr_to_member.ptr_to_member_at.Tie as tie
 front-fault-requires : tie.Need-front-fault-requires
 front-fault-requires c κs = record { plain = plain-ptr-to-member; asked = c .before .before .before .pre }
 
-enum-told : tie.Need-enum-told
-enum-told c = search needs
-
-run-of-requires : tie.Need-run-of-requires
-run-of-requires c κs = search needs
-
-ptr-fields-requires : tie.Need-ptr-fields-requires
-ptr-fields-requires c κs = search needs
-
-enum-known-why : tie.Need-enum-known-why
-enum-known-why c = search needs
-
 returns : tie.Need-returns
 unfolding ptrAt
 returns c = fields-clear _ (ptrFields _ _) (c .before .before .before .before .front-fault .ensures) (c .before .before .enum-told .given .1) (c .before .run-of .ensures) (c .ptr-fields .ensures)
@@ -34,9 +22,9 @@ ptr-to-member-at-spec =
     tie.close
     (tie.spec
     front-fault-requires
-    enum-told
-    run-of-requires
-    ptr-fields-requires
-    enum-known-why
+    (λ c. search needs)
+    (λ c κs. search needs)
+    (λ c κs. search needs)
+    (λ c. search needs)
     returns
     returns-2)

@@ -7,15 +7,6 @@ use mathlib.Core.Path.{ap}
 use Rattle.records.proofs.scan.attribute_fault.Statement.{statement}
 use Rattle.records.proofs.scan.attribute_fault.Tie as tie
 
-takes-requires : tie.Need-takes-requires
-takes-requires c κs = search needs
-
-form-fault-requires : tie.Need-form-fault-requires
-form-fault-requires c κs = search needs
-
-refused-requires : tie.Need-refused-requires
-refused-requires c κs = search needs
-
 returns : tie.Need-returns
 unfolding attributeFault
 returns c = test-passed (c .before .before .takes .ensures) _ (c .before .if1 .taken) (c .form-fault .ensures)
@@ -26,4 +17,5 @@ returns-2 c = test-failed (c .before .before .takes .ensures) _ (c .before .if1 
 
 pub attribute-fault-spec : {M : Type 1} → statement M
 attribute-fault-spec =
-    tie.close (tie.spec takes-requires form-fault-requires refused-requires returns returns-2)
+    tie.close
+    (tie.spec (λ c κs. search needs) (λ c κs. search needs) (λ c κs. search needs) returns returns-2)

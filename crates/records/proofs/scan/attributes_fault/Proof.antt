@@ -4,15 +4,6 @@ use Prim.Native.Nat.{_-_}
 use Rattle.records.proofs.scan.attributes_fault.Statement.{statement}
 use Rattle.records.proofs.scan.attributes_fault.Tie as tie
 
-scan-from-requires : tie.Need-scan-from-requires
-scan-from-requires c κs = search needs
-
-enum-told : tie.Need-enum-told
-enum-told c = search needs
-
-enum-known-why : tie.Need-enum-known-why
-enum-known-why c = search needs
-
 returns : tie.Need-returns
 returns c = all-clear _ _ _ _ _ (c .before .before .before .before .before .pre) (c .before .before .scan-from .ensures) (c .enum-told .given .1)
 
@@ -21,4 +12,5 @@ returns-2 c = all-refused _ _ _ _ _ (c .before .before .before .before .before .
 
 pub attributes-fault-spec : {M : Type 1} → statement M
 attributes-fault-spec =
-    tie.close (tie.spec scan-from-requires enum-told enum-known-why returns returns-2)
+    tie.close
+    (tie.spec (λ c κs. search needs) (λ c. search needs) (λ c. search needs) returns returns-2)

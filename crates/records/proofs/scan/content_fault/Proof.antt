@@ -7,21 +7,6 @@ use mathlib.Core.Path.{refl, ap, _∙_}
 use Rattle.records.proofs.scan.content_fault.Statement.{statement}
 use Rattle.records.proofs.scan.content_fault.Tie as tie
 
-is-type-requires : tie.Need-is-type-requires
-is-type-requires c κs = search needs
-
-process-type-requires : tie.Need-process-type-requires
-process-type-requires c κs = search needs
-
-typed-fault-requires : tie.Need-typed-fault-requires
-typed-fault-requires c κs = search needs
-
-block2-requires : tie.Need-block2-requires
-block2-requires c κs = search needs
-
-location-fault-requires : tie.Need-location-fault-requires
-location-fault-requires c κs = search needs
-
 returns : tie.Need-returns
 unfolding contentFault
 returns c = test-passed (c .before .before .before .is-type .ensures) _ (c .before .before .if1 .taken) (c .typed-fault .ensures ∙ ap (typedFault _) (c .before .process-type .ensures))
@@ -38,11 +23,11 @@ pub content-fault-spec : {M : Type 1} → statement M
 content-fault-spec =
     tie.close
     (tie.spec
-    is-type-requires
-    process-type-requires
-    typed-fault-requires
-    block2-requires
-    location-fault-requires
+    (λ c κs. search needs)
+    (λ c κs. search needs)
+    (λ c κs. search needs)
+    (λ c κs. search needs)
+    (λ c κs. search needs)
     returns
     returns-2
     returns-3)

@@ -6,18 +6,6 @@ use mathlib.Core.Path.{refl}
 use Rattle.records.proofs.scan.expected_form.Statement.{statement}
 use Rattle.records.proofs.scan.expected_form.Tie as tie
 
-plays-requires : tie.Need-plays-requires
-plays-requires c κs = search needs
-
-plays-requires-2 : tie.Need-plays-requires-2
-plays-requires-2 c κs = search needs
-
-plays-requires-3 : tie.Need-plays-requires-3
-plays-requires-3 c κs = search needs
-
-expected-requires : tie.Need-expected-requires
-expected-requires c κs = search needs
-
 returns : tie.Need-returns
 unfolding expectedForm
 returns c = test-passed (c .before .plays .ensures) _ (c .if1 .taken) refl
@@ -38,10 +26,10 @@ pub expected-form-spec : {M : Type 1} → statement M
 expected-form-spec =
     tie.close
     (tie.spec
-    plays-requires
-    plays-requires-2
-    plays-requires-3
-    expected-requires
+    (λ c κs. search needs)
+    (λ c κs. search needs)
+    (λ c κs. search needs)
+    (λ c κs. search needs)
     returns
     returns-2
     returns-3

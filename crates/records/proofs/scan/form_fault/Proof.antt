@@ -4,18 +4,6 @@ use Prim.Native.Nat.{_-_}
 use Rattle.records.proofs.scan.form_fault.Statement.{statement}
 use Rattle.records.proofs.scan.form_fault.Tie as tie
 
-expected-form-requires : tie.Need-expected-form-requires
-expected-form-requires c κs = search needs
-
-is-form-requires : tie.Need-is-form-requires
-is-form-requires c κs = search needs
-
-content-fault-requires : tie.Need-content-fault-requires
-content-fault-requires c κs = search needs
-
-refused-requires : tie.Need-refused-requires
-refused-requires c κs = search needs
-
 returns : tie.Need-returns
 returns c = form-right _ _ _ _ _ (c .before .before .before .expected-form .ensures) (c .before .before .is-form .ensures) (c .before .if1 .taken) (c .content-fault .ensures)
 
@@ -26,9 +14,9 @@ pub form-fault-spec : {M : Type 1} → statement M
 form-fault-spec =
     tie.close
     (tie.spec
-    expected-form-requires
-    is-form-requires
-    content-fault-requires
-    refused-requires
+    (λ c κs. search needs)
+    (λ c κs. search needs)
+    (λ c κs. search needs)
+    (λ c κs. search needs)
     returns
     returns-2)

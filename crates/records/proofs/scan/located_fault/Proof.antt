@@ -7,15 +7,6 @@ use mathlib.Core.Path.{refl, ap}
 use Rattle.records.proofs.scan.located_fault.Statement.{statement}
 use Rattle.records.proofs.scan.located_fault.Tie as tie
 
-enum-told : tie.Need-enum-told
-enum-told c = search needs
-
-enum-known-located : tie.Need-enum-known-located
-enum-known-located c = search needs
-
-placed-requires : tie.Need-placed-requires
-placed-requires c κs = search needs
-
 returns : tie.Need-returns
 unfolding locatedFault
 returns c = by-case (locatedFault _) (c .enum-told .given .1) refl
@@ -26,4 +17,5 @@ returns-2 c = by-case (locatedFault _) (c .before .before .located .given .1) (a
 
 pub located-fault-spec : {M : Type 1} → statement M
 located-fault-spec =
-    tie.close (tie.spec enum-told enum-known-located placed-requires returns returns-2)
+    tie.close
+    (tie.spec (λ c. search needs) (λ c. search needs) (λ c κs. search needs) returns returns-2)

@@ -6,78 +6,6 @@ use mathlib.Core.Path.{ap, _∙_}
 use Rattle.records.proofs.scan.location_fault.Statement.{statement}
 use Rattle.records.proofs.scan.location_fault.Tie as tie
 
-enum-told : tie.Need-enum-told
-enum-told c = search needs
-
-process-offset-requires : tie.Need-process-offset-requires
-process-offset-requires c κs = search needs
-
-located-fault-requires : tie.Need-located-fault-requires
-located-fault-requires c κs = search needs
-
-enum-told-2 : tie.Need-enum-told-2
-enum-told-2 c = search needs
-
-process-offset-requires-2 : tie.Need-process-offset-requires-2
-process-offset-requires-2 c κs = search needs
-
-located-fault-requires-2 : tie.Need-located-fault-requires-2
-located-fault-requires-2 c κs = search needs
-
-enum-told-3 : tie.Need-enum-told-3
-enum-told-3 c = search needs
-
-process-offset-requires-3 : tie.Need-process-offset-requires-3
-process-offset-requires-3 c κs = search needs
-
-located-fault-requires-3 : tie.Need-located-fault-requires-3
-located-fault-requires-3 c κs = search needs
-
-enum-told-4 : tie.Need-enum-told-4
-enum-told-4 c = search needs
-
-process-offset-requires-4 : tie.Need-process-offset-requires-4
-process-offset-requires-4 c κs = search needs
-
-located-fault-requires-4 : tie.Need-located-fault-requires-4
-located-fault-requires-4 c κs = search needs
-
-enum-told-5 : tie.Need-enum-told-5
-enum-told-5 c = search needs
-
-process-address-requires : tie.Need-process-address-requires
-process-address-requires c κs = search needs
-
-located-fault-requires-5 : tie.Need-located-fault-requires-5
-located-fault-requires-5 c κs = search needs
-
-enum-told-6 : tie.Need-enum-told-6
-enum-told-6 c = search needs
-
-process-offset-requires-5 : tie.Need-process-offset-requires-5
-process-offset-requires-5 c κs = search needs
-
-located-fault-requires-6 : tie.Need-located-fault-requires-6
-located-fault-requires-6 c κs = search needs
-
-enum-told-7 : tie.Need-enum-told-7
-enum-told-7 c = search needs
-
-process-offset-requires-6 : tie.Need-process-offset-requires-6
-process-offset-requires-6 c κs = search needs
-
-located-fault-requires-7 : tie.Need-located-fault-requires-7
-located-fault-requires-7 c κs = search needs
-
-enum-told-8 : tie.Need-enum-told-8
-enum-told-8 c = search needs
-
-process-offset-requires-7 : tie.Need-process-offset-requires-7
-process-offset-requires-7 c κs = search needs
-
-located-fault-requires-8 : tie.Need-located-fault-requires-8
-located-fault-requires-8 c κs = search needs
-
 returns : tie.Need-returns
 unfolding locationFault
 returns c = location-as (c .before .before .enum-told .given .1) _ _ _ (c .located-fault .ensures ∙ ap (locatedFault _) (c .before .process-offset .ensures))
@@ -114,30 +42,30 @@ pub location-fault-spec : {M : Type 1} → statement M
 location-fault-spec =
     tie.close
     (tie.spec
-    enum-told
-    process-offset-requires
-    located-fault-requires
-    enum-told-2
-    process-offset-requires-2
-    located-fault-requires-2
-    enum-told-3
-    process-offset-requires-3
-    located-fault-requires-3
-    enum-told-4
-    process-offset-requires-4
-    located-fault-requires-4
-    enum-told-5
-    process-address-requires
-    located-fault-requires-5
-    enum-told-6
-    process-offset-requires-5
-    located-fault-requires-6
-    enum-told-7
-    process-offset-requires-6
-    located-fault-requires-7
-    enum-told-8
-    process-offset-requires-7
-    located-fault-requires-8
+    (λ c. search needs)
+    (λ c κs. search needs)
+    (λ c κs. search needs)
+    (λ c. search needs)
+    (λ c κs. search needs)
+    (λ c κs. search needs)
+    (λ c. search needs)
+    (λ c κs. search needs)
+    (λ c κs. search needs)
+    (λ c. search needs)
+    (λ c κs. search needs)
+    (λ c κs. search needs)
+    (λ c. search needs)
+    (λ c κs. search needs)
+    (λ c κs. search needs)
+    (λ c. search needs)
+    (λ c κs. search needs)
+    (λ c κs. search needs)
+    (λ c. search needs)
+    (λ c κs. search needs)
+    (λ c κs. search needs)
+    (λ c. search needs)
+    (λ c κs. search needs)
+    (λ c κs. search needs)
     returns
     returns-2
     returns-3

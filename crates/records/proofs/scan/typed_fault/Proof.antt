@@ -7,15 +7,6 @@ use mathlib.Core.Path.{refl, ap}
 use Rattle.records.proofs.scan.typed_fault.Statement.{statement}
 use Rattle.records.proofs.scan.typed_fault.Tie as tie
 
-enum-told : tie.Need-enum-told
-enum-told c = search needs
-
-enum-known-typed : tie.Need-enum-known-typed
-enum-known-typed c = search needs
-
-placed-requires : tie.Need-placed-requires
-placed-requires c κs = search needs
-
 returns : tie.Need-returns
 unfolding typedFault
 returns c = by-case (typedFault _) (c .enum-told .given .1) refl
@@ -25,5 +16,4 @@ unfolding typedFault
 returns-2 c = by-case (typedFault _) (c .before .before .typed .given .1) (ap Refused (c .placed .ensures))
 
 pub typed-fault-spec : {M : Type 1} → statement M
-typed-fault-spec =
-    tie.close (tie.spec enum-told enum-known-typed placed-requires returns returns-2)
+typed-fault-spec = tie.close (tie.spec (λ c. search needs) (λ c. search needs) (λ c κs. search needs) returns returns-2)

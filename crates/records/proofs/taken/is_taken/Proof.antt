@@ -5,75 +5,6 @@ use Prim.Native.Nat.{_-_}
 use Rattle.records.proofs.taken.is_taken.Statement.{statement}
 use Rattle.records.proofs.taken.is_taken.Tie as tie
 
-enum-told : tie.Need-enum-told
-enum-told c = search needs
-
-member-takes-requires : tie.Need-member-takes-requires
-member-takes-requires c κs = search needs
-
-enum-told-2 : tie.Need-enum-told-2
-enum-told-2 c = search needs
-
-slice-aggregate-on-list : tie.Need-slice-aggregate-on-list
-slice-aggregate-on-list c = search needs
-
-on-list-requires : tie.Need-on-list-requires
-on-list-requires c κs = search needs
-
-enum-told-3 : tie.Need-enum-told-3
-enum-told-3 c = search needs
-
-slice-aggregate-on-list-2 : tie.Need-slice-aggregate-on-list-2
-slice-aggregate-on-list-2 c = search needs
-
-on-list-requires-2 : tie.Need-on-list-requires-2
-on-list-requires-2 c κs = search needs
-
-enum-told-4 : tie.Need-enum-told-4
-enum-told-4 c = search needs
-
-slice-aggregate-on-list-3 : tie.Need-slice-aggregate-on-list-3
-slice-aggregate-on-list-3 c = search needs
-
-on-list-requires-3 : tie.Need-on-list-requires-3
-on-list-requires-3 c κs = search needs
-
-enum-told-5 : tie.Need-enum-told-5
-enum-told-5 c = search needs
-
-slice-aggregate-on-list-4 : tie.Need-slice-aggregate-on-list-4
-slice-aggregate-on-list-4 c = search needs
-
-on-list-requires-4 : tie.Need-on-list-requires-4
-on-list-requires-4 c κs = search needs
-
-enum-told-6 : tie.Need-enum-told-6
-enum-told-6 c = search needs
-
-slice-aggregate-on-list-5 : tie.Need-slice-aggregate-on-list-5
-slice-aggregate-on-list-5 c = search needs
-
-on-list-requires-5 : tie.Need-on-list-requires-5
-on-list-requires-5 c κs = search needs
-
-enum-told-7 : tie.Need-enum-told-7
-enum-told-7 c = search needs
-
-slice-aggregate-on-list-6 : tie.Need-slice-aggregate-on-list-6
-slice-aggregate-on-list-6 c = search needs
-
-on-list-requires-6 : tie.Need-on-list-requires-6
-on-list-requires-6 c κs = search needs
-
-enum-told-8 : tie.Need-enum-told-8
-enum-told-8 c = search needs
-
-slice-aggregate-on-list-7 : tie.Need-slice-aggregate-on-list-7
-slice-aggregate-on-list-7 c = search needs
-
-on-list-requires-7 : tie.Need-on-list-requires-7
-on-list-requires-7 c κs = search needs
-
 returns : tie.Need-returns
 unfolding takenBy
 returns c = taken-as (c .before .enum-told .given .1) _ (c .member-takes .ensures)
@@ -110,29 +41,29 @@ pub is-taken-spec : {M : Type 1} → statement M
 is-taken-spec =
     tie.close
     (tie.spec
-    enum-told
-    member-takes-requires
-    enum-told-2
-    slice-aggregate-on-list
-    on-list-requires
-    enum-told-3
-    slice-aggregate-on-list-2
-    on-list-requires-2
-    enum-told-4
-    slice-aggregate-on-list-3
-    on-list-requires-3
-    enum-told-5
-    slice-aggregate-on-list-4
-    on-list-requires-4
-    enum-told-6
-    slice-aggregate-on-list-5
-    on-list-requires-5
-    enum-told-7
-    slice-aggregate-on-list-6
-    on-list-requires-6
-    enum-told-8
-    slice-aggregate-on-list-7
-    on-list-requires-7
+    (λ c. search needs)
+    (λ c κs. search needs)
+    (λ c. search needs)
+    (λ c. search needs)
+    (λ c κs. search needs)
+    (λ c. search needs)
+    (λ c. search needs)
+    (λ c κs. search needs)
+    (λ c. search needs)
+    (λ c. search needs)
+    (λ c κs. search needs)
+    (λ c. search needs)
+    (λ c. search needs)
+    (λ c κs. search needs)
+    (λ c. search needs)
+    (λ c. search needs)
+    (λ c κs. search needs)
+    (λ c. search needs)
+    (λ c. search needs)
+    (λ c κs. search needs)
+    (λ c. search needs)
+    (λ c. search needs)
+    (λ c κs. search needs)
     returns
     returns-2
     returns-3

@@ -5,15 +5,9 @@ use Prim.Native.Nat.{_-_}
 use Rattle.records.proofs.taken.takes.Statement.{statement}
 use Rattle.records.proofs.taken.takes.Tie as tie
 
-is-taken-requires : tie.Need-is-taken-requires
-is-taken-requires c κs = search needs
-
-role-taken-requires : tie.Need-role-taken-requires
-role-taken-requires c κs = search needs
-
 returns : tie.Need-returns
 unfolding takes
 returns c = either (c .before .is-taken .ensures) (c .role-taken .ensures)
 
 pub takes-spec : {M : Type 1} → statement M
-takes-spec = tie.close (tie.spec is-taken-requires role-taken-requires returns)
+takes-spec = tie.close (tie.spec (λ c κs. search needs) (λ c κs. search needs) returns)

@@ -35,20 +35,11 @@ typedef-run-Inv-loop s settings rows attrs n levels i run count filling₀ j₀ 
 abbrev typedef-run-μ-loop : typedef-run-lts.MeasureT-loop
 typedef-run-μ-loop s settings rows attrs n levels i run count filling₀ j₀ filling j = run .count - j
 
-typedef-run-run-of-requires : (t : ℕ) → typedef-run-lts.Need-run-of-requires (G t) (typedef-run-at t) typedef-run.Post typedef-run-Inv-loop typedef-run-μ-loop
-typedef-run-run-of-requires t c κs = search needs
-
-typedef-run-cast-count : (t : ℕ) → typedef-run-lts.Need-cast-count (G t) (typedef-run-at t) typedef-run.Post typedef-run-Inv-loop typedef-run-μ-loop
-typedef-run-cast-count t c = search needs
-
 typedef-run-loop-holds : (t : ℕ) → typedef-run-lts.Need-loop-holds (G t) (typedef-run-at t) typedef-run.Post typedef-run-Inv-loop typedef-run-μ-loop
 typedef-run-loop-holds t c = begin _ _ _ _ _ _ _ _ (c .before .run-of .ensures)
 
 typedef-run-pause-from-requires : (t : ℕ) → typedef-run-lts.Need-pause-from-requires (G t) (typedef-run-at t) typedef-run.Post typedef-run-Inv-loop typedef-run-μ-loop
 typedef-run-pause-from-requires t c κs = c .before .before .before .before .before .before .before .pre .1 .table
-
-typedef-run-enum-known-at : (t : ℕ) → typedef-run-lts.Need-enum-known-at (G t) (typedef-run-at t) typedef-run.Post typedef-run-Inv-loop typedef-run-μ-loop
-typedef-run-enum-known-at t c = search needs
 
 typedef-run-sub-typedef-run : (t : ℕ) → typedef-run-lts.Need-sub-typedef-run (G t) (typedef-run-at t) typedef-run.Post typedef-run-Inv-loop typedef-run-μ-loop
 typedef-run-sub-typedef-run t c = level-left _ _ _ _ _ _ _ _ (c .before .before .before .before .before .loop .inv) (c .before .before .before .pause-from .ensures) (c .before .at .given .1)
@@ -57,12 +48,6 @@ typedef-run-typedef-run-requires : (t : ℕ) → typedef-run-lts.Need-typedef-ru
 typedef-run-typedef-run-requires t c κs =
     let more : 0 < c .before .before .before .before .before .before .before .before .before .before .before .args .levels = level-left _ _ _ _ _ _ _ _ (c .before .before .before .before .before .loop .inv) (c .before .before .before .pause-from .ensures) (c .before .at .given .1) in
     (omega (arith, c .before .before .before .before .before .before .before .before .before .before .before .pre .0), row-asked _ _ _ _ _ _ _ _ (c .before .before .before .before .before .loop .inv) (c .before .before .before .pause-from .ensures) (c .before .at .given .1) (c .before .before .before .before .before .before .before .before .before .before .before .pre .1 .table))
-
-typedef-run-enum-known-next : (t : ℕ) → typedef-run-lts.Need-enum-known-next (G t) (typedef-run-at t) typedef-run.Post typedef-run-Inv-loop typedef-run-μ-loop
-typedef-run-enum-known-next t c = search needs
-
-typedef-run-first-filling-requires : (t : ℕ) → typedef-run-lts.Need-first-filling-requires (G t) (typedef-run-at t) typedef-run.Post typedef-run-Inv-loop typedef-run-μ-loop
-typedef-run-first-filling-requires t c κs = search needs
 
 typedef-run-add-j : (t : ℕ) → typedef-run-lts.Need-add-j (G t) (typedef-run-at t) typedef-run.Post typedef-run-Inv-loop typedef-run-μ-loop
 typedef-run-add-j t c =
@@ -75,23 +60,11 @@ typedef-run-loop-less t c = forward _ _ _ _ _ _ _ _ (c .before .before .before .
 typedef-run-loop-again : (t : ℕ) → typedef-run-lts.Need-loop-again (G t) (typedef-run-at t) typedef-run.Post typedef-run-Inv-loop typedef-run-μ-loop
 typedef-run-loop-again t c = again _ _ _ _ _ _ _ _ (c .before .before .before .before .before .before .before .before .before .before .loop .inv) (c .before .before .before .before .before .before .before .before .pause-from .ensures) (c .before .before .before .before .before .before .at .given .1) (c .before .before .before .before .typedef-run .ensures) (c .before .before .next .given .1) (c .first-filling .ensures)
 
-typedef-run-enum-known-why : (t : ℕ) → typedef-run-lts.Need-enum-known-why (G t) (typedef-run-at t) typedef-run.Post typedef-run-Inv-loop typedef-run-μ-loop
-typedef-run-enum-known-why t c = search needs
-
 typedef-run-returns : (t : ℕ) → typedef-run-lts.Need-returns (G t) (typedef-run-at t) typedef-run.Post typedef-run-Inv-loop typedef-run-μ-loop
 typedef-run-returns t c = refused-below _ _ _ _ _ _ _ _ (c .before .before .before .before .before .before .before .before .before .loop .inv) (c .before .before .before .before .before .before .before .pause-from .ensures) (c .before .before .before .before .before .at .given .1) (c .before .before .before .typedef-run .ensures) (c .before .why .given .1)
 
-typedef-run-enum-told : (t : ℕ) → typedef-run-lts.Need-enum-told (G t) (typedef-run-at t) typedef-run.Post typedef-run-Inv-loop typedef-run-μ-loop
-typedef-run-enum-told t c = search needs
-
-typedef-run-loop-less-2 : (t : ℕ) → typedef-run-lts.Need-loop-less-2 (G t) (typedef-run-at t) typedef-run.Post typedef-run-Inv-loop typedef-run-μ-loop
-typedef-run-loop-less-2 t c = search needs
-
 typedef-run-loop-again-2 : (t : ℕ) → typedef-run-lts.Need-loop-again-2 (G t) (typedef-run-at t) typedef-run.Post typedef-run-Inv-loop typedef-run-μ-loop
 typedef-run-loop-again-2 t c = ended _ _ _ _ _ _ _ _ (c .before .before .before .before .loop .inv) (c .before .before .pause-from .ensures) (c .enum-told .given .1)
-
-typedef-run-enum-known-why-2 : (t : ℕ) → typedef-run-lts.Need-enum-known-why-2 (G t) (typedef-run-at t) typedef-run.Post typedef-run-Inv-loop typedef-run-μ-loop
-typedef-run-enum-known-why-2 t c = search needs
 
 typedef-run-returns-2 : (t : ℕ) → typedef-run-lts.Need-returns-2 (G t) (typedef-run-at t) typedef-run.Post typedef-run-Inv-loop typedef-run-μ-loop
 typedef-run-returns-2 t c = refused-here _ _ _ _ _ _ _ _ (c .before .before .before .before .before .loop .inv) (c .before .before .before .pause-from .ensures) (c .before .why2 .given .1)
@@ -108,24 +81,24 @@ pub +typedef-run-spec : {M : Type 1} → statement M
     typedef-run.Post
     typedef-run-Inv-loop
     typedef-run-μ-loop
-    (typedef-run-run-of-requires t)
-    (typedef-run-cast-count t)
+    (λ c κs. search needs)
+    (λ c. search needs)
     (typedef-run-loop-holds t)
     (typedef-run-pause-from-requires t)
-    (typedef-run-enum-known-at t)
+    (λ c. search needs)
     (typedef-run-sub-typedef-run t)
     (typedef-run-typedef-run-requires t)
-    (typedef-run-enum-known-next t)
-    (typedef-run-first-filling-requires t)
+    (λ c. search needs)
+    (λ c κs. search needs)
     (typedef-run-add-j t)
     (typedef-run-loop-less t)
     (typedef-run-loop-again t)
-    (typedef-run-enum-known-why t)
+    (λ c. search needs)
     (typedef-run-returns t)
-    (typedef-run-enum-told t)
-    (typedef-run-loop-less-2 t)
+    (λ c. search needs)
+    (λ c. search needs)
     (typedef-run-loop-again-2 t)
-    (typedef-run-enum-known-why-2 t)
+    (λ c. search needs)
     (typedef-run-returns-2 t)
     (typedef-run-typedef-end-requires t)
     (typedef-run-returns-3 t)

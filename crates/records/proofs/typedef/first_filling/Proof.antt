@@ -4,12 +4,6 @@ use Prim.Native.Nat.{_-_}
 use Rattle.records.proofs.typedef.first_filling.Statement.{statement}
 use Rattle.records.proofs.typedef.first_filling.Tie as tie
 
-enum-known-filling : tie.Need-enum-known-filling
-enum-known-filling c = search needs
-
-enum-told : tie.Need-enum-told
-enum-told c = search needs
-
 returns : tie.Need-returns
 returns c = filled-before _ (c .before .filling .given .1)
 
@@ -17,4 +11,4 @@ returns-2 : tie.Need-returns-2
 returns-2 c = filled-now _ (c .enum-told .given .1)
 
 pub first-filling-spec : {M : Type 1} → statement M
-first-filling-spec = tie.close (tie.spec enum-known-filling enum-told returns returns-2)
+first-filling-spec = tie.close (tie.spec (λ c. search needs) (λ c. search needs) returns returns-2)

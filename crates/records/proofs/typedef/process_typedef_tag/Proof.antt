@@ -5,17 +5,8 @@ use Prim.Native.Nat.{_-_}
 use Rattle.records.proofs.typedef.process_typedef_tag.Statement.{statement}
 use Rattle.records.proofs.typedef.process_typedef_tag.Tie as tie
 
-row-of-requires : tie.Need-row-of-requires
-row-of-requires c κs = search needs
-
-enum-known-i : tie.Need-enum-known-i
-enum-known-i c = search needs
-
 typedef-at-requires : tie.Need-typedef-at-requires
 typedef-at-requires c κs = keyed-asked _ _ _ _ _ _ _ _ (c .before .before .before .row-of .ensures) (c .before .i .given .1)
-
-enum-known-why : tie.Need-enum-known-why
-enum-known-why c = search needs
 
 returns : tie.Need-returns
 returns c = typedef-there _ _ _ _ _ _ _ _ (c .before .before .before .before .row-of .ensures) (c .before .before .i .given .1) (c .typedef-at .ensures)
@@ -26,4 +17,4 @@ returns-2 c = typedef-nowhere _ _ _ _ _ _ _ _ (c .before .before .before .row-of
 pub process-typedef-tag-spec : {M : Type 1} → statement M
 process-typedef-tag-spec =
     tie.close
-    (tie.spec row-of-requires enum-known-i typedef-at-requires enum-known-why returns returns-2)
+    (tie.spec (λ c κs. search needs) (λ c. search needs) typedef-at-requires (λ c. search needs) returns returns-2)

@@ -4,32 +4,8 @@ use Prim.Native.Nat.{_-_}
 use Rattle.records.proofs.typedef.specified_by.Statement.{statement}
 use Rattle.records.proofs.typedef.specified_by.Tie as tie
 
-find-row-requires : tie.Need-find-row-requires
-find-row-requires c κs = search needs
-
-enum-known-row : tie.Need-enum-known-row
-enum-known-row c = search needs
-
-refused-requires : tie.Need-refused-requires
-refused-requires c κs = search needs
-
 returns : tie.Need-returns
 returns c = limit-met _ _ _ _ _ (c .before .before .before .before .before .find-row .ensures) (c .before .before .before .row .given .1) (c .before .if1 .taken) (c .refused .ensures)
-
-kind-fault-requires : tie.Need-kind-fault-requires
-kind-fault-requires c κs = search needs
-
-enum-told : tie.Need-enum-told
-enum-told c = search needs
-
-enum-known-why : tie.Need-enum-known-why
-enum-known-why c = search needs
-
-enum-told-2 : tie.Need-enum-told-2
-enum-told-2 c = search needs
-
-refused-requires-2 : tie.Need-refused-requires-2
-refused-requires-2 c κs = search needs
 
 returns-2 : tie.Need-returns-2
 returns-2 c = row-right _ _ _ _ _ (c .before .before .before .before .before .before .before .find-row .ensures) (c .before .before .before .before .before .row .given .1) (c .before .before .before .if1 .left) (c .before .before .kind-fault .ensures) (c .enum-told .given .1)
@@ -44,15 +20,15 @@ pub specified-by-spec : {M : Type 1} → statement M
 specified-by-spec =
     tie.close
     (tie.spec
-    find-row-requires
-    enum-known-row
-    refused-requires
+    (λ c κs. search needs)
+    (λ c. search needs)
+    (λ c κs. search needs)
     returns
-    kind-fault-requires
-    enum-told
-    enum-known-why
-    enum-told-2
-    refused-requires-2
+    (λ c κs. search needs)
+    (λ c. search needs)
+    (λ c. search needs)
+    (λ c. search needs)
+    (λ c κs. search needs)
     returns-2
     returns-3
     returns-4)

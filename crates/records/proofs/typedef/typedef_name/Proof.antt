@@ -4,18 +4,6 @@ use Prim.Native.Nat.{_-_}
 use Rattle.records.proofs.typedef.typedef_name.Statement.{statement}
 use Rattle.records.proofs.typedef.typedef_name.Tie as tie
 
-enum-known-own : tie.Need-enum-known-own
-enum-known-own c = search needs
-
-enum-told : tie.Need-enum-told
-enum-told c = search needs
-
-enum-known-filling : tie.Need-enum-known-filling
-enum-known-filling c = search needs
-
-enum-told-2 : tie.Need-enum-told-2
-enum-told-2 c = search needs
-
 returns : tie.Need-returns
 returns c = name-own _ (c .before .own .given .1)
 
@@ -28,4 +16,11 @@ returns-3 c = name-missing (c .before .before .enum-told .given .1) (c .enum-tol
 pub typedef-name-spec : {M : Type 1} → statement M
 typedef-name-spec =
     tie.close
-    (tie.spec enum-known-own enum-told enum-known-filling enum-told-2 returns returns-2 returns-3)
+    (tie.spec
+    (λ c. search needs)
+    (λ c. search needs)
+    (λ c. search needs)
+    (λ c. search needs)
+    returns
+    returns-2
+    returns-3)

@@ -4,24 +4,6 @@ use Prim.Native.Nat.{_-_}
 use Rattle.records.proofs.typedef.typedef_type.Statement.{statement}
 use Rattle.records.proofs.typedef.typedef_type.Tie as tie
 
-enum-known-own : tie.Need-enum-known-own
-enum-known-own c = search needs
-
-type-by-requires : tie.Need-type-by-requires
-type-by-requires c κs = search needs
-
-enum-told : tie.Need-enum-told
-enum-told c = search needs
-
-enum-known-filling : tie.Need-enum-known-filling
-enum-known-filling c = search needs
-
-enum-told-2 : tie.Need-enum-told-2
-enum-told-2 c = search needs
-
-refused-requires : tie.Need-refused-requires
-refused-requires c κs = search needs
-
 returns : tie.Need-returns
 returns c = type-own _ _ _ _ (c .before .before .own .given .1) (c .type-by .ensures)
 
@@ -35,12 +17,12 @@ pub typedef-type-spec : {M : Type 1} → statement M
 typedef-type-spec =
     tie.close
     (tie.spec
-    enum-known-own
-    type-by-requires
-    enum-told
-    enum-known-filling
-    enum-told-2
-    refused-requires
+    (λ c. search needs)
+    (λ c κs. search needs)
+    (λ c. search needs)
+    (λ c. search needs)
+    (λ c. search needs)
+    (λ c κs. search needs)
     returns
     returns-2
     returns-3)

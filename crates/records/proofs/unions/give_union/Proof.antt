@@ -4,21 +4,6 @@ use Prim.Native.Nat.{_-_}
 use Rattle.records.proofs.unions.give_union.Statement.{statement}
 use Rattle.records.proofs.unions.give_union.Tie as tie
 
-union-at-requires : tie.Need-union-at-requires
-union-at-requires c κs = search needs
-
-enum-known-found : tie.Need-enum-known-found
-enum-known-found c = search needs
-
-read-union-requires : tie.Need-read-union-requires
-read-union-requires c κs = search needs
-
-enum-known-why : tie.Need-enum-known-why
-enum-known-why c = search needs
-
-same-length : tie.Need-same-length
-same-length c = search needs
-
 returns : tie.Need-returns
 returns c = give-filled _ _ _ _ _ _ _ (c .before .before .before .before .before .before .before .before .before .union-at .ensures) (c .before .before .before .before .before .before .before .found .given .1) (c .before .before .before .before .if1 .taken) (c .before .before .read-union .ensures)
 
@@ -32,11 +17,11 @@ pub give-union-spec : {M : Type 1} → statement M
 give-union-spec =
     tie.close
     (tie.spec
-    union-at-requires
-    enum-known-found
-    read-union-requires
-    enum-known-why
-    same-length
+    (λ c κs. search needs)
+    (λ c. search needs)
+    (λ c κs. search needs)
+    (λ c. search needs)
+    (λ c. search needs)
     returns
     returns-2
     returns-3)

@@ -5,20 +5,8 @@ use Prim.Native.Nat.{_-_}
 use Rattle.records.proofs.unions.process_union_tag.Statement.{statement}
 use Rattle.records.proofs.unions.process_union_tag.Tie as tie
 
-row-of-requires : tie.Need-row-of-requires
-row-of-requires c κs = search needs
-
-enum-known-i : tie.Need-enum-known-i
-enum-known-i c = search needs
-
 give-union-requires : tie.Need-give-union-requires
 give-union-requires c κs = keyed-asked _ _ _ _ _ _ _ _ (c .before .before .before .before .row-of .ensures) (c .before .before .i .given .1)
-
-enum-known-why : tie.Need-enum-known-why
-enum-known-why c = search needs
-
-same-length : tie.Need-same-length
-same-length c = search needs
 
 returns : tie.Need-returns
 returns c = union-there _ _ _ _ _ _ _ _ _ (c .before .before .before .before .before .before .before .row-of .ensures) (c .before .before .before .before .before .i .given .1) (c .before .before .give-union .ensures)
@@ -30,10 +18,10 @@ pub process-union-tag-spec : {M : Type 1} → statement M
 process-union-tag-spec =
     tie.close
     (tie.spec
-    row-of-requires
-    enum-known-i
+    (λ c κs. search needs)
+    (λ c. search needs)
     give-union-requires
-    enum-known-why
-    same-length
+    (λ c. search needs)
+    (λ c. search needs)
     returns
     returns-2)

@@ -4,33 +4,6 @@ use Prim.Native.Nat.{_-_}
 use Rattle.records.proofs.unions.take_child.Statement.{statement}
 use Rattle.records.proofs.unions.take_child.Tie as tie
 
-row-at-requires : tie.Need-row-at-requires
-row-at-requires c κs = search needs
-
-member-at-requires : tie.Need-member-at-requires
-member-at-requires c κs = search needs
-
-enum-known-member : tie.Need-enum-known-member
-enum-known-member c = search needs
-
-put-member-requires : tie.Need-put-member-requires
-put-member-requires c κs = search needs
-
-add-t20 : tie.Need-add-t20
-add-t20 c = search needs
-
-enum-known-why : tie.Need-enum-known-why
-enum-known-why c = search needs
-
-is-ignored-requires : tie.Need-is-ignored-requires
-is-ignored-requires c κs = search needs
-
-refused-requires : tie.Need-refused-requires
-refused-requires c κs = search needs
-
-same-length : tie.Need-same-length
-same-length c = search needs
-
 returns : tie.Need-returns
 returns c = take-member _ _ _ _ _ _ _ _ _ (c .before .before .before .before .before .before .before .before .before .before .row-at .ensures) (c .before .before .before .before .before .before .before .before .if1 .taken) (c .before .before .before .before .before .before .before .member-at .ensures) (c .before .before .before .before .before .member .given .1) (c .before .before .put-member .ensures)
 
@@ -47,15 +20,15 @@ pub take-child-spec : {M : Type 1} → statement M
 take-child-spec =
     tie.close
     (tie.spec
-    row-at-requires
-    member-at-requires
-    enum-known-member
-    put-member-requires
-    add-t20
-    enum-known-why
-    is-ignored-requires
-    refused-requires
-    same-length
+    (λ c κs. search needs)
+    (λ c κs. search needs)
+    (λ c. search needs)
+    (λ c κs. search needs)
+    (λ c. search needs)
+    (λ c. search needs)
+    (λ c κs. search needs)
+    (λ c κs. search needs)
+    (λ c. search needs)
     returns
     returns-2
     returns-3

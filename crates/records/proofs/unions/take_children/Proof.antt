@@ -16,9 +16,6 @@ Inv-loop s settings rows attrs n i room₀ e row end c₀ k₀ room c k = Taking
 abbrev μ-loop : tie.MeasureT-loop
 μ-loop s settings rows attrs n i room₀ e row end c₀ k₀ room c k = length (kidsFrom (settings .endian) s rows attrs n end c)
 
-row-at-requires : tie.Need-row-at-requires Inv-loop μ-loop
-row-at-requires c κs = search needs
-
 sibling-row-requires : tie.Need-sibling-row-requires Inv-loop μ-loop
 sibling-row-requires c κs = record { rising = c .before .before .before .before .before .pre .asked .table .rising; there = c .before .before .before .before .before .pre .asked .there }
 
@@ -34,9 +31,6 @@ loop-holds c = taking-begins _ _ _ _ _ _ _ (c .before .before .before .row-at .e
 take-child-requires : tie.Need-take-child-requires Inv-loop μ-loop
 take-child-requires c κs = taking-asked (c .before .before .loop .inv) (c .before .loop-test .taken)
 
-enum-known-more : tie.Need-enum-known-more Inv-loop μ-loop
-enum-known-more c = search needs
-
 sibling-row-requires-2 : tie.Need-sibling-row-requires-2 Inv-loop μ-loop
 sibling-row-requires-2 c κs = taking-at (c .before .before .before .before .before .before .before .before .loop .inv) (c .before .before .before .before .before .before .before .loop-test .taken)
 
@@ -48,9 +42,6 @@ loop-less c = taking-less (c .before .before .before .before .before .before .be
 
 loop-again : tie.Need-loop-again Inv-loop μ-loop
 loop-again c = taking-on (c .before .before .before .before .before .before .before .before .before .before .loop .inv) (c .before .before .before .before .before .before .before .before .before .loop-test .taken) (c .before .sibling-row2 .ensures) (c .child-from2 .ensures) (c .before .before .before .before .before .before .before .take-child .ensures) (c .before .before .before .more .given .1)
-
-enum-known-why : tie.Need-enum-known-why Inv-loop μ-loop
-enum-known-why c = search needs
 
 same-length : tie.Need-same-length Inv-loop μ-loop
 same-length c = c .before .before .before .before .before .take-child .ensures .same-room ∙ c .before .before .before .before .before .before .before .before .loop .inv .same-room
@@ -70,18 +61,18 @@ take-children-spec =
     (tie.spec
     Inv-loop
     μ-loop
-    row-at-requires
+    (λ c κs. search needs)
     sibling-row-requires
     next-row-requires
     child-from-requires
     loop-holds
     take-child-requires
-    enum-known-more
+    (λ c. search needs)
     sibling-row-requires-2
     child-from-requires-2
     loop-less
     loop-again
-    enum-known-why
+    (λ c. search needs)
     same-length
     returns
     same-length-2

@@ -4,26 +4,8 @@ use Prim.Native.Nat.{_-_}
 use Rattle.records.proofs.unions.union_members.Statement.{statement}
 use Rattle.records.proofs.unions.union_members.Tie as tie
 
-row-at-requires : tie.Need-row-at-requires
-row-at-requires c κs = search needs
-
-count-children-requires : tie.Need-count-children-requires
-count-children-requires c κs = search needs
-
-enum-told : tie.Need-enum-told
-enum-told c = search needs
-
 take-children-requires : tie.Need-take-children-requires
 take-children-requires c κs = members-ending _ _ _ _ _ _ (c .before .before .before .count-children .ensures) (c .before .before .before .before .before .before .before .before .before .pre) (c .before .enum-told .given .1)
-
-enum-told-2 : tie.Need-enum-told-2
-enum-told-2 c = search needs
-
-refused-requires : tie.Need-refused-requires
-refused-requires c κs = search needs
-
-same-length : tie.Need-same-length
-same-length c = search needs
 
 returns : tie.Need-returns
 returns c = members-walked _ _ _ _ _ _ (c .before .before .before .before .before .before .count-children .ensures) (c .before .before .before .before .enum-told .given .1) (c .before .before .take-children .ensures)
@@ -35,12 +17,12 @@ pub union-members-spec : {M : Type 1} → statement M
 union-members-spec =
     tie.close
     (tie.spec
-    row-at-requires
-    count-children-requires
-    enum-told
+    (λ c κs. search needs)
+    (λ c κs. search needs)
+    (λ c. search needs)
     take-children-requires
-    enum-told-2
-    refused-requires
-    same-length
+    (λ c. search needs)
+    (λ c κs. search needs)
+    (λ c. search needs)
     returns
     returns-2)

@@ -5,17 +5,8 @@ use borrow.Author.Needs.{needs}
 use Rattle.records.proofs.variable.process_variable_tag.Statement.{statement}
 use Rattle.records.proofs.variable.process_variable_tag.Tie as tie
 
-row-of-requires : tie.Need-row-of-requires
-row-of-requires c κs = search needs
-
-enum-known-i : tie.Need-enum-known-i
-enum-known-i c = search needs
-
 variable-at-requires : tie.Need-variable-at-requires
 variable-at-requires c κs = keyed-asked _ _ _ _ _ _ _ _ (c .before .before .before .row-of .ensures) (c .before .i .given .1)
-
-enum-known-why : tie.Need-enum-known-why
-enum-known-why c = search needs
 
 returns : tie.Need-returns
 unfolding variableBy
@@ -28,4 +19,4 @@ returns-2 c = no-row _ _ _ _ _ _ _ _ (c .before .before .before .row-of .ensures
 pub process-variable-tag-spec : {M : Type 1} → statement M
 process-variable-tag-spec =
     tie.close
-    (tie.spec row-of-requires enum-known-i variable-at-requires enum-known-why returns returns-2)
+    (tie.spec (λ c κs. search needs) (λ c. search needs) variable-at-requires (λ c. search needs) returns returns-2)

@@ -9,21 +9,6 @@ use Rattle.records.proofs.variable.variable_at.Tie as tie
 front-fault-requires : tie.Need-front-fault-requires
 front-fault-requires c κs = record { plain = plain-variable; asked = c .before .before .before .pre }
 
-enum-told : tie.Need-enum-told
-enum-told c = search needs
-
-run-of-requires : tie.Need-run-of-requires
-run-of-requires c κs = search needs
-
-row-at-requires : tie.Need-row-at-requires
-row-at-requires c κs = search needs
-
-variable-fields-requires : tie.Need-variable-fields-requires
-variable-fields-requires c κs = search needs
-
-enum-known-why : tie.Need-enum-known-why
-enum-known-why c = search needs
-
 returns : tie.Need-returns
 returns c = variable-clear _ _ _ _ _ _ (c .before .before .before .before .before .before .before .front-fault .ensures) (c .before .before .before .before .before .enum-told .given .1) (c .before .before .before .before .run-of .ensures) (c .before .before .before .row-at .ensures) (c .variable-fields .ensures)
 
@@ -36,10 +21,10 @@ variable-at-spec =
     tie.close
     (tie.spec
     front-fault-requires
-    enum-told
-    run-of-requires
-    row-at-requires
-    variable-fields-requires
-    enum-known-why
+    (λ c. search needs)
+    (λ c κs. search needs)
+    (λ c κs. search needs)
+    (λ c κs. search needs)
+    (λ c. search needs)
     returns
     returns-2)

@@ -6,24 +6,6 @@ use mathlib.Core.Path.{refl}
 use Rattle.records.proofs.variable.variable_fields.Statement.{statement}
 use Rattle.records.proofs.variable.variable_fields.Tie as tie
 
-last-type-requires : tie.Need-last-type-requires
-last-type-requires c κs = search needs
-
-enum-known-of : tie.Need-enum-known-of
-enum-known-of c = search needs
-
-last-name-requires : tie.Need-last-name-requires
-last-name-requires c κs = search needs
-
-role-name-requires : tie.Need-role-name-requires
-role-name-requires c κs = search needs
-
-last-address-requires : tie.Need-last-address-requires
-last-address-requires c κs = search needs
-
-enum-known-why : tie.Need-enum-known-why
-enum-known-why c = search needs
-
 returns : tie.Need-returns
 unfolding variableFields
 returns c = by-told (variableTyped _ _ _ _ _) (c .before .before .before .before .before .before .last-type .ensures) (c .before .before .before .before .of .given .1) (variable-whole _ _ _ _ _ _ (c .before .before .last-name .ensures) (c .before .role-name .ensures) (c .last-address .ensures))
@@ -36,11 +18,11 @@ pub variable-fields-spec : {M : Type 1} → statement M
 variable-fields-spec =
     tie.close
     (tie.spec
-    last-type-requires
-    enum-known-of
-    last-name-requires
-    role-name-requires
-    last-address-requires
-    enum-known-why
+    (λ c κs. search needs)
+    (λ c. search needs)
+    (λ c κs. search needs)
+    (λ c κs. search needs)
+    (λ c κs. search needs)
+    (λ c. search needs)
     returns
     returns-2)

@@ -6,20 +6,10 @@ use mathlib.Core.Path.{sym}
 use Rattle.records.proofs.words.put_word.Statement.{statement}
 use Rattle.records.proofs.words.put_word.Tie as tie
 
-mul-t : tie.Need-mul-t
-mul-t c = search needs
-
-slice-write-t : tie.Need-slice-write-t
-slice-write-t c = search needs
-
-same-length : tie.Need-same-length
-same-length c = search needs
-
-returns : tie.Need-returns
-returns c = search needs
-
 returns-2 : tie.Need-returns-2
 returns-2 c = sym (set-out (now (c .before .args .t)) (c .before .args .i) (c .before .args .v) (c .if1 .left))
 
 pub put-word-spec : {M : Type 1} → statement M
-put-word-spec = tie.close (tie.spec mul-t slice-write-t same-length returns returns-2)
+put-word-spec =
+    tie.close
+    (tie.spec (λ c. search needs) (λ c. search needs) (λ c. search needs) (λ c. search needs) returns-2)

@@ -22,12 +22,6 @@ loop-holds c = (counting-begins (c .before .before .before .before .before .befo
 count-row-requires : tie.Need-count-row-requires Inv-loop μ-loop
 count-row-requires c κs = (counting-asked (c .before .before .loop .inv .0) (c .before .loop-test .taken), (c .before .before .loop .inv .1 .0 .fits, c .before .before .before .before .before .before .before .before .before .before .pre .1))
 
-add-i : tie.Need-add-i Inv-loop μ-loop
-add-i c = search needs
-
-loop-less : tie.Need-loop-less Inv-loop μ-loop
-loop-less c = search needs
-
 loop-again : tie.Need-loop-again Inv-loop μ-loop
 loop-again c = (
   counting-on (c .before .before .before .before .before .loop .inv .0) (c .before .before .before .before .loop-test .taken) (c .before .before .count-row .ensures .counts-are),
@@ -48,8 +42,8 @@ count-layouts-spec =
     μ-loop
     loop-holds
     count-row-requires
-    add-i
-    loop-less
+    (λ c. search needs)
+    (λ c. search needs)
     loop-again
     same-length
     returns)

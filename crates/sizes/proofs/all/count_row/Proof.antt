@@ -6,35 +6,17 @@ use borrow.Author.Needs.{needs}
 use Rattle.sizes.proofs.all.count_row.Statement.{statement}
 use Rattle.sizes.proofs.all.count_row.Tie as tie
 
-row-at-requires : tie.Need-row-at-requires
-row-at-requires c κs = search needs
-
-is-structure-requires : tie.Need-is-structure-requires
-is-structure-requires c κs = search needs
-
 returns : tie.Need-returns
 returns c = count-other _ _ _ _ _ _ _ (c .before .before .row-at .ensures) (c .before .is-structure .ensures) (c .before .before .before .before .before .before .before .before .before .before .args .counts) (not-true _ (c .if1 .taken))
-
-slice-aggregate-read-layout : tie.Need-slice-aggregate-read-layout
-slice-aggregate-read-layout c = search needs
 
 read-layout-requires : tie.Need-read-layout-requires
 read-layout-requires c κs = (c .before .before .before .before .before .before .before .before .before .before .before .pre .0 .asked, c .before .before .before .before .before .before .before .before .before .before .before .pre .1 .1)
 
-size-told-requires : tie.Need-size-told-requires
-size-told-requires c κs = search needs
-
 put-known-requires : tie.Need-put-known-requires
 put-known-requires c κs = let there : c .before .before .before .before .before .before .before .before .before .before .before .before .before .before .before .args .i < c .before .before .before .before .before .before .before .before .before .before .before .before .before .before .before .args .n = c .before .before .before .before .before .before .before .before .before .before .before .before .before .before .before .pre .0 .asked .asked .there in omega (arith, c .before .before .before .before .before .before .before .before .before .before .before .before .before .before .before .pre .1 .0)
 
-enum-known-answer : tie.Need-enum-known-answer
-enum-known-answer c = search needs
-
 one-more-requires : tie.Need-one-more-requires
 one-more-requires c κs = given-asked _ _ _ _ _ _ _ (c .before .before .before .before .before .before .before .before .before .before .before .before .before .row-at .ensures) (c .before .before .before .before .before .before .before .before .before .before .before .before .is-structure .ensures) (not-false _ (c .before .before .before .before .before .before .before .before .before .before .before .if1 .left)) (c .before .before .before .before .before .before .before .before .before .read-layout .ensures .answer-is) (c .before .before .before .before .before .before .before .before .before .before .before .before .before .before .before .before .before .before .before .before .before .args .counts) (c .before .answer .given .1) (c .before .before .before .before .before .before .before .before .before .before .before .before .before .before .before .before .before .before .before .before .before .pre .0)
-
-enum-told : tie.Need-enum-told
-enum-told c = search needs
 
 one-more-requires-2 : tie.Need-one-more-requires-2
 one-more-requires-2 c κs = refused-asked (c .before .before .before .before .before .before .before .before .before .before .before .before .before .before .before .before .before .before .before .before .pre .0)
@@ -55,16 +37,16 @@ pub count-row-spec : {M : Type 1} → statement M
 count-row-spec =
     tie.close
     (tie.spec
-    row-at-requires
-    is-structure-requires
+    (λ c κs. search needs)
+    (λ c κs. search needs)
     returns
-    slice-aggregate-read-layout
+    (λ c. search needs)
     read-layout-requires
-    size-told-requires
+    (λ c κs. search needs)
     put-known-requires
-    enum-known-answer
+    (λ c. search needs)
     one-more-requires
-    enum-told
+    (λ c. search needs)
     one-more-requires-2
     same-length
     returns-2

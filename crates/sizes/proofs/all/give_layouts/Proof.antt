@@ -6,29 +6,14 @@ use Rattle.sizes.proofs.all.give_layouts.Tie as tie
 count-layouts-requires : tie.Need-count-layouts-requires
 count-layouts-requires c κs = c .before .before .before .before .before .before .before .before .before .before .pre
 
-same-length : tie.Need-same-length
-same-length c = search needs
-
 returns : tie.Need-returns
 returns c = rooms-unlisted _ (c .before .before .before .before .count-layouts .ensures .counts-are) _ _ (c .if1 .taken)
-
-same-length-2 : tie.Need-same-length-2
-same-length-2 c = search needs
 
 returns-2 : tie.Need-returns-2
 returns-2 c = rooms-unfit _ (c .before .before .before .before .before .before .count-layouts .ensures .counts-are) _ _ (c .before .before .if1 .left) (c .if2 .taken)
 
 put-layouts-requires : tie.Need-put-layouts-requires
 put-layouts-requires c κs = (rooms-asked _ (c .before .before .before .before .before .before .before .before .before .count-layouts .ensures .counts-are) _ (c .before .before .before .before .before .before .before .before .before .before .before .before .before .before .before .before .before .before .before .before .pre .0 .ready) (c .before .before .before .if2 .left), (c .before .before .before .before .before .before .before .before .before .count-layouts .ensures .all-told, c .before .before .before .before .before .before .before .before .before .before .before .before .before .before .before .before .before .before .before .before .pre .1))
-
-same-length-3 : tie.Need-same-length-3
-same-length-3 c = search needs
-
-same-length-4 : tie.Need-same-length-4
-same-length-4 c = search needs
-
-same-length-5 : tie.Need-same-length-5
-same-length-5 c = search needs
 
 returns-3 : tie.Need-returns-3
 returns-3 c = rooms-filled _ (c .before .before .before .before .before .before .before .before .before .before .before .before .before .before .count-layouts .ensures .counts-are) _ _ (c .before .before .before .before .before .before .before .before .before .before .if1 .left) (c .before .before .before .before .before .before .before .before .if2 .left) (c .before .before .before .before .put-layouts .ensures)
@@ -38,12 +23,12 @@ give-layouts-spec =
     tie.close
     (tie.spec
     count-layouts-requires
-    same-length
+    (λ c. search needs)
     returns
-    same-length-2
+    (λ c. search needs)
     returns-2
     put-layouts-requires
-    same-length-3
-    same-length-4
-    same-length-5
+    (λ c. search needs)
+    (λ c. search needs)
+    (λ c. search needs)
     returns-3)

@@ -6,26 +6,8 @@ use mathlib.Core.Path.{refl}
 use Rattle.sizes.proofs.all.put_row.Statement.{statement}
 use Rattle.sizes.proofs.all.put_row.Tie as tie
 
-row-at-requires : tie.Need-row-at-requires
-row-at-requires c κs = search needs
-
-is-structure-requires : tie.Need-is-structure-requires
-is-structure-requires c κs = search needs
-
 returns : tie.Need-returns
 returns c = puts-other _ _ _ _ _ _ _ (c .before .before .row-at .ensures) (c .before .is-structure .ensures) (c .before .before .before .before .before .before .before .before .before .before .before .before .args .counts) (not-true _ (c .if1 .taken))
-
-run-of-requires : tie.Need-run-of-requires
-run-of-requires c κs = search needs
-
-last-name-requires : tie.Need-last-name-requires
-last-name-requires c κs = search needs
-
-known-at-requires : tie.Need-known-at-requires
-known-at-requires c κs = search needs
-
-enum-told : tie.Need-enum-told
-enum-told c = search needs
 
 mul-from : tie.Need-mul-from
 mul-from c = omega (arith, c .before .before .before .before .before .before .before .before .before .before .before .before .before .before .before .before .before .pre .0 .counted .few-members, c .before .before .before .before .before .before .before .before .before .before .before .before .before .before .before .before .before .pre .0 .counted .asked .asked .there, c .before .before .before .before .before .before .before .before .before .before .before .before .before .before .before .before .before .pre .0 .counted .asked .asked .table .few)
@@ -39,55 +21,22 @@ sub-read-layout c = c .before .before .before .before .before .before .before .b
 part-read-layout-start : tie.Need-part-read-layout-start
 part-read-layout-start c = c .before .before .before .before .before .before .before .before .before .before .before .before .before .before .before .before .before .pre .0 .begins
 
-part-read-layout-end : tie.Need-part-read-layout-end
-part-read-layout-end c = search needs
-
 read-layout-requires : tie.Need-read-layout-requires
 read-layout-requires c κs = (c .before .before .before .before .before .before .before .before .before .before .before .before .before .before .before .before .before .before .pre .0 .counted .asked, c .before .before .before .before .before .before .before .before .before .before .before .before .before .before .before .before .before .before .pre .1 .1)
-
-enum-known-found : tie.Need-enum-known-found
-enum-known-found c = search needs
-
-put-structure-requires : tie.Need-put-structure-requires
-put-structure-requires c κs = search needs
 
 one-more-requires : tie.Need-one-more-requires
 one-more-requires c κs = given-asked _ _ _ _ _ _ _ (c .before .before .before .before .before .before .before .before .before .before .before .before .before .before .before .before .before .before .row-at .ensures) (c .before .before .before .before .before .before .before .before .before .before .before .before .before .before .before .before .before .is-structure .ensures) (not-false _ (c .before .before .before .before .before .before .before .before .before .before .before .before .before .before .before .before .if1 .left)) (c .before .before .before .before .before .before .before .before .before .read-layout .ensures .answer-is) (c .before .before .before .before .before .before .before .before .before .before .before .before .before .before .before .before .before .before .before .before .before .before .before .before .before .before .before .before .args .counts) (c .before .before .before .before .before .found .given .1) (c .before .before .before .before .before .before .before .before .before .before .before .before .before .before .before .before .before .before .before .before .before .before .before .before .before .before .before .before .pre .0 .counted)
 
-enum-told-2 : tie.Need-enum-told-2
-enum-told-2 c = search needs
-
-enum-known-why : tie.Need-enum-known-why
-enum-known-why c = search needs
-
-number-of-requires : tie.Need-number-of-requires
-number-of-requires c κs = search needs
-
-put-structure-requires-2 : tie.Need-put-structure-requires-2
-put-structure-requires-2 c κs = search needs
-
 one-more-requires-2 : tie.Need-one-more-requires-2
 one-more-requires-2 c κs = refused-asked (c .before .before .before .before .before .before .before .before .before .before .before .before .before .before .before .before .before .before .before .before .before .before .before .pre .0 .counted)
-
-same-length : tie.Need-same-length
-same-length c = search needs
-
-same-length-2 : tie.Need-same-length-2
-same-length-2 c = search needs
 
 returns-2 : tie.Need-returns-2
 returns-2 c = puts-given _ _ _ _ _ _ _ (c .before .before .before .before .before .before .before .before .before .before .before .before .before .before .before .before .before .before .before .row-at .ensures) (c .before .before .before .before .before .before .before .before .before .before .before .before .before .before .before .before .before .before .is-structure .ensures) (not-false _ (c .before .before .before .before .before .before .before .before .before .before .before .before .before .before .before .before .before .if1 .left)) (c .before .before .before .before .before .before .before .before .before .before .read-layout .ensures .answer-is) (c .before .before .before .before .before .before .before .before .before .before .before .before .before .before .before .before .before .before .before .before .before .before .before .before .before .before .before .before .before .args .counts) (c .before .before .before .before .before .before .found .given .1)
     (c .before .before .before .before .before .before .before .before .before .before .before .before .before .before .before .before .run-of .ensures) (c .before .before .before .before .before .before .before .before .before .before .before .before .before .before .before .last-name .ensures) (c .before .before .before .before .before .before .before .before .before .before .read-layout .ensures) (c .before .before .before .put-structure .ensures) (c .one-more .ensures)
 
-same-length-3 : tie.Need-same-length-3
-same-length-3 c = search needs
-
 returns-3 : tie.Need-returns-3
 returns-3 c = absurd (layout-given (c .before .before .before .before .before .before .before .before .before .before .before .before .before .before .before .before .before .before .before .before .before .before .before .pre .1 .0) (c .before .before .before .before .before .before .before .before .before .before .before .before .before .before .before .before .before .before .before .before .before .before .before .pre .0 .counted .asked .asked .there) (c .before .before .before .before .before .before .before .before .before .before .before .before .before .row-at .ensures) (c .before .before .before .before .before .before .before .before .before .before .before .before .is-structure .ensures) (not-false _ (c .before .before .before .before .before .before .before .before .before .before .before .if1 .left)) (c .before .before .before .before .before .before .before .before .known-at .ensures)
     (c .before .before .before .before .before .before .enum-told .given .1) (c .before .before .before .before .read-layout .ensures .answer-is) (c .enum-told2 .given .1))
-
-same-length-4 : tie.Need-same-length-4
-same-length-4 c = search needs
 
 returns-4 : tie.Need-returns-4
 returns-4 c = puts-refused _ _ _ _ _ _ _ (c .before .before .before .before .before .before .before .before .before .before .before .before .before .before .row-at .ensures) (c .before .before .before .before .before .before .before .before .before .before .before .before .before .is-structure .ensures) (not-false _ (c .before .before .before .before .before .before .before .before .before .before .before .before .if1 .left)) refl (c .before .before .before .before .before .before .before .before .before .before .before .before .before .before .before .before .before .before .before .before .before .before .before .before .args .counts)
@@ -98,31 +47,31 @@ pub put-row-spec : {M : Type 1} → statement M
 put-row-spec =
     tie.close
     (tie.spec
-    row-at-requires
-    is-structure-requires
+    (λ c κs. search needs)
+    (λ c κs. search needs)
     returns
-    run-of-requires
-    last-name-requires
-    known-at-requires
-    enum-told
+    (λ c κs. search needs)
+    (λ c κs. search needs)
+    (λ c κs. search needs)
+    (λ c. search needs)
     mul-from
     mul-read-layout
     sub-read-layout
     part-read-layout-start
-    part-read-layout-end
+    (λ c. search needs)
     read-layout-requires
-    enum-known-found
-    put-structure-requires
+    (λ c. search needs)
+    (λ c κs. search needs)
     one-more-requires
-    enum-told-2
-    enum-known-why
-    number-of-requires
-    put-structure-requires-2
+    (λ c. search needs)
+    (λ c. search needs)
+    (λ c κs. search needs)
+    (λ c κs. search needs)
     one-more-requires-2
-    same-length
-    same-length-2
+    (λ c. search needs)
+    (λ c. search needs)
     returns-2
-    same-length-3
+    (λ c. search needs)
     returns-3
-    same-length-4
+    (λ c. search needs)
     returns-4)

@@ -15,20 +15,8 @@ abbrev μ-loop : tie.MeasureT-loop
 loop-holds : tie.Need-loop-holds Inv-loop μ-loop
 loop-holds c = (faulting-begins _ _ _ _ _ _ (c .before .before .before .before .before .pre .0) (c .before .before .before .before .before .pre .1), refl)
 
-keep-fault-requires : tie.Need-keep-fault-requires Inv-loop μ-loop
-keep-fault-requires c κs = search needs
-
-add-i : tie.Need-add-i Inv-loop μ-loop
-add-i c = search needs
-
-loop-less : tie.Need-loop-less Inv-loop μ-loop
-loop-less c = search needs
-
 loop-again : tie.Need-loop-again Inv-loop μ-loop
 loop-again c = (faulting-on _ _ _ _ _ _ (c .before .before .before .before .before .loop .inv .0) (c .before .before .keep-fault .ensures), (c .before .before .keep-fault .ensures .same-long ∙ c .before .before .before .before .before .loop .inv .1))
-
-same-length : tie.Need-same-length Inv-loop μ-loop
-same-length c = search needs
 
 returns : tie.Need-returns Inv-loop μ-loop
 returns c = faulting-ends _ _ _ _ _ _ (c .before .loop .inv .0) (c .loop-test .left)
@@ -40,9 +28,9 @@ keep-faults-spec =
     Inv-loop
     μ-loop
     loop-holds
-    keep-fault-requires
-    add-i
-    loop-less
+    (λ c κs. search needs)
+    (λ c. search needs)
+    (λ c. search needs)
     loop-again
-    same-length
+    (λ c. search needs)
     returns)

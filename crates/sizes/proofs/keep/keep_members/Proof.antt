@@ -15,20 +15,8 @@ abbrev μ-loop : tie.MeasureT-loop
 loop-holds : tie.Need-loop-holds Inv-loop μ-loop
 loop-holds c = (keeping-begins _ _ _ _ _ _ (c .before .before .before .before .before .pre), refl)
 
-keep-row-requires : tie.Need-keep-row-requires Inv-loop μ-loop
-keep-row-requires c κs = search needs
-
-add-c : tie.Need-add-c Inv-loop μ-loop
-add-c c = search needs
-
-loop-less : tie.Need-loop-less Inv-loop μ-loop
-loop-less c = search needs
-
 loop-again : tie.Need-loop-again Inv-loop μ-loop
 loop-again c = (keeping-on _ _ _ _ _ _ (c .before .before .before .before .before .loop .inv .0) (c .before .before .keep-row .ensures), (c .before .before .keep-row .ensures .same-long ∙ c .before .before .before .before .before .loop .inv .1))
-
-same-length : tie.Need-same-length Inv-loop μ-loop
-same-length c = search needs
 
 returns : tie.Need-returns Inv-loop μ-loop
 returns c = keeping-ends _ _ _ _ _ _ (c .before .loop .inv .0) (c .loop-test .left)
@@ -40,9 +28,9 @@ keep-members-spec =
     Inv-loop
     μ-loop
     loop-holds
-    keep-row-requires
-    add-c
-    loop-less
+    (λ c κs. search needs)
+    (λ c. search needs)
+    (λ c. search needs)
     loop-again
-    same-length
+    (λ c. search needs)
     returns)

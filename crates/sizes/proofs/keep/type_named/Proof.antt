@@ -6,18 +6,6 @@ use Rattle.sizes.proofs.keep.type_named.Tie as tie
 returns : tie.Need-returns
 returns c = type-pointer _ _ _ (c .if1 .taken)
 
-enum-known-kind : tie.Need-enum-known-kind
-enum-known-kind c = search needs
-
-fundamental-size-requires : tie.Need-fundamental-size-requires
-fundamental-size-requires c κs = search needs
-
-enum-known-kind-2 : tie.Need-enum-known-kind-2
-enum-known-kind-2 c = search needs
-
-row-named-requires : tie.Need-row-named-requires
-row-named-requires c κs = search needs
-
 returns-2 : tie.Need-returns-2
 returns-2 c = type-fundamental _ _ _ (c .before .before .before .before .if1 .left) (c .before .before .kind .given .1) (c .fundamental-size .ensures)
 
@@ -29,9 +17,9 @@ type-named-spec =
     tie.close
     (tie.spec
     returns
-    enum-known-kind
-    fundamental-size-requires
-    enum-known-kind-2
-    row-named-requires
+    (λ c. search needs)
+    (λ c κs. search needs)
+    (λ c. search needs)
+    (λ c κs. search needs)
     returns-2
     returns-3)

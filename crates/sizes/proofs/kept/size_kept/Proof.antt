@@ -4,18 +4,6 @@ use Prim.Native.Nat.{_-_}
 use Rattle.sizes.proofs.kept.size_kept.Statement.{statement}
 use Rattle.sizes.proofs.kept.size_kept.Tie as tie
 
-enum-known-size : tie.Need-enum-known-size
-enum-known-size c = search needs
-
-enum-known-size-2 : tie.Need-enum-known-size-2
-enum-known-size-2 c = search needs
-
-number-of-requires : tie.Need-number-of-requires
-number-of-requires c κs = search needs
-
-known-at-requires : tie.Need-known-at-requires
-known-at-requires c κs = search needs
-
 returns : tie.Need-returns
 returns c = size-given _ (c .before .size .given .1)
 
@@ -29,10 +17,10 @@ pub size-kept-spec : {M : Type 1} → statement M
 size-kept-spec =
     tie.close
     (tie.spec
-    enum-known-size
-    enum-known-size-2
-    number-of-requires
-    known-at-requires
+    (λ c. search needs)
+    (λ c. search needs)
+    (λ c κs. search needs)
+    (λ c κs. search needs)
     returns
     returns-2
     returns-3)

@@ -4,17 +4,8 @@ use denote.Ref.{now}
 use Rattle.sizes.proofs.known.put_size.Statement.{statement}
 use Rattle.sizes.proofs.known.put_size.Tie as tie
 
-mul-put-three : tie.Need-mul-put-three
-mul-put-three c = search needs
-
-put-three-requires : tie.Need-put-three-requires
-put-three-requires c κs = search needs
-
-same-length : tie.Need-same-length
-same-length c = search needs
-
 returns : tie.Need-returns
 returns c = put-size (now (c .before .before .before .before .before .args .known)) (c .before .before .before .before .before .args .i) (c .before .before .before .before .before .args .size) (c .before .before .before .before .before .pre) (search needs) (c .before .before .put-three .ensures)
 
 pub put-size-spec : {M : Type 1} → statement M
-put-size-spec = tie.close (tie.spec mul-put-three put-three-requires same-length returns)
+put-size-spec = tie.close (tie.spec (λ c. search needs) (λ c κs. search needs) (λ c. search needs) returns)

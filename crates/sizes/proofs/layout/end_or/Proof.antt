@@ -3,9 +3,6 @@ use borrow.Author.Needs.{needs}
 use Rattle.sizes.proofs.layout.end_or.Statement.{statement}
 use Rattle.sizes.proofs.layout.end_or.Tie as tie
 
-grown-requires : tie.Need-grown-requires
-grown-requires c κs = search needs
-
 returns : tie.Need-returns
 returns c = end-bounded _ _ _ (c .if1 .taken)
 
@@ -13,4 +10,4 @@ returns-2 : tie.Need-returns-2
 returns-2 c = end-grown _ _ _ _ _ (c .before .if1 .left) (c .grown .ensures)
 
 pub end-or-spec : {M : Type 1} → statement M
-end-or-spec = tie.close (tie.spec grown-requires returns returns-2)
+end-or-spec = tie.close (tie.spec (λ c κs. search needs) returns returns-2)

@@ -5,12 +5,6 @@ use mathlib.Core.Path.{refl}
 use Rattle.sizes.proofs.layout.is_bounded.Statement.{statement}
 use Rattle.sizes.proofs.layout.is_bounded.Tie as tie
 
-enum-told : tie.Need-enum-told
-enum-told c = search needs
-
-enum-told-2 : tie.Need-enum-told-2
-enum-told-2 c = search needs
-
 returns : tie.Need-returns
 unfolding isBounded
 returns c = by-case isBounded (c .enum-told .given .1) refl
@@ -20,4 +14,4 @@ unfolding isBounded
 returns-2 c = by-case isBounded (c .enum-told2 .given .1) refl
 
 pub is-bounded-spec : {M : Type 1} → statement M
-is-bounded-spec = tie.close (tie.spec enum-told enum-told-2 returns returns-2)
+is-bounded-spec = tie.close (tie.spec (λ c. search needs) (λ c. search needs) returns returns-2)

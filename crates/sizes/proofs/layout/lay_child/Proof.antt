@@ -5,26 +5,14 @@ use mathlib.Core.Path.{sym, ap, _∙_}
 use Rattle.sizes.proofs.layout.lay_child.Statement.{statement}
 use Rattle.sizes.proofs.layout.lay_child.Tie as tie
 
-row-at-requires : tie.Need-row-at-requires
-row-at-requires c κs = search needs
-
 returns : tie.Need-returns
 returns c = child-other _ _ _ _ _ _ _ _ _ (c .before .before .row-at .ensures) (c .if1 .taken)
 
 member-added-requires : tie.Need-member-added-requires
 member-added-requires c κs = record { asked = c .before .before .before .before .before .before .before .before .before .before .pre .0 .asked; is-member = ap (λ (r : Row). r .kind) (sym (c .before .before .row-at .ensures)) ∙ c .if1 .left; all-kept = c .before .before .before .before .before .before .before .before .before .before .pre .1 }
 
-enum-known-offset : tie.Need-enum-known-offset
-enum-known-offset c = search needs
-
 lay-sized-requires : tie.Need-lay-sized-requires
 lay-sized-requires c κs = c .before .before .before .before .before .before .before .before .before .before .before .before .before .before .before .pre .0 .count-small
-
-enum-known-why : tie.Need-enum-known-why
-enum-known-why c = search needs
-
-same-length : tie.Need-same-length
-same-length c = search needs
 
 returns-2 : tie.Need-returns-2
 returns-2 c = child-sized _ _ _ _ _ _ _ _ _ (c .before .before .before .before .before .before .before .before .before .before .row-at .ensures) (c .before .before .before .before .before .before .before .before .if1 .left) (c .before .before .before .before .before .before .before .member-added .ensures) (c .before .before .before .before .before .offset .given .1) (c .before .before .lay-sized .ensures)
@@ -36,12 +24,12 @@ pub lay-child-spec : {M : Type 1} → statement M
 lay-child-spec =
     tie.close
     (tie.spec
-    row-at-requires
+    (λ c κs. search needs)
     returns
     member-added-requires
-    enum-known-offset
+    (λ c. search needs)
     lay-sized-requires
-    enum-known-why
-    same-length
+    (λ c. search needs)
+    (λ c. search needs)
     returns-2
     returns-3)

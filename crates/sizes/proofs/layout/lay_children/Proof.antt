@@ -21,9 +21,6 @@ abbrev μ-loop : tie.MeasureT-loop
 kept-sibling-requires : tie.Need-kept-sibling-requires Inv-loop μ-loop
 kept-sibling-requires c κs = (c .before .before .before .before .before .before .before .pre .0 .ends-at .asked, c .before .before .before .before .before .before .before .pre .1 .parts .rows-kept .faults .siblings)
 
-next-row-requires : tie.Need-next-row-requires Inv-loop μ-loop
-next-row-requires c κs = search needs
-
 child-from-requires : tie.Need-child-from-requires Inv-loop μ-loop
 child-from-requires c κs = ends-at _ _ _ _ _ _ (c .before .kept-sibling .ensures) (c .next-row .ensures) (c .before .before .before .before .before .before .before .before .before .pre .0 .ends-at .ending)
 
@@ -32,9 +29,6 @@ loop-holds c = laying-begins _ _ _ _ _ _ _ _ _ (c .before .before .kept-sibling 
 
 lay-child-requires : tie.Need-lay-child-requires Inv-loop μ-loop
 lay-child-requires c κs = (laying-asked (c .before .before .loop .inv) (c .before .loop-test .taken), c .before .before .before .before .before .before .before .before .before .before .before .before .before .pre .1)
-
-enum-known-count : tie.Need-enum-known-count Inv-loop μ-loop
-enum-known-count c = search needs
 
 kept-sibling-requires-2 : tie.Need-kept-sibling-requires-2 Inv-loop μ-loop
 kept-sibling-requires-2 c κs = (walking-asked (c .before .before .before .before .before .before .before .before .loop .inv .walking) (c .before .before .before .before .before .before .before .loop-test .taken), c .before .before .before .before .before .before .before .before .before .before .before .before .before .before .before .before .before .before .before .pre .1 .parts .rows-kept .faults .siblings)
@@ -47,9 +41,6 @@ loop-less c = walking-less (c .before .before .before .before .before .before .b
 
 loop-again : tie.Need-loop-again Inv-loop μ-loop
 loop-again c = laying-on (c .before .before .before .before .before .before .before .before .before .before .loop .inv) (c .before .before .before .before .before .before .before .before .before .loop-test .taken) (c .before .before .before .before .before .before .before .lay-child .ensures) (c .before .before .before .count .given .1) (c .before .kept-sibling2 .ensures) (c .child-from2 .ensures)
-
-enum-known-why : tie.Need-enum-known-why Inv-loop μ-loop
-enum-known-why c = search needs
 
 same-length : tie.Need-same-length Inv-loop μ-loop
 same-length c = c .before .before .before .before .before .lay-child .ensures .same-room ∙ c .before .before .before .before .before .before .before .before .loop .inv .same-room
@@ -70,16 +61,16 @@ lay-children-spec =
     Inv-loop
     μ-loop
     kept-sibling-requires
-    next-row-requires
+    (λ c κs. search needs)
     child-from-requires
     loop-holds
     lay-child-requires
-    enum-known-count
+    (λ c. search needs)
     kept-sibling-requires-2
     child-from-requires-2
     loop-less
     loop-again
-    enum-known-why
+    (λ c. search needs)
     same-length
     returns
     same-length-2

@@ -6,17 +6,8 @@ use Rattle.sizes.proofs.layout.lay_structure.Tie as tie
 kept-fault-requires : tie.Need-kept-fault-requires
 kept-fault-requires c κs = record { asked = c .before .before .before .before .before .before .before .pre .asked .asked; is-structure = c .before .before .before .before .before .before .before .pre .is-structure; kept-rows = c .before .before .before .before .before .before .before .pre .all-kept .parts .rows-kept }
 
-enum-told : tie.Need-enum-told
-enum-told c = search needs
-
 lay-children-requires : tie.Need-lay-children-requires
 lay-children-requires c κs = (clear-asked _ _ _ _ _ _ (c .before .before .before .kept-fault .ensures) (c .before .enum-told .given .1) (c .before .before .before .before .before .before .before .before .before .before .before .pre .asked), c .before .before .before .before .before .before .before .before .before .before .before .pre .all-kept)
-
-enum-known-why : tie.Need-enum-known-why
-enum-known-why c = search needs
-
-same-length : tie.Need-same-length
-same-length c = search needs
 
 returns : tie.Need-returns
 returns c = structure-laid _ _ _ _ _ _ (c .before .before .before .before .before .before .kept-fault .ensures) _ _ (c .before .before .before .before .enum-told .given .1) (c .before .before .lay-children .ensures)
@@ -29,9 +20,9 @@ lay-structure-spec =
     tie.close
     (tie.spec
     kept-fault-requires
-    enum-told
+    (λ c. search needs)
     lay-children-requires
-    enum-known-why
-    same-length
+    (λ c. search needs)
+    (λ c. search needs)
     returns
     returns-2)

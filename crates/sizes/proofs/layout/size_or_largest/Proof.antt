@@ -5,12 +5,6 @@ use mathlib.Core.Path.{refl}
 use Rattle.sizes.proofs.layout.size_or_largest.Statement.{statement}
 use Rattle.sizes.proofs.layout.size_or_largest.Tie as tie
 
-enum-known-size : tie.Need-enum-known-size
-enum-known-size c = search needs
-
-enum-told : tie.Need-enum-told
-enum-told c = search needs
-
 returns : tie.Need-returns
 unfolding sizeOrLargest
 returns c = by-case (sizeOrLargest (c .before .before .before .args .largest)) (c .before .size .given .1) refl
@@ -20,4 +14,4 @@ unfolding sizeOrLargest
 returns-2 c = by-case (sizeOrLargest (c .before .before .args .largest)) (c .enum-told .given .1) refl
 
 pub size-or-largest-spec : {M : Type 1} → statement M
-size-or-largest-spec = tie.close (tie.spec enum-known-size enum-told returns returns-2)
+size-or-largest-spec = tie.close (tie.spec (λ c. search needs) (λ c. search needs) returns returns-2)

@@ -4,9 +4,6 @@ use mathlib.Core.Path.{refl}
 use Rattle.sizes.proofs.levels.also_settled.Statement.{statement}
 use Rattle.sizes.proofs.levels.also_settled.Tie as tie
 
-is-settled-requires : tie.Need-is-settled-requires
-is-settled-requires c κs = search needs
-
 returns : tie.Need-returns
 returns c = test-passed refl _ (c .before .if1 .taken) (c .is-settled .ensures)
 
@@ -14,4 +11,4 @@ returns-2 : tie.Need-returns-2
 returns-2 c = search needs
 
 pub also-settled-spec : {M : Type 1} → statement M
-also-settled-spec = tie.close (tie.spec is-settled-requires returns returns-2)
+also-settled-spec = tie.close (tie.spec (λ c κs. search needs) returns returns-2)

@@ -13,56 +13,20 @@ Inv-loop s settings sizes rows attrs n kept known₀ next₀ level₀ known next
 abbrev μ-loop : tie.MeasureT-loop
 μ-loop s settings sizes rows attrs n kept known₀ next₀ level₀ known next level = deepest - level
 
-last-level-requires : tie.Need-last-level-requires Inv-loop μ-loop
-last-level-requires c κs = search needs
-
 loop-holds : tie.Need-loop-holds Inv-loop μ-loop
 loop-holds c = levelling-begins _ _ _ _ _ _ (c .before .before .before .before .before .before .before .before .before .before .before .pre .0 .ready) (c .before .before .before .before .before .before .before .before .before .before .before .pre .1 .0 .fits) (c .before .before .last-level .ensures) refl
-
-sub-loop : tie.Need-sub-loop Inv-loop μ-loop
-sub-loop c = search needs
 
 next-level-requires : tie.Need-next-level-requires Inv-loop μ-loop
 next-level-requires c κs = (record { ready = c .before .before .before .loop .inv .ready; fits = c .before .before .before .loop .inv .next-fits }, known-kept (c .before .before .before .before .before .before .before .before .before .before .before .before .before .before .before .pre .1 .1) (c .before .before .before .loop .inv .filled .fits))
 
-mul-take-over : tie.Need-mul-take-over Inv-loop μ-loop
-mul-take-over c = search needs
-
-take-over-requires : tie.Need-take-over-requires Inv-loop μ-loop
-take-over-requires c κs = search needs
-
-same-length : tie.Need-same-length Inv-loop μ-loop
-same-length c = search needs
-
-same-length-2 : tie.Need-same-length-2 Inv-loop μ-loop
-same-length-2 c = search needs
-
 returns : tie.Need-returns Inv-loop μ-loop
 returns c = levelling-settled (c .before .before .before .before .before .before .before .before .before .before .before .before .loop .inv) (c .before .before .before .before .before .before .before .before .next-level .ensures) (c .before .before .before .take-over .ensures) (c .if1 .taken)
-
-same-length-3 : tie.Need-same-length-3 Inv-loop μ-loop
-same-length-3 c = search needs
-
-same-length-4 : tie.Need-same-length-4 Inv-loop μ-loop
-same-length-4 c = search needs
 
 returns-2 : tie.Need-returns-2 Inv-loop μ-loop
 returns-2 c = levelling-all (c .before .before .before .before .before .before .before .before .before .before .before .before .before .loop .inv) (c .before .before .before .before .before .before .before .before .before .next-level .ensures) (c .before .before .before .before .take-over .ensures) (c .before .before .before .before .before .before .before .before .before .before .before .before .loop-test .taken) (c .if2 .taken)
 
-add-level : tie.Need-add-level Inv-loop μ-loop
-add-level c = search needs
-
-loop-less : tie.Need-loop-less Inv-loop μ-loop
-loop-less c = search needs
-
 loop-again : tie.Need-loop-again Inv-loop μ-loop
 loop-again c = levelling-on (c .before .before .before .before .before .before .before .before .before .before .before .before .before .loop .inv) (c .before .before .before .before .before .before .before .before .before .next-level .ensures) (c .before .before .before .before .take-over .ensures) (c .before .before .before .before .before .before .before .before .before .before .before .before .loop-test .taken) (search needs)
-
-same-length-5 : tie.Need-same-length-5 Inv-loop μ-loop
-same-length-5 c = search needs
-
-same-length-6 : tie.Need-same-length-6 Inv-loop μ-loop
-same-length-6 c = search needs
 
 returns-3 : tie.Need-returns-3 Inv-loop μ-loop
 returns-3 c = levelling-ends (c .before .loop .inv) (c .loop-test .left)
@@ -73,21 +37,21 @@ fill-known-spec =
     (tie.spec
     Inv-loop
     μ-loop
-    last-level-requires
+    (λ c κs. search needs)
     loop-holds
-    sub-loop
+    (λ c. search needs)
     next-level-requires
-    mul-take-over
-    take-over-requires
-    same-length
-    same-length-2
+    (λ c. search needs)
+    (λ c κs. search needs)
+    (λ c. search needs)
+    (λ c. search needs)
     returns
-    same-length-3
-    same-length-4
+    (λ c. search needs)
+    (λ c. search needs)
     returns-2
-    add-level
-    loop-less
+    (λ c. search needs)
+    (λ c. search needs)
     loop-again
-    same-length-5
-    same-length-6
+    (λ c. search needs)
+    (λ c. search needs)
     returns-3)

@@ -8,15 +8,6 @@ use mathlib.Core.Path.{refl, sym, ap, _∙_}
 use Rattle.sizes.proofs.levels.is_settled.Statement.{statement}
 use Rattle.sizes.proofs.levels.is_settled.Tie as tie
 
-enum-told : tie.Need-enum-told
-enum-told c = search needs
-
-enum-known-size : tie.Need-enum-known-size
-enum-known-size c = search needs
-
-number-of-requires : tie.Need-number-of-requires
-number-of-requires c κs = search needs
-
 returns : tie.Need-returns
 unfolding settled
 returns c = by-case settled (c .enum-told .given .1) refl
@@ -26,5 +17,4 @@ unfolding settled
 returns-2 c = ap (λ (k : ℕ). not (eqb k 10)) (c .number-of .ensures) ∙ sym (ap settled (c .before .before .size .given .1))
 
 pub is-settled-spec : {M : Type 1} → statement M
-is-settled-spec =
-    tie.close (tie.spec enum-told enum-known-size number-of-requires returns returns-2)
+is-settled-spec = tie.close (tie.spec (λ c. search needs) (λ c. search needs) (λ c κs. search needs) returns returns-2)

@@ -20,21 +20,6 @@ abbrev μ-loop : tie.MeasureT-loop
 loop-holds : tie.Need-loop-holds Inv-loop μ-loop
 loop-holds c = (filled-none _ _ (c .before .before .pre), refl)
 
-row-at-requires : tie.Need-row-at-requires Inv-loop μ-loop
-row-at-requires c κs = search needs
-
-refused-requires : tie.Need-refused-requires Inv-loop μ-loop
-refused-requires c κs = search needs
-
-put-refusal-requires : tie.Need-put-refusal-requires Inv-loop μ-loop
-put-refusal-requires c κs = search needs
-
-add-i : tie.Need-add-i Inv-loop μ-loop
-add-i c = search needs
-
-loop-less : tie.Need-loop-less Inv-loop μ-loop
-loop-less c = search needs
-
 loop-again : tie.Need-loop-again Inv-loop μ-loop
 unfolding lastLevel
 loop-again c = (
@@ -42,9 +27,6 @@ loop-again c = (
       (ap Refused (c .before .before .before .refused .ensures ∙ ap (λ (r : Row). refusedAt (r .key) reason.Depth) (c .before .before .before .before .before .row-at .ensures))),
   (c .before .before .put-refusal .ensures .same-long ∙ c .before .before .before .before .before .before .before .loop .inv .1),
 )
-
-same-length : tie.Need-same-length Inv-loop μ-loop
-same-length c = search needs
 
 returns : tie.Need-returns Inv-loop μ-loop
 returns c = filled-all _ _ (c .before .loop .inv .0) (c .loop-test .left)
@@ -56,11 +38,11 @@ last-level-spec =
     Inv-loop
     μ-loop
     loop-holds
-    row-at-requires
-    refused-requires
-    put-refusal-requires
-    add-i
-    loop-less
+    (λ c κs. search needs)
+    (λ c κs. search needs)
+    (λ c κs. search needs)
+    (λ c. search needs)
+    (λ c. search needs)
     loop-again
-    same-length
+    (λ c. search needs)
     returns)

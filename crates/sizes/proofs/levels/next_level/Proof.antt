@@ -20,23 +20,8 @@ loop-holds c = (level-none _ _ (c .before .before .before .before .before .befor
 next-size-requires : tie.Need-next-size-requires Inv-loop μ-loop
 next-size-requires c κs = (record { asked = record { table = c .before .before .before .before .before .before .before .before .before .pre .0 .ready .table; there = c .loop-test .taken }; short = c .before .before .before .before .before .before .before .before .before .pre .0 .ready .short }, c .before .before .before .before .before .before .before .before .before .pre .1)
 
-put-known-requires : tie.Need-put-known-requires Inv-loop μ-loop
-put-known-requires c κs = search needs
-
-also-settled-requires : tie.Need-also-settled-requires Inv-loop μ-loop
-also-settled-requires c κs = search needs
-
-add-i : tie.Need-add-i Inv-loop μ-loop
-add-i c = search needs
-
-loop-less : tie.Need-loop-less Inv-loop μ-loop
-loop-less c = search needs
-
 loop-again : tie.Need-loop-again Inv-loop μ-loop
 loop-again c = (level-row _ _ (c .before .before .before .before .before .before .before .loop .inv .0) (c .before .before .before .put-known .ensures) (c .before .before .before .before .before .next-size .ensures) (c .also-settled .ensures), (c .before .before .before .put-known .ensures .same-long ∙ c .before .before .before .before .before .before .before .loop .inv .1))
-
-same-length : tie.Need-same-length Inv-loop μ-loop
-same-length c = search needs
 
 returns : tie.Need-returns Inv-loop μ-loop
 returns c = level-whole _ _ (c .before .loop .inv .0) (c .loop-test .left)
@@ -49,10 +34,10 @@ next-level-spec =
     μ-loop
     loop-holds
     next-size-requires
-    put-known-requires
-    also-settled-requires
-    add-i
-    loop-less
+    (λ c κs. search needs)
+    (λ c κs. search needs)
+    (λ c. search needs)
+    (λ c. search needs)
     loop-again
-    same-length
+    (λ c. search needs)
     returns)

@@ -4,18 +4,6 @@ use Prim.Native.Nat.{_-_}
 use Rattle.sizes.proofs.prepare.fault_kept.Statement.{statement}
 use Rattle.sizes.proofs.prepare.fault_kept.Tie as tie
 
-mul-known-at : tie.Need-mul-known-at
-mul-known-at c = search needs
-
-known-at-requires : tie.Need-known-at-requires
-known-at-requires c κs = search needs
-
-enum-told : tie.Need-enum-told
-enum-told c = search needs
-
-enum-known-why : tie.Need-enum-known-why
-enum-known-why c = search needs
-
 returns : tie.Need-returns
 returns c = fault-clear _ _ (c .before .before .known-at .ensures) (c .enum-told .given .1)
 
@@ -24,4 +12,5 @@ returns-2 c = fault-refused _ _ (c .before .before .before .known-at .ensures) (
 
 pub fault-kept-spec : {M : Type 1} → statement M
 fault-kept-spec =
-    tie.close (tie.spec mul-known-at known-at-requires enum-told enum-known-why returns returns-2)
+    tie.close
+    (tie.spec (λ c. search needs) (λ c κs. search needs) (λ c. search needs) (λ c. search needs) returns returns-2)

@@ -4,18 +4,11 @@ use Prim.Native.Nat.{_-_}
 use Rattle.sizes.proofs.prepare.kept_fault.Statement.{statement}
 use Rattle.sizes.proofs.prepare.kept_fault.Tie as tie
 
-fault-kept-requires : tie.Need-fault-kept-requires
-fault-kept-requires c κs = search needs
-
 structure-fault-requires : tie.Need-structure-fault-requires
 structure-fault-requires c κs = (c .before .before .before .before .before .pre .asked, c .before .before .before .before .before .pre .kept-rows .faults)
 
 returns : tie.Need-returns
 returns c = structure-fault-kept (c .before .if1 .taken) (c .before .before .before .before .before .before .pre) (c .fault-kept .ensures)
 
-returns-2 : tie.Need-returns-2
-returns-2 c = search needs
-
 pub kept-fault-spec : {M : Type 1} → statement M
-kept-fault-spec =
-    tie.close (tie.spec fault-kept-requires structure-fault-requires returns returns-2)
+kept-fault-spec = tie.close (tie.spec (λ c κs. search needs) structure-fault-requires returns (λ c. search needs))

@@ -4,26 +4,11 @@ use borrow.Author.Needs.{needs}
 use Rattle.sizes.proofs.prepare.member_fault.Statement.{statement}
 use Rattle.sizes.proofs.prepare.member_fault.Tie as tie
 
-row-at-requires : tie.Need-row-at-requires
-row-at-requires c κs = search needs
-
 returns : tie.Need-returns
 returns c = member-other _ _ _ _ _ _ (c .before .before .row-at .ensures) (c .if1 .taken)
 
-fault-kept-requires : tie.Need-fault-kept-requires
-fault-kept-requires c κs = search needs
-
 returns-2 : tie.Need-returns-2
 returns-2 c = member-fault-kept (c .before .if2 .taken) (c .before .before .before .before .before .before .before .before .before .pre .1) _ (c .before .before .before .before .before .before .before .before .before .pre .0 .there) (c .before .before .before .before .row-at .ensures) (c .before .before .if1 .left) (c .fault-kept .ensures)
-
-member-at-requires : tie.Need-member-at-requires
-member-at-requires c κs = search needs
-
-enum-told : tie.Need-enum-told
-enum-told c = search needs
-
-enum-known-why : tie.Need-enum-known-why
-enum-known-why c = search needs
 
 returns-3 : tie.Need-returns-3
 returns-3 c = member-clear _ _ _ _ _ _ (c .before .before .before .before .before .before .row-at .ensures) (c .before .before .before .before .if1 .left) (c .before .before .member-at .ensures) (c .enum-told .given .1)
@@ -35,12 +20,12 @@ pub member-fault-spec : {M : Type 1} → statement M
 member-fault-spec =
     tie.close
     (tie.spec
-    row-at-requires
+    (λ c κs. search needs)
     returns
-    fault-kept-requires
+    (λ c κs. search needs)
     returns-2
-    member-at-requires
-    enum-told
-    enum-known-why
+    (λ c κs. search needs)
+    (λ c. search needs)
+    (λ c. search needs)
     returns-3
     returns-4)

@@ -31,9 +31,6 @@ loop-holds c = walking-begins _ _ _ _ _ _ _ (c .before .before .kept-sibling .en
 member-fault-requires : tie.Need-member-fault-requires Inv-loop μ-loop
 member-fault-requires c κs = (walking-asked (c .before .loop .inv) (c .loop-test .taken), c .before .before .before .before .before .before .before .before .before .pre .1)
 
-enum-told : tie.Need-enum-told Inv-loop μ-loop
-enum-told c = search needs
-
 kept-sibling-requires-2 : tie.Need-kept-sibling-requires-2 Inv-loop μ-loop
 kept-sibling-requires-2 c κs = (walking-asked (c .before .before .before .before .loop .inv) (c .before .before .before .loop-test .taken), c .before .before .before .before .before .before .before .before .before .before .before .before .pre .1 .siblings)
 
@@ -45,9 +42,6 @@ loop-less c = walking-less (c .before .before .before .before .before .before .l
 
 loop-again : tie.Need-loop-again Inv-loop μ-loop
 loop-again c = walking-on (c .before .before .before .before .before .before .loop .inv) (c .before .before .before .before .before .loop-test .taken) (c .before .kept-sibling2 .ensures) (c .child-from2 .ensures) (members-on _ _ _ _ _ _ (c .before .before .before .before .member-fault .ensures) (c .before .before .enum-told .given .1))
-
-enum-known-why : tie.Need-enum-known-why Inv-loop μ-loop
-enum-known-why c = search needs
 
 returns : tie.Need-returns Inv-loop μ-loop
 returns c = walking-stops (c .before .before .before .before .before .loop .inv) (c .before .before .before .before .loop-test .taken) (members-refused _ _ _ _ _ _ (c .before .before .before .member-fault .ensures) (c .before .why .given .1))
@@ -66,11 +60,11 @@ members-fault-spec =
     child-from-requires
     loop-holds
     member-fault-requires
-    enum-told
+    (λ c. search needs)
     kept-sibling-requires-2
     child-from-requires-2
     loop-less
     loop-again
-    enum-known-why
+    (λ c. search needs)
     returns
     returns-2)

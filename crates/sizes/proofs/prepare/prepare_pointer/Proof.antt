@@ -4,15 +4,6 @@ use Prim.Native.Nat.{_-_}
 use Rattle.sizes.proofs.prepare.prepare_pointer.Statement.{statement}
 use Rattle.sizes.proofs.prepare.prepare_pointer.Tie as tie
 
-ptr-to-member-at-requires : tie.Need-ptr-to-member-at-requires
-ptr-to-member-at-requires c κs = search needs
-
-enum-told : tie.Need-enum-told
-enum-told c = search needs
-
-enum-known-why : tie.Need-enum-known-why
-enum-known-why c = search needs
-
 returns : tie.Need-returns
 returns c = pointer-size (c .before .before .ptr-to-member-at .ensures) (c .enum-told .given .1)
 
@@ -21,4 +12,5 @@ returns-2 c = pointer-refused (c .before .before .before .ptr-to-member-at .ensu
 
 pub prepare-pointer-spec : {M : Type 1} → statement M
 prepare-pointer-spec =
-    tie.close (tie.spec ptr-to-member-at-requires enum-told enum-known-why returns returns-2)
+    tie.close
+    (tie.spec (λ c κs. search needs) (λ c. search needs) (λ c. search needs) returns returns-2)

@@ -7,53 +7,8 @@ use mathlib.Core.Path.{refl}
 use Rattle.sizes.proofs.prepare.prepare_row.Statement.{statement}
 use Rattle.sizes.proofs.prepare.prepare_row.Tie as tie
 
-row-at-requires : tie.Need-row-at-requires
-row-at-requires c κs = search needs
-
-shape-of-requires : tie.Need-shape-of-requires
-shape-of-requires c κs = search needs
-
-enum-told : tie.Need-enum-told
-enum-told c = search needs
-
-run-of-requires : tie.Need-run-of-requires
-run-of-requires c κs = search needs
-
-prepare-array-requires : tie.Need-prepare-array-requires
-prepare-array-requires c κs = search needs
-
-enum-told-2 : tie.Need-enum-told-2
-enum-told-2 c = search needs
-
 prepare-structure-requires : tie.Need-prepare-structure-requires
 prepare-structure-requires c κs = record { asked = c .before .before .before .before .before .before .before .before .pre .0 .asked; is-structure = shape-structure _ _ (c .before .before .before .row-at .ensures) (c .before .before .shape-of .ensures) (c .enum-told2 .given .1); kept-rows = c .before .before .before .before .before .before .before .before .pre .1 }
-
-enum-told-3 : tie.Need-enum-told-3
-enum-told-3 c = search needs
-
-prepare-enumeration-requires : tie.Need-prepare-enumeration-requires
-prepare-enumeration-requires c κs = search needs
-
-enum-told-4 : tie.Need-enum-told-4
-enum-told-4 c = search needs
-
-prepare-union-requires : tie.Need-prepare-union-requires
-prepare-union-requires c κs = search needs
-
-enum-told-5 : tie.Need-enum-told-5
-enum-told-5 c = search needs
-
-prepare-pointer-requires : tie.Need-prepare-pointer-requires
-prepare-pointer-requires c κs = search needs
-
-enum-told-6 : tie.Need-enum-told-6
-enum-told-6 c = search needs
-
-enum-told-7 : tie.Need-enum-told-7
-enum-told-7 c = search needs
-
-refused-requires : tie.Need-refused-requires
-refused-requires c κs = search needs
 
 returns : tie.Need-returns
 returns c = row-array _ _ _ _ _ _ (c .before .before .before .before .before .row-at .ensures) (c .before .before .before .before .shape-of .ensures) (c .before .before .enum-told .given .1) (c .before .run-of .ensures) (c .prepare-array .ensures)
@@ -85,22 +40,22 @@ pub prepare-row-spec : {M : Type 1} → statement M
 prepare-row-spec =
     tie.close
     (tie.spec
-    row-at-requires
-    shape-of-requires
-    enum-told
-    run-of-requires
-    prepare-array-requires
-    enum-told-2
+    (λ c κs. search needs)
+    (λ c κs. search needs)
+    (λ c. search needs)
+    (λ c κs. search needs)
+    (λ c κs. search needs)
+    (λ c. search needs)
     prepare-structure-requires
-    enum-told-3
-    prepare-enumeration-requires
-    enum-told-4
-    prepare-union-requires
-    enum-told-5
-    prepare-pointer-requires
-    enum-told-6
-    enum-told-7
-    refused-requires
+    (λ c. search needs)
+    (λ c κs. search needs)
+    (λ c. search needs)
+    (λ c κs. search needs)
+    (λ c. search needs)
+    (λ c κs. search needs)
+    (λ c. search needs)
+    (λ c. search needs)
+    (λ c κs. search needs)
     returns
     returns-2
     returns-3

@@ -4,27 +4,6 @@ use Prim.Native.Nat.{_-_}
 use Rattle.sizes.proofs.prepare.prepare_structure.Statement.{statement}
 use Rattle.sizes.proofs.prepare.prepare_structure.Tie as tie
 
-kept-fault-requires : tie.Need-kept-fault-requires
-kept-fault-requires c κs = search needs
-
-enum-told : tie.Need-enum-told
-enum-told c = search needs
-
-run-of-requires : tie.Need-run-of-requires
-run-of-requires c κs = search needs
-
-last-word-requires : tie.Need-last-word-requires
-last-word-requires c κs = search needs
-
-enum-known-size : tie.Need-enum-known-size
-enum-known-size c = search needs
-
-enum-told-2 : tie.Need-enum-told-2
-enum-told-2 c = search needs
-
-enum-known-why : tie.Need-enum-known-why
-enum-known-why c = search needs
-
 returns : tie.Need-returns
 returns c = structure-size _ _ _ _ _ _ (c .before .before .before .before .before .before .before .kept-fault .ensures) (c .before .before .before .before .before .enum-told .given .1) (c .before .before .before .before .run-of .ensures) (c .before .before .before .last-word .ensures) (c .before .size .given .1)
 
@@ -38,13 +17,13 @@ pub prepare-structure-spec : {M : Type 1} → statement M
 prepare-structure-spec =
     tie.close
     (tie.spec
-    kept-fault-requires
-    enum-told
-    run-of-requires
-    last-word-requires
-    enum-known-size
-    enum-told-2
-    enum-known-why
+    (λ c κs. search needs)
+    (λ c. search needs)
+    (λ c κs. search needs)
+    (λ c κs. search needs)
+    (λ c. search needs)
+    (λ c. search needs)
+    (λ c. search needs)
     returns
     returns-2
     returns-3)

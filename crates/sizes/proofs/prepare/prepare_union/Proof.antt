@@ -4,15 +4,6 @@ use Prim.Native.Nat.{_-_}
 use Rattle.sizes.proofs.prepare.prepare_union.Statement.{statement}
 use Rattle.sizes.proofs.prepare.prepare_union.Tie as tie
 
-union-at-requires : tie.Need-union-at-requires
-union-at-requires c κs = search needs
-
-enum-known-found : tie.Need-enum-known-found
-enum-known-found c = search needs
-
-enum-known-why : tie.Need-enum-known-why
-enum-known-why c = search needs
-
 returns : tie.Need-returns
 returns c = union-size (c .before .before .before .union-at .ensures) (c .before .found .given .1)
 
@@ -21,4 +12,5 @@ returns-2 c = union-refused (c .before .before .before .union-at .ensures) (c .b
 
 pub prepare-union-spec : {M : Type 1} → statement M
 prepare-union-spec =
-    tie.close (tie.spec union-at-requires enum-known-found enum-known-why returns returns-2)
+    tie.close
+    (tie.spec (λ c κs. search needs) (λ c. search needs) (λ c. search needs) returns returns-2)

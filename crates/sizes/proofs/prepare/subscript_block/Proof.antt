@@ -4,14 +4,8 @@ use Prim.Native.Nat.{_-_}
 use Rattle.sizes.proofs.prepare.subscript_block.Statement.{statement}
 use Rattle.sizes.proofs.prepare.subscript_block.Tie as tie
 
-attribute-at-requires : tie.Need-attribute-at-requires
-attribute-at-requires c κs = search needs
-
-block2-requires : tie.Need-block2-requires
-block2-requires c κs = search needs
-
 returns : tie.Need-returns
 returns c = block-is _ _ _ _ (c .before .before .attribute-at .ensures) (c .block2 .ensures)
 
 pub subscript-block-spec : {M : Type 1} → statement M
-subscript-block-spec = tie.close (tie.spec attribute-at-requires block2-requires returns)
+subscript-block-spec = tie.close (tie.spec (λ c κs. search needs) (λ c κs. search needs) returns)

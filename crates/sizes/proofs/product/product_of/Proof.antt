@@ -14,26 +14,11 @@ abbrev μ-loop : tie.MeasureT-loop
 loop-holds : tie.Need-loop-holds Inv-loop μ-loop
 loop-holds c = begin _ _ _ _
 
-next-subscript-requires : tie.Need-next-subscript-requires Inv-loop μ-loop
-next-subscript-requires c κs = search needs
-
-enum-known-many : tie.Need-enum-known-many Inv-loop μ-loop
-enum-known-many c = search needs
-
-times-requires : tie.Need-times-requires Inv-loop μ-loop
-times-requires c κs = search needs
-
-enum-known-product : tie.Need-enum-known-product Inv-loop μ-loop
-enum-known-product c = search needs
-
 sub-rest : tie.Need-sub-rest Inv-loop μ-loop
 sub-rest c = dimension-inside (c .before .before .before .before .before .before .before .before .before .loop .inv) (c .before .before .before .before .before .before .before .before .loop-test .taken) (c .before .before .before .before .before .before .before .next-subscript .ensures) (c .before .before .before .before .before .many .given .1)
 
 part-rest-start : tie.Need-part-rest-start Inv-loop μ-loop
 part-rest-start c = dimension-inside (c .before .before .before .before .before .before .before .before .before .loop .inv) (c .before .before .before .before .before .before .before .before .loop-test .taken) (c .before .before .before .before .before .before .before .next-subscript .ensures) (c .before .before .before .before .before .many .given .1)
-
-part-rest-end : tie.Need-part-rest-end Inv-loop μ-loop
-part-rest-end c = search needs
 
 loop-less : tie.Need-loop-less Inv-loop μ-loop
 loop-less c = dimension-less (c .before .before .before .before .before .before .before .before .before .before .loop .inv) (c .before .before .before .before .before .before .before .before .before .loop-test .taken) (c .before .before .before .before .before .before .before .before .next-subscript .ensures) (c .before .before .before .before .before .before .many .given .1)
@@ -41,14 +26,8 @@ loop-less c = dimension-less (c .before .before .before .before .before .before 
 loop-again : tie.Need-loop-again Inv-loop μ-loop
 loop-again c = again-dimension (c .before .before .before .before .before .before .before .before .before .before .loop .inv) (c .before .before .before .before .before .before .before .before .before .loop-test .taken) (c .before .before .before .before .before .before .before .before .next-subscript .ensures) (c .before .before .before .before .before .before .many .given .1) (c .before .before .before .before .times .ensures) (c .before .before .product .given .1)
 
-enum-known-why : tie.Need-enum-known-why Inv-loop μ-loop
-enum-known-why c = search needs
-
 returns : tie.Need-returns Inv-loop μ-loop
 returns c = product-big (c .before .before .before .before .before .before .before .before .before .loop .inv) (c .before .before .before .before .before .before .before .before .loop-test .taken) (c .before .before .before .before .before .before .before .next-subscript .ensures) (c .before .before .before .before .before .many .given .1) (c .before .before .before .times .ensures) (c .before .why .given .1)
-
-enum-known-used : tie.Need-enum-known-used Inv-loop μ-loop
-enum-known-used c = search needs
 
 sub-rest-2 : tie.Need-sub-rest-2 Inv-loop μ-loop
 sub-rest-2 c = element-inside (c .before .before .before .before .before .loop .inv) (c .before .before .before .before .loop-test .taken) (c .before .before .before .next-subscript .ensures) (c .before .used .given .1)
@@ -56,20 +35,11 @@ sub-rest-2 c = element-inside (c .before .before .before .before .before .loop .
 part-rest-start-2 : tie.Need-part-rest-start-2 Inv-loop μ-loop
 part-rest-start-2 c = element-inside (c .before .before .before .before .before .loop .inv) (c .before .before .before .before .loop-test .taken) (c .before .before .before .next-subscript .ensures) (c .before .used .given .1)
 
-part-rest-end-2 : tie.Need-part-rest-end-2 Inv-loop μ-loop
-part-rest-end-2 c = search needs
-
 loop-less-2 : tie.Need-loop-less-2 Inv-loop μ-loop
 loop-less-2 c = element-less (c .before .before .before .before .before .before .loop .inv) (c .before .before .before .before .before .loop-test .taken) (c .before .before .before .before .next-subscript .ensures) (c .before .before .used .given .1)
 
 loop-again-2 : tie.Need-loop-again-2 Inv-loop μ-loop
 loop-again-2 c = again-element (c .before .before .before .before .before .before .loop .inv) (c .before .before .before .before .before .loop-test .taken) (c .before .before .before .before .next-subscript .ensures) (c .before .before .used .given .1)
-
-enum-known-why-2 : tie.Need-enum-known-why-2 Inv-loop μ-loop
-enum-known-why-2 c = search needs
-
-placed-requires : tie.Need-placed-requires Inv-loop μ-loop
-placed-requires c κs = search needs
 
 returns-2 : tie.Need-returns-2 Inv-loop μ-loop
 returns-2 c = product-refused (c .before .before .before .before .before .before .loop .inv) (c .before .before .before .before .before .loop-test .taken) (c .before .before .before .before .next-subscript .ensures) (c .before .before .why2 .given .1) (c .placed .ensures)
@@ -84,24 +54,24 @@ product-of-spec =
     Inv-loop
     μ-loop
     loop-holds
-    next-subscript-requires
-    enum-known-many
-    times-requires
-    enum-known-product
+    (λ c κs. search needs)
+    (λ c. search needs)
+    (λ c κs. search needs)
+    (λ c. search needs)
     sub-rest
     part-rest-start
-    part-rest-end
+    (λ c. search needs)
     loop-less
     loop-again
-    enum-known-why
+    (λ c. search needs)
     returns
-    enum-known-used
+    (λ c. search needs)
     sub-rest-2
     part-rest-start-2
-    part-rest-end-2
+    (λ c. search needs)
     loop-less-2
     loop-again-2
-    enum-known-why-2
-    placed-requires
+    (λ c. search needs)
+    (λ c κs. search needs)
     returns-2
     returns-3)

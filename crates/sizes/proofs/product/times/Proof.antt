@@ -10,9 +10,6 @@ mul-product c = record { fits = product-fits (search needs) (search needs) }
 cast-t9 : tie.Need-cast-t9
 cast-t9 c = search needs
 
-refused-requires : tie.Need-refused-requires
-refused-requires c κs = search needs
-
 returns : tie.Need-returns
 returns c = times-is _ _ _ (c .if1 .taken)
 
@@ -20,4 +17,4 @@ returns-2 : tie.Need-returns-2
 returns-2 c = times-big _ _ _ (c .before .if1 .left) (c .refused .ensures)
 
 pub times-spec : {M : Type 1} → statement M
-times-spec = tie.close (tie.spec mul-product cast-t9 refused-requires returns returns-2)
+times-spec = tie.close (tie.spec mul-product cast-t9 (λ c κs. search needs) returns returns-2)

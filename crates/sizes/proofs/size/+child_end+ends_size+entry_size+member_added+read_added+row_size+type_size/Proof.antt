@@ -133,24 +133,12 @@ row-size-G t = (prepare-row-reads.Asked, prepare-row-reads.Learnt, type-size-bel
 abbrev type-size-G : ℕ → type-size-lts.Claims
 type-size-G t = (fundamental-size-reads.Asked, fundamental-size-reads.Learnt, entry-size-below t, entry-size.Post)
 
-child-end-row-at-requires : (t : ℕ) → child-end-lts.Need-row-at-requires (child-end-G t) (child-end-at t) child-end.Post
-child-end-row-at-requires t c κs = search needs
-
 child-end-returns : (t : ℕ) → child-end-lts.Need-returns (child-end-G t) (child-end-at t) child-end.Post
 child-end-returns t c = child-other _ _ _ _ _ _ _ _ (c .before .before .row-at .ensures) (c .if1 .taken)
 
 child-end-member-added-requires : (t : ℕ) → child-end-lts.Need-member-added-requires (child-end-G t) (child-end-at t) child-end.Post
 child-end-member-added-requires t c κs =
     (omega (arith, c .before .before .before .before .before .before .before .before .before .pre .0), record { asked = c .before .before .before .before .before .before .before .before .before .pre .1 .0; is-member = kind-is _ _ (c .before .before .row-at .ensures) (c .if1 .left); all-kept = c .before .before .before .before .before .before .before .before .before .pre .1 .1 })
-
-child-end-enum-known-offset : (t : ℕ) → child-end-lts.Need-enum-known-offset (child-end-G t) (child-end-at t) child-end.Post
-child-end-enum-known-offset t c = search needs
-
-child-end-grown-requires : (t : ℕ) → child-end-lts.Need-grown-requires (child-end-G t) (child-end-at t) child-end.Post
-child-end-grown-requires t c κs = search needs
-
-child-end-enum-known-why : (t : ℕ) → child-end-lts.Need-enum-known-why (child-end-G t) (child-end-at t) child-end.Post
-child-end-enum-known-why t c = search needs
 
 child-end-returns-2 : (t : ℕ) → child-end-lts.Need-returns-2 (child-end-G t) (child-end-at t) child-end.Post
 child-end-returns-2 t c = child-added _ _ _ _ _ _ _ _ (c .before .before .before .before .before .before .before .row-at .ensures) (c .before .before .before .before .before .if1 .left) (c .before .before .before .before .member-added .ensures) (c .before .before .offset .given .1) (c .grown .ensures)
@@ -182,9 +170,6 @@ ends-size-child-end-requires : (t : ℕ) → ends-size-lts.Need-child-end-requir
 ends-size-child-end-requires t c κs =
     (omega (arith, c .before .before .before .before .before .before .before .before .before .before .before .pre .0), (record { asked = walking-asked (c .before .loop .inv) (c .loop-test .taken); short = c .before .before .before .before .before .before .before .before .before .before .before .pre .1 .0 .short }, c .before .before .before .before .before .before .before .before .before .before .before .pre .1 .1))
 
-ends-size-enum-known-next : (t : ℕ) → ends-size-lts.Need-enum-known-next (ends-size-G t) (ends-size-at t) ends-size.Post ends-size-Inv-loop ends-size-μ-loop
-ends-size-enum-known-next t c = search needs
-
 ends-size-kept-sibling-requires-2 : (t : ℕ) → ends-size-lts.Need-kept-sibling-requires-2 (ends-size-G t) (ends-size-at t) ends-size.Post ends-size-Inv-loop ends-size-μ-loop
 ends-size-kept-sibling-requires-2 t c κs = (walking-asked (c .before .before .before .before .before .loop .inv) (c .before .before .before .before .loop-test .taken), c .before .before .before .before .before .before .before .before .before .before .before .before .before .before .before .pre .1 .1 .parts .rows-kept .faults .siblings)
 
@@ -199,9 +184,6 @@ ends-size-loop-again t c =
     walking-on (c .before .before .before .before .before .before .before .loop .inv) (c .before .before .before .before .before .before .loop-test .taken) (c .before .kept-sibling2 .ensures) (c .child-from2 .ensures)
     (λ cs. ends-next _ _ _ _ _ _ _ _ (c .before .before .before .before .before .child-end .ensures) cs (c .before .before .before .next .given .1))
 
-ends-size-enum-known-why : (t : ℕ) → ends-size-lts.Need-enum-known-why (ends-size-G t) (ends-size-at t) ends-size.Post ends-size-Inv-loop ends-size-μ-loop
-ends-size-enum-known-why t c = search needs
-
 ends-size-returns : (t : ℕ) → ends-size-lts.Need-returns (ends-size-G t) (ends-size-at t) ends-size.Post ends-size-Inv-loop ends-size-μ-loop
 ends-size-returns t c = walking-stops (c .before .before .before .before .before .loop .inv) (c .before .before .before .before .loop-test .taken) (λ cs. ends-refused _ _ _ _ _ _ _ _ (c .before .before .before .child-end .ensures) cs (c .before .why .given .1))
 
@@ -211,33 +193,15 @@ ends-size-returns-2 t c = ends-done _ _ _ _ _ _ _ (walking-ends (c .before .loop
 entry-size-find-row-requires : (t : ℕ) → entry-size-lts.Need-find-row-requires (entry-size-G t) (entry-size-at t) entry-size.Post
 entry-size-find-row-requires t c κs = c .before .before .before .before .before .before .pre .1 .0 .table .rising
 
-entry-size-enum-known-i : (t : ℕ) → entry-size-lts.Need-enum-known-i (entry-size-G t) (entry-size-at t) entry-size.Post
-entry-size-enum-known-i t c = search needs
-
-entry-size-known-at-requires : (t : ℕ) → entry-size-lts.Need-known-at-requires (entry-size-G t) (entry-size-at t) entry-size.Post
-entry-size-known-at-requires t c κs = search needs
-
 entry-size-returns : (t : ℕ) → entry-size-lts.Need-returns (entry-size-G t) (entry-size-at t) entry-size.Post
 entry-size-returns t c = entry-known _ _ _ _ _ _ _ _ _ (c .before .before .before .before .before .find-row .ensures) (c .before .before .before .i .given .1) (c .before .if1 .taken) (c .known-at .ensures)
-
-entry-size-refused-requires : (t : ℕ) → entry-size-lts.Need-refused-requires (entry-size-G t) (entry-size-at t) entry-size.Post
-entry-size-refused-requires t c κs = search needs
 
 entry-size-returns-2 : (t : ℕ) → entry-size-lts.Need-returns-2 (entry-size-G t) (entry-size-at t) entry-size.Post
 entry-size-returns-2 t c = entry-deep _ _ _ _ _ _ _ _ _ (c .before .before .before .before .before .before .find-row .ensures) (c .before .before .before .before .i .given .1) (c .before .before .if1 .left) (c .before .if2 .taken) (c .refused .ensures)
 
-entry-size-sub-row-size : (t : ℕ) → entry-size-lts.Need-sub-row-size (entry-size-G t) (entry-size-at t) entry-size.Post
-entry-size-sub-row-size t c = search needs
-
 entry-size-row-size-requires : (t : ℕ) → entry-size-lts.Need-row-size-requires (entry-size-G t) (entry-size-at t) entry-size.Post
 entry-size-row-size-requires t c κs =
     (omega (arith, c .before .before .before .before .before .before .before .before .before .before .before .before .pre .0, c .if2 .left), (found-asked (c .before .before .before .before .before .before .before .before .before .before .before .before .pre .1 .0) _ (c .before .before .before .before .before .find-row .ensures) (c .before .before .before .i .given .1), c .before .before .before .before .before .before .before .before .before .before .before .before .pre .1 .1))
-
-entry-size-enum-told : (t : ℕ) → entry-size-lts.Need-enum-told (entry-size-G t) (entry-size-at t) entry-size.Post
-entry-size-enum-told t c = search needs
-
-entry-size-refused-requires-2 : (t : ℕ) → entry-size-lts.Need-refused-requires-2 (entry-size-G t) (entry-size-at t) entry-size.Post
-entry-size-refused-requires-2 t c κs = search needs
 
 entry-size-returns-3 : (t : ℕ) → entry-size-lts.Need-returns-3 (entry-size-G t) (entry-size-at t) entry-size.Post
 entry-size-returns-3 t c = entry-row _ _ _ _ _ _ _ _ _ (c .before .before .before .before .before .before .find-row .ensures) (c .before .before .before .before .i .given .1) (c .before .before .if1 .left) (c .before .if2 .left) (c .row-size .ensures)
@@ -254,30 +218,12 @@ member-added-returns t c = member-kept (c .before .before .before .before .befor
 member-added-read-added-requires : (t : ℕ) → member-added-lts.Need-read-added-requires (member-added-G t) (member-added-at t) member-added.Post
 member-added-read-added-requires t c κs = (omega (arith, c .before .before .before .before .before .before .before .pre .0), c .before .before .before .before .before .before .before .pre .1)
 
-member-added-returns-2 : (t : ℕ) → member-added-lts.Need-returns-2 (member-added-G t) (member-added-at t) member-added.Post
-member-added-returns-2 t c = search needs
-
 read-added-member-at-requires : (t : ℕ) → read-added-lts.Need-member-at-requires (read-added-G t) (read-added-at t) read-added.Post
 read-added-member-at-requires t c κs = c .before .before .before .before .before .before .pre .1 .asked .asked
-
-read-added-enum-known-member : (t : ℕ) → read-added-lts.Need-enum-known-member (read-added-G t) (read-added-at t) read-added.Post
-read-added-enum-known-member t c = search needs
-
-read-added-enum-known-own : (t : ℕ) → read-added-lts.Need-enum-known-own (read-added-G t) (read-added-at t) read-added.Post
-read-added-enum-known-own t c = search needs
-
-read-added-enum-told : (t : ℕ) → read-added-lts.Need-enum-told (read-added-G t) (read-added-at t) read-added.Post
-read-added-enum-told t c = search needs
 
 read-added-type-size-requires : (t : ℕ) → read-added-lts.Need-type-size-requires (read-added-G t) (read-added-at t) read-added.Post
 read-added-type-size-requires t c κs =
     (omega (arith, c .before .before .before .before .before .before .before .before .before .before .before .before .before .pre .0), (record { table = c .before .before .before .before .before .before .before .before .before .before .before .before .before .pre .1 .asked .asked .table; short = c .before .before .before .before .before .before .before .before .before .before .before .before .before .pre .1 .asked .short }, c .before .before .before .before .before .before .before .before .before .before .before .before .before .pre .1 .all-kept))
-
-read-added-with-size-requires : (t : ℕ) → read-added-lts.Need-with-size-requires (read-added-G t) (read-added-at t) read-added.Post
-read-added-with-size-requires t c κs = search needs
-
-read-added-enum-known-why : (t : ℕ) → read-added-lts.Need-enum-known-why (read-added-G t) (read-added-at t) read-added.Post
-read-added-enum-known-why t c = search needs
 
 read-added-returns : (t : ℕ) → read-added-lts.Need-returns (read-added-G t) (read-added-at t) read-added.Post
 read-added-returns t c = added-own _ _ _ _ _ _ _ (c .before .before .before .before .before .before .before .member-at .ensures) (c .before .before .before .before .before .member .given .1) (c .before .own .given .1)
@@ -292,34 +238,13 @@ read-added-returns-3 t c = added-refused _ _ _ _ _ _ _ (c .before .before .befor
 row-size-prepare-row-requires : (t : ℕ) → row-size-lts.Need-prepare-row-requires (row-size-G t) (row-size-at t) row-size.Post
 row-size-prepare-row-requires t c κs = (c .before .before .before .before .before .before .pre .1 .0, c .before .before .before .before .before .before .pre .1 .1 .parts .rows-kept)
 
-row-size-enum-known-size : (t : ℕ) → row-size-lts.Need-enum-known-size (row-size-G t) (row-size-at t) row-size.Post
-row-size-enum-known-size t c = search needs
-
-row-size-enum-known-of : (t : ℕ) → row-size-lts.Need-enum-known-of (row-size-G t) (row-size-at t) row-size.Post
-row-size-enum-known-of t c = search needs
-
 row-size-type-size-requires : (t : ℕ) → row-size-lts.Need-type-size-requires (row-size-G t) (row-size-at t) row-size.Post
 row-size-type-size-requires t c κs =
     (omega (arith, c .before .before .before .before .before .before .before .before .before .before .pre .0), (record { table = c .before .before .before .before .before .before .before .before .before .before .pre .1 .0 .asked .table; short = c .before .before .before .before .before .before .before .before .before .before .pre .1 .0 .short }, c .before .before .before .before .before .before .before .before .before .before .pre .1 .1))
 
-row-size-enum-known-size-2 : (t : ℕ) → row-size-lts.Need-enum-known-size-2 (row-size-G t) (row-size-at t) row-size.Post
-row-size-enum-known-size-2 t c = search needs
-
-row-size-array-product-requires : (t : ℕ) → row-size-lts.Need-array-product-requires (row-size-G t) (row-size-at t) row-size.Post
-row-size-array-product-requires t c κs = search needs
-
-row-size-enum-known-why : (t : ℕ) → row-size-lts.Need-enum-known-why (row-size-G t) (row-size-at t) row-size.Post
-row-size-enum-known-why t c = search needs
-
-row-size-enum-told : (t : ℕ) → row-size-lts.Need-enum-told (row-size-G t) (row-size-at t) row-size.Post
-row-size-enum-told t c = search needs
-
 row-size-ends-size-requires : (t : ℕ) → row-size-lts.Need-ends-size-requires (row-size-G t) (row-size-at t) row-size.Post
 row-size-ends-size-requires t c κs =
     (omega (arith, c .before .before .before .before .before .before .before .before .before .pre .0), (ends-asked _ _ _ _ _ _ (c .before .before .prepare-row .ensures) (c .enum-told .given .1) (c .before .before .before .before .before .before .before .before .before .pre .1 .0), c .before .before .before .before .before .before .before .before .before .pre .1 .1))
-
-row-size-enum-known-why-2 : (t : ℕ) → row-size-lts.Need-enum-known-why-2 (row-size-G t) (row-size-at t) row-size.Post
-row-size-enum-known-why-2 t c = search needs
 
 row-size-returns : (t : ℕ) → row-size-lts.Need-returns (row-size-G t) (row-size-at t) row-size.Post
 row-size-returns t c = row-sized _ _ _ _ _ _ (c .before .before .before .prepare-row .ensures) _ (c .before .size .given .1)
@@ -341,15 +266,6 @@ type-size-returns : (t : ℕ) → type-size-lts.Need-returns (type-size-G t) (ty
 unfolding typeFrom
 type-size-returns t c = type-pointer _ _ _ (c .if1 .taken)
 
-type-size-enum-known-kind : (t : ℕ) → type-size-lts.Need-enum-known-kind (type-size-G t) (type-size-at t) type-size.Post
-type-size-enum-known-kind t c = search needs
-
-type-size-fundamental-size-requires : (t : ℕ) → type-size-lts.Need-fundamental-size-requires (type-size-G t) (type-size-at t) type-size.Post
-type-size-fundamental-size-requires t c κs = search needs
-
-type-size-enum-known-kind-2 : (t : ℕ) → type-size-lts.Need-enum-known-kind-2 (type-size-G t) (type-size-at t) type-size.Post
-type-size-enum-known-kind-2 t c = search needs
-
 type-size-entry-size-requires : (t : ℕ) → type-size-lts.Need-entry-size-requires (type-size-G t) (type-size-at t) type-size.Post
 type-size-entry-size-requires t c κs = (omega (arith, c .before .before .before .before .before .before .before .before .before .before .pre .0), c .before .before .before .before .before .before .before .before .before .before .pre .1)
 
@@ -366,12 +282,12 @@ pub +child-end+ends-size+entry-size+member-added+read-added+row-size+type-size-s
     close μ-child-end μ-ends-size μ-entry-size μ-member-added μ-read-added μ-row-size μ-type-size (λ t. child-end-lts.spec (child-end-G t)
     (child-end-at t)
     child-end.Post
-    (child-end-row-at-requires t)
+    (λ c κs. search needs)
     (child-end-returns t)
     (child-end-member-added-requires t)
-    (child-end-enum-known-offset t)
-    (child-end-grown-requires t)
-    (child-end-enum-known-why t)
+    (λ c. search needs)
+    (λ c κs. search needs)
+    (λ c. search needs)
     (child-end-returns-2 t)
     (child-end-returns-3 t))
     (λ t. ends-size-lts.spec (ends-size-G t)
@@ -384,27 +300,27 @@ pub +child-end+ends-size+entry-size+member-added+read-added+row-size+type-size-s
     (ends-size-child-from-requires t)
     (ends-size-loop-holds t)
     (ends-size-child-end-requires t)
-    (ends-size-enum-known-next t)
+    (λ c. search needs)
     (ends-size-kept-sibling-requires-2 t)
     (ends-size-child-from-requires-2 t)
     (ends-size-loop-less t)
     (ends-size-loop-again t)
-    (ends-size-enum-known-why t)
+    (λ c. search needs)
     (ends-size-returns t)
     (ends-size-returns-2 t))
     (λ t. entry-size-lts.spec (entry-size-G t)
     (entry-size-at t)
     entry-size.Post
     (entry-size-find-row-requires t)
-    (entry-size-enum-known-i t)
-    (entry-size-known-at-requires t)
+    (λ c. search needs)
+    (λ c κs. search needs)
     (entry-size-returns t)
-    (entry-size-refused-requires t)
+    (λ c κs. search needs)
     (entry-size-returns-2 t)
-    (entry-size-sub-row-size t)
+    (λ c. search needs)
     (entry-size-row-size-requires t)
-    (entry-size-enum-told t)
-    (entry-size-refused-requires-2 t)
+    (λ c. search needs)
+    (λ c κs. search needs)
     (entry-size-returns-3 t)
     (entry-size-returns-4 t))
     (λ t. member-added-lts.spec (member-added-G t)
@@ -413,17 +329,17 @@ pub +child-end+ends-size+entry-size+member-added+read-added+row-size+type-size-s
     (member-added-added-kept-requires t)
     (member-added-returns t)
     (member-added-read-added-requires t)
-    (member-added-returns-2 t))
+    (λ c. search needs))
     (λ t. read-added-lts.spec (read-added-G t)
     (read-added-at t)
     read-added.Post
     (read-added-member-at-requires t)
-    (read-added-enum-known-member t)
-    (read-added-enum-known-own t)
-    (read-added-enum-told t)
+    (λ c. search needs)
+    (λ c. search needs)
+    (λ c. search needs)
     (read-added-type-size-requires t)
-    (read-added-with-size-requires t)
-    (read-added-enum-known-why t)
+    (λ c κs. search needs)
+    (λ c. search needs)
     (read-added-returns t)
     (read-added-returns-2 t)
     (read-added-returns-3 t))
@@ -431,15 +347,15 @@ pub +child-end+ends-size+entry-size+member-added+read-added+row-size+type-size-s
     (row-size-at t)
     row-size.Post
     (row-size-prepare-row-requires t)
-    (row-size-enum-known-size t)
-    (row-size-enum-known-of t)
+    (λ c. search needs)
+    (λ c. search needs)
     (row-size-type-size-requires t)
-    (row-size-enum-known-size-2 t)
-    (row-size-array-product-requires t)
-    (row-size-enum-known-why t)
-    (row-size-enum-told t)
+    (λ c. search needs)
+    (λ c κs. search needs)
+    (λ c. search needs)
+    (λ c. search needs)
     (row-size-ends-size-requires t)
-    (row-size-enum-known-why-2 t)
+    (λ c. search needs)
     (row-size-returns t)
     (row-size-returns-2 t)
     (row-size-returns-3 t)
@@ -449,9 +365,9 @@ pub +child-end+ends-size+entry-size+member-added+read-added+row-size+type-size-s
     (type-size-at t)
     type-size.Post
     (type-size-returns t)
-    (type-size-enum-known-kind t)
-    (type-size-fundamental-size-requires t)
-    (type-size-enum-known-kind-2 t)
+    (λ c. search needs)
+    (λ c κs. search needs)
+    (λ c. search needs)
     (type-size-entry-size-requires t)
     (type-size-returns-2 t)
     (type-size-returns-3 t)

@@ -7,23 +7,8 @@ use borrow.Author.Needs.{needs}
 use Rattle.sizes.proofs.size.size_of_key.Statement.{statement}
 use Rattle.sizes.proofs.size.size_of_key.Tie as tie
 
-check-table-requires : tie.Need-check-table-requires
-check-table-requires c κs = search needs
-
-enum-told : tie.Need-enum-told
-enum-told c = search needs
-
-slice-aggregate-entry-size : tie.Need-slice-aggregate-entry-size
-slice-aggregate-entry-size c = search needs
-
-slice-aggregate-entry-size-2 : tie.Need-slice-aggregate-entry-size-2
-slice-aggregate-entry-size-2 c = search needs
-
 entry-size-requires : tie.Need-entry-size-requires
 entry-size-requires c κs = (ready (c .before .before .before .before .check-table .ensures) (c .before .before .enum-told .given .1), none-kept _ _ _ _ _ _ _)
-
-enum-known-why : tie.Need-enum-known-why
-enum-known-why c = search needs
 
 returns : tie.Need-returns
 returns c = key-sized (c .before .before .before .before .before .check-table .ensures) (c .before .before .before .enum-told .given .1) _ (c .entry-size .ensures)
@@ -36,11 +21,11 @@ pub size-of-key-spec : {M : Type 1} → statement M
 size-of-key-spec =
     tie.close
     (tie.spec
-    check-table-requires
-    enum-told
-    slice-aggregate-entry-size
-    slice-aggregate-entry-size-2
+    (λ c κs. search needs)
+    (λ c. search needs)
+    (λ c. search needs)
+    (λ c. search needs)
     entry-size-requires
-    enum-known-why
+    (λ c. search needs)
     returns
     returns-2)

@@ -5,26 +5,11 @@ use borrow.Author.Needs.{needs}
 use Rattle.tables.proofs.check.check_table.Statement.{statement}
 use Rattle.tables.proofs.check.check_table.Tie as tie
 
-settings-hold-requires : tie.Need-settings-hold-requires
-settings-hold-requires c κs = search needs
-
-refuse-requires : tie.Need-refuse-requires
-refuse-requires c κs = search needs
-
 returns : tie.Need-returns
 returns c = check-settings _ _ _ _ _ _ _ (sym (c .before .before .settings-hold .ensures) ∙ not-true _ (c .before .if1 .taken)) (c .refuse .ensures)
 
-refuse-requires-2 : tie.Need-refuse-requires-2
-refuse-requires-2 c κs = search needs
-
 returns-2 : tie.Need-returns-2
 returns-2 c = check-long _ _ _ _ _ _ _ (sym (c .before .before .before .settings-hold .ensures) ∙ not-false _ (c .before .before .if1 .left)) (c .before .if2 .taken) (c .refuse2 .ensures)
-
-table-holds-requires : tie.Need-table-holds-requires
-table-holds-requires c κs = search needs
-
-refuse-requires-3 : tie.Need-refuse-requires-3
-refuse-requires-3 c κs = search needs
 
 returns-3 : tie.Need-returns-3
 returns-3 c = check-passed _ _ _ _ _ _ _ (sym (c .before .before .before .before .settings-hold .ensures) ∙ not-false _ (c .before .before .before .if1 .left)) (c .before .before .if2 .left) (sym (c .before .table-holds .ensures) ∙ c .if3 .taken) refl
@@ -36,12 +21,12 @@ pub check-table-spec : {M : Type 1} → statement M
 check-table-spec =
     tie.close
     (tie.spec
-    settings-hold-requires
-    refuse-requires
+    (λ c κs. search needs)
+    (λ c κs. search needs)
     returns
-    refuse-requires-2
+    (λ c κs. search needs)
     returns-2
-    table-holds-requires
-    refuse-requires-3
+    (λ c κs. search needs)
+    (λ c κs. search needs)
     returns-3
     returns-4)

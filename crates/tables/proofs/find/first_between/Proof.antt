@@ -15,29 +15,8 @@ abbrev μ-loop : tie.MeasureT-loop
 loop-holds : tie.Need-loop-holds Inv-loop μ-loop
 loop-holds c = c .before .pre .1
 
-sub-middle : tie.Need-sub-middle Inv-loop μ-loop
-sub-middle c = search needs
-
-add-middle : tie.Need-add-middle Inv-loop μ-loop
-add-middle c = search needs
-
-mul-cell : tie.Need-mul-cell Inv-loop μ-loop
-mul-cell c = search needs
-
-cell-requires : tie.Need-cell-requires Inv-loop μ-loop
-cell-requires c κs = search needs
-
-add-from : tie.Need-add-from Inv-loop μ-loop
-add-from c = search needs
-
-loop-less : tie.Need-loop-less Inv-loop μ-loop
-loop-less c = search needs
-
 loop-again : tie.Need-loop-again Inv-loop μ-loop
 loop-again c = between-upper (c .before .before .before .before .before .pre .0) (c .before .before .before .loop .inv) _ (omega arith) (omega arith) (c .before .cell .ensures) (c .if1 .taken)
-
-loop-less-2 : tie.Need-loop-less-2 Inv-loop μ-loop
-loop-less-2 c = search needs
 
 loop-again-2 : tie.Need-loop-again-2 Inv-loop μ-loop
 loop-again-2 c = between-lower (c .before .before .before .before .before .pre .0) (c .before .before .before .loop .inv) _ (omega arith) (omega arith) (c .before .cell .ensures) (c .if1 .left)
@@ -52,13 +31,13 @@ first-between-spec =
     Inv-loop
     μ-loop
     loop-holds
-    sub-middle
-    add-middle
-    mul-cell
-    cell-requires
-    add-from
-    loop-less
+    (λ c. search needs)
+    (λ c. search needs)
+    (λ c. search needs)
+    (λ c κs. search needs)
+    (λ c. search needs)
+    (λ c. search needs)
     loop-again
-    loop-less-2
+    (λ c. search needs)
     loop-again-2
     returns)

@@ -6,12 +6,6 @@ use Rattle.tables.proofs.find.row_first.Tie as tie
 returns : tie.Need-returns
 returns c = row-past _ _ _ _ (c .before .before .pre .1) (c .if1 .taken)
 
-mul-cell : tie.Need-mul-cell
-mul-cell c = search needs
-
-cell-requires : tie.Need-cell-requires
-cell-requires c κs = search needs
-
 returns-2 : tie.Need-returns-2
 returns-2 c = row-here _ _ _ _ (c .before .before .before .before .pre .1) (c .before .before .if1 .left) (c .before .cell .ensures) (c .if2 .taken)
 
@@ -19,5 +13,4 @@ returns-3 : tie.Need-returns-3
 returns-3 c = row-other _ _ _ _ (c .before .before .before .before .pre .1) (c .before .before .before .before .pre .0) (c .before .before .if1 .left) (c .before .cell .ensures) (c .if2 .left)
 
 pub row-first-spec : {M : Type 1} → statement M
-row-first-spec =
-    tie.close (tie.spec returns mul-cell cell-requires returns-2 returns-3)
+row-first-spec = tie.close (tie.spec returns (λ c. search needs) (λ c κs. search needs) returns-2 returns-3)

@@ -7,24 +7,6 @@ use Rattle.tables.proofs.test.attr_holds.Tie as tie
 returns : tie.Need-returns
 returns c = attr-wide _ (now (c .before .before .before .before .args .vendors)) _ _ (λ k. c .before .before .shared-slice-known2 .given k .fits) (c .if1 .taken)
 
-cast-known-end : tie.Need-cast-known-end
-cast-known-end c = search needs
-
-cast-known-end-2 : tie.Need-cast-known-end-2
-cast-known-end-2 c = search needs
-
-known-end-requires : tie.Need-known-end-requires
-known-end-requires c κs = search needs
-
-enum-told : tie.Need-enum-told
-enum-told c = search needs
-
-enum-told-2 : tie.Need-enum-told-2
-enum-told-2 c = search needs
-
-enum-told-3 : tie.Need-enum-told-3
-enum-told-3 c = search needs
-
 returns-2 : tie.Need-returns-2
 unfolding atEnd
 returns-2 c = attr-told _ _ _ _ (c .before .before .known-end .ensures) (c .enum-told .given .1)
@@ -40,4 +22,14 @@ returns-4 c = attr-told _ _ _ _ (c .before .before .known-end .ensures) (c .enum
 pub attr-holds-spec : {M : Type 1} → statement M
 attr-holds-spec =
     tie.close
-    (tie.spec returns cast-known-end cast-known-end-2 known-end-requires enum-told enum-told-2 enum-told-3 returns-2 returns-3 returns-4)
+    (tie.spec
+    returns
+    (λ c. search needs)
+    (λ c. search needs)
+    (λ c κs. search needs)
+    (λ c. search needs)
+    (λ c. search needs)
+    (λ c. search needs)
+    returns-2
+    returns-3
+    returns-4)

@@ -4,9 +4,6 @@ use mathlib.Core.Path.{_∙_}
 use Rattle.tables.proofs.test.head_holds.Statement.{statement}
 use Rattle.tables.proofs.test.head_holds.Tie as tie
 
-cast-key : tie.Need-cast-key
-cast-key c = search needs
-
 returns : tie.Need-returns
 returns c = head-low _ _ _ (c .if1 .taken)
 
@@ -19,16 +16,18 @@ returns-3 c = head-wide _ _ _ (c .if3 .taken)
 returns-4 : tie.Need-returns-4
 returns-4 c = head-flags _ _ _ (c .if4 .taken)
 
-cast-is-tag : tie.Need-cast-is-tag
-cast-is-tag c = search needs
-
-is-tag-requires : tie.Need-is-tag-requires
-is-tag-requires c κs = search needs
-
 returns-5 : tie.Need-returns-5
 returns-5 c = c .is-tag .ensures ∙ head-kind _ _ _ (c .before .before .before .before .before .before .before .if1 .left) (c .before .before .before .before .before .before .if2 .left) (c .before .before .if4 .left)
 
 pub head-holds-spec : {M : Type 1} → statement M
 head-holds-spec =
     tie.close
-    (tie.spec cast-key returns returns-2 returns-3 returns-4 cast-is-tag is-tag-requires returns-5)
+    (tie.spec
+    (λ c. search needs)
+    returns
+    returns-2
+    returns-3
+    returns-4
+    (λ c. search needs)
+    (λ c κs. search needs)
+    returns-5)

@@ -6,17 +6,8 @@ use mathlib.Core.Path.{sym, _∙_}
 use Rattle.tables.proofs.test.row_holds.Statement.{statement}
 use Rattle.tables.proofs.test.row_holds.Tie as tie
 
-cast-count : tie.Need-cast-count
-cast-count c = search needs
-
-head-holds-requires : tie.Need-head-holds-requires
-head-holds-requires c κs = search needs
-
 returns : tie.Need-returns
 returns c = row-bad _ _ _ _ _ _ _ (sym (c .before .head-holds .ensures) ∙ not-true _ (c .if1 .taken))
-
-cast-if2 : tie.Need-cast-if2
-cast-if2 c = search needs
 
 returns-2 : tie.Need-returns-2
 returns-2 c = row-apart _ _ _ _ _ _ _ (c .if2 .taken)
@@ -27,12 +18,6 @@ returns-3 c = row-past _ _ _ _ _ _ _ (omega arith)
 returns-4 : tie.Need-returns-4
 returns-4 c = row-past _ _ _ _ _ _ _ (omega arith)
 
-endian-of-requires : tie.Need-endian-of-requires
-endian-of-requires c κs = search needs
-
-run-holds-requires : tie.Need-run-holds-requires
-run-holds-requires c κs = search needs
-
 returns-5 : tie.Need-returns-5
 returns-5 c = c .run-holds .ensures ∙ row-run _ _ _ _ _ _ _ (sym (c .before .before .before .before .before .before .before .head-holds .ensures) ∙ not-false _ (c .before .before .before .before .before .before .if1 .left)) (c .before .before .before .before .if2 .left) (omega arith) (c .before .endian-of .ensures)
 
@@ -40,13 +25,13 @@ pub row-holds-spec : {M : Type 1} → statement M
 row-holds-spec =
     tie.close
     (tie.spec
-    cast-count
-    head-holds-requires
+    (λ c. search needs)
+    (λ c κs. search needs)
     returns
-    cast-if2
+    (λ c. search needs)
     returns-2
     returns-3
     returns-4
-    endian-of-requires
-    run-holds-requires
+    (λ c κs. search needs)
+    (λ c κs. search needs)
     returns-5)

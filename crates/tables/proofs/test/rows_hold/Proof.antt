@@ -18,34 +18,13 @@ abbrev μ-loop : tie.MeasureT-loop
 loop-holds : tie.Need-loop-holds Inv-loop μ-loop
 loop-holds c = (search needs, rw sub-zero)
 
-row-at-requires : tie.Need-row-at-requires Inv-loop μ-loop
-row-at-requires c κs = search needs
-
-row-holds-requires : tie.Need-row-holds-requires Inv-loop μ-loop
-row-holds-requires c κs = search needs
-
 returns : tie.Need-returns Inv-loop μ-loop
 returns c = rows-bad _ _ _ _ _ _ _ _ _ (c .before .before .before .loop-test .taken) (c .before .before .row-at .ensures) (sym (c .before .row-holds .ensures) ∙ not-true _ (c .if1 .taken)) ∙ c .before .before .before .before .loop .inv .1
-
-cast-least : tie.Need-cast-least Inv-loop μ-loop
-cast-least c = search needs
-
-add-least : tie.Need-add-least Inv-loop μ-loop
-add-least c = search needs
-
-cast-run : tie.Need-cast-run Inv-loop μ-loop
-cast-run c = search needs
 
 add-run : tie.Need-add-run Inv-loop μ-loop
 add-run c =
     let h : c .before .before .before .before .before .before .loop .run + c .before .before .before .before .row-at .result .count ≤ c .before .before .before .before .before .before .before .before .before .before .before .args .total = row-passed _ _ _ _ _ _ _ (sym (c .before .before .before .row-holds .ensures) ∙ not-false _ (c .before .before .if1 .left)) .run-inside in
     omega arith
-
-add-i : tie.Need-add-i Inv-loop μ-loop
-add-i c = search needs
-
-loop-less : tie.Need-loop-less Inv-loop μ-loop
-loop-less c = search needs
 
 loop-again : tie.Need-loop-again Inv-loop μ-loop
 loop-again c = (search needs, rows-next _ _ _ _ _ _ _ _ _ (c .before .before .before .before .before .loop-test .taken) (c .before .before .before .before .row-at .ensures) (sym (c .before .before .before .row-holds .ensures) ∙ not-false _ (c .before .before .if1 .left)) ∙ c .before .before .before .before .before .before .loop .inv .1)
@@ -60,14 +39,14 @@ rows-hold-spec =
     Inv-loop
     μ-loop
     loop-holds
-    row-at-requires
-    row-holds-requires
+    (λ c κs. search needs)
+    (λ c κs. search needs)
     returns
-    cast-least
-    add-least
-    cast-run
+    (λ c. search needs)
+    (λ c. search needs)
+    (λ c. search needs)
     add-run
-    add-i
-    loop-less
+    (λ c. search needs)
+    (λ c. search needs)
     loop-again
     returns-2)

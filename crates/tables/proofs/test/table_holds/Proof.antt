@@ -7,23 +7,14 @@ use Rattle.tables.proofs.test.table_holds.Tie as tie
 returns : tie.Need-returns
 returns c = table-many-rows _ _ _ _ _ (c .if1 .taken)
 
-mul-if2 : tie.Need-mul-if2
-mul-if2 c = search needs
-
 returns-2 : tie.Need-returns-2
 returns-2 c = table-short-rows _ _ _ _ _ (c .if2 .taken)
 
 returns-3 : tie.Need-returns-3
 returns-3 c = table-many-attrs _ _ _ _ _ (c .if3 .taken)
 
-mul-if4 : tie.Need-mul-if4
-mul-if4 c = search needs
-
 returns-4 : tie.Need-returns-4
 returns-4 c = table-short-attrs _ _ _ _ _ (c .if4 .taken)
-
-rows-hold-requires : tie.Need-rows-hold-requires
-rows-hold-requires c κs = search needs
 
 returns-5 : tie.Need-returns-5
 returns-5 c = c .rows-hold .ensures ∙ table-rows _ _ _ _ _ (c .before .before .before .before .if1 .left) (c .before .before .before .if2 .left) (c .before .before .if3 .left) (c .before .if4 .left)
@@ -31,4 +22,12 @@ returns-5 c = c .rows-hold .ensures ∙ table-rows _ _ _ _ _ (c .before .before 
 pub table-holds-spec : {M : Type 1} → statement M
 table-holds-spec =
     tie.close
-    (tie.spec returns mul-if2 returns-2 returns-3 mul-if4 returns-4 rows-hold-requires returns-5)
+    (tie.spec
+    returns
+    (λ c. search needs)
+    returns-2
+    returns-3
+    (λ c. search needs)
+    returns-4
+    (λ c κs. search needs)
+    returns-5)

@@ -4,17 +4,11 @@ use denote.Ref.{now}
 use Rattle.tables.proofs.words.cell.Statement.{statement}
 use Rattle.tables.proofs.words.cell.Tie as tie
 
-mul-result : tie.Need-mul-result
-mul-result c = search needs
-
 shared-slice-read-result : tie.Need-shared-slice-read-result
 shared-slice-read-result c = search needs
-
-returns : tie.Need-returns
-returns c = search needs
 
 returns-2 : tie.Need-returns-2
 returns-2 c = word-none (now (c .before .args .t)) _ (c .if1 .left)
 
 pub cell-spec : {M : Type 1} → statement M
-cell-spec = tie.close (tie.spec mul-result shared-slice-read-result returns returns-2)
+cell-spec = tie.close (tie.spec (λ c. search needs) shared-slice-read-result (λ c. search needs) returns-2)

@@ -5,14 +5,8 @@ use mathlib.Core.Path.{sym}
 use Rattle.tables.proofs.words.put.Statement.{statement}
 use Rattle.tables.proofs.words.put.Tie as tie
 
-mul-t : tie.Need-mul-t
-mul-t c = search needs
-
 slice-write-t : tie.Need-slice-write-t
 slice-write-t c = search needs
-
-same-length : tie.Need-same-length
-same-length c = search needs
 
 returns : tie.Need-returns
 returns c = search needs
@@ -21,4 +15,4 @@ returns-2 : tie.Need-returns-2
 returns-2 c = sym (set-out (now (c .before .args .t)) (c .before .args .i) (c .before .args .v) (c .if1 .left))
 
 pub put-spec : {M : Type 1} → statement M
-put-spec = tie.close (tie.spec mul-t slice-write-t same-length returns returns-2)
+put-spec = tie.close (tie.spec (λ c. search needs) slice-write-t (λ c. search needs) returns returns-2)

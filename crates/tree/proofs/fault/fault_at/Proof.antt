@@ -4,9 +4,6 @@ use borrow.Author.Needs.{needs}
 use Rattle.tree.proofs.fault.fault_at.Statement.{statement}
 use Rattle.tree.proofs.fault.fault_at.Tie as tie
 
-end-of-requires : tie.Need-end-of-requires
-end-of-requires c κs = search needs
-
 first-further-requires : tie.Need-first-further-requires
 first-further-requires c κs = record {
   rising = c .before .before .before .before .before .pre .rising;
@@ -21,4 +18,4 @@ returns-2 : tie.Need-returns-2
 returns-2 c = fault-along _ _ _ _ (c .before .before .end-of .ensures) (c .before .if1 .left) (c .first-further .ensures)
 
 pub fault-at-spec : {M : Type 1} → statement M
-fault-at-spec = tie.close (tie.spec end-of-requires first-further-requires returns returns-2)
+fault-at-spec = tie.close (tie.spec (λ c κs. search needs) first-further-requires returns returns-2)

@@ -18,14 +18,8 @@ abbrev μ-loop : tie.MeasureT-loop
 loop-holds : tie.Need-loop-holds Inv-loop μ-loop
 loop-holds c = (le-refl _, fault-begin _ _)
 
-sub-i : tie.Need-sub-i Inv-loop μ-loop
-sub-i c = search needs
-
 fault-at-requires : tie.Need-fault-at-requires Inv-loop μ-loop
 fault-at-requires c κs = record { rising = c .before .before .before .before .before .pre; there = omega arith }
-
-loop-less : tie.Need-loop-less Inv-loop μ-loop
-loop-less c = search needs
 
 loop-again : tie.Need-loop-again Inv-loop μ-loop
 loop-again c = (
@@ -39,4 +33,4 @@ returns c = fault-all _ _ _ (c .loop-test .left) (c .before .loop .inv .1)
 pub first-fault-spec : {M : Type 1} → statement M
 first-fault-spec =
     tie.close
-    (tie.spec Inv-loop μ-loop loop-holds sub-i fault-at-requires loop-less loop-again returns)
+    (tie.spec Inv-loop μ-loop loop-holds (λ c. search needs) fault-at-requires (λ c. search needs) loop-again returns)

@@ -38,9 +38,6 @@ returns-3 c =
     along-past (c .before .before .before .before .before .loop .inv) (c .before .before .before .before .loop-test .taken)
     (c .before .before .end-of .ensures) (c .before .before .before .if1 .left) (c .before .if2 .left) (c .if3 .taken)
 
-loop-less : tie.Need-loop-less Inv-loop μ-loop
-loop-less c = search needs
-
 loop-again : tie.Need-loop-again Inv-loop μ-loop
 loop-again c =
     along-next (c .before .before .before .before .before .loop .inv) (c .before .before .before .before .loop-test .taken)
@@ -61,6 +58,6 @@ first-further-spec =
     end-of-requires
     returns-2
     returns-3
-    loop-less
+    (λ c. search needs)
     loop-again
     returns-4)

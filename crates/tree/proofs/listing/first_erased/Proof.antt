@@ -17,20 +17,8 @@ abbrev μ-loop : tie.MeasureT-loop
 loop-holds : tie.Need-loop-holds Inv-loop μ-loop
 loop-holds c = (search needs, erased-begin _ _)
 
-row-at-requires : tie.Need-row-at-requires Inv-loop μ-loop
-row-at-requires c κs = search needs
-
-is-erased-requires : tie.Need-is-erased-requires Inv-loop μ-loop
-is-erased-requires c κs = search needs
-
 returns : tie.Need-returns Inv-loop μ-loop
 returns c = erased-here _ _ _ (c .before .before .before .loop-test .taken) (c .before .before .row-at .ensures) (c .before .is-erased .ensures) (c .if1 .taken) ∙ c .before .before .before .before .loop .inv .1
-
-add-i : tie.Need-add-i Inv-loop μ-loop
-add-i c = search needs
-
-loop-less : tie.Need-loop-less Inv-loop μ-loop
-loop-less c = search needs
 
 loop-again : tie.Need-loop-again Inv-loop μ-loop
 loop-again c = (search needs, erased-not _ _ _ (c .before .before .before .loop-test .taken) (c .before .before .row-at .ensures) (c .before .is-erased .ensures) (c .if1 .left) ∙ c .before .before .before .before .loop .inv .1)
@@ -45,10 +33,10 @@ first-erased-spec =
     Inv-loop
     μ-loop
     loop-holds
-    row-at-requires
-    is-erased-requires
+    (λ c κs. search needs)
+    (λ c κs. search needs)
     returns
-    add-i
-    loop-less
+    (λ c. search needs)
+    (λ c. search needs)
     loop-again
     returns-2)

@@ -4,41 +4,14 @@ use borrow.Author.Needs.{needs}
 use Rattle.tree.proofs.listing.list.Statement.{statement}
 use Rattle.tree.proofs.listing.list.Tie as tie
 
-first-erased-requires : tie.Need-first-erased-requires
-first-erased-requires c κs = search needs
-
-fault-at-row-requires : tie.Need-fault-at-row-requires
-fault-at-row-requires c κs = search needs
-
 returns : tie.Need-returns
 returns c = list-erased _ _ _ _ (c .before .before .first-erased .ensures) (c .before .if1 .taken) (c .fault-at-row .ensures)
-
-first-fault-requires : tie.Need-first-fault-requires
-first-fault-requires c κs = search needs
-
-fault-at-row-requires-2 : tie.Need-fault-at-row-requires-2
-fault-at-row-requires-2 c κs = search needs
 
 returns-2 : tie.Need-returns-2
 returns-2 c = list-fault _ _ _ _ (c .before .before .before .before .first-erased .ensures) (c .before .before .before .if1 .left) (reaching _ _ _ _ _) (c .before .before .first-fault .ensures) (c .before .if2 .taken) (c .fault-at-row2 .ensures)
 
-first-deep-requires : tie.Need-first-deep-requires
-first-deep-requires c κs = search needs
-
-fault-at-row-requires-3 : tie.Need-fault-at-row-requires-3
-fault-at-row-requires-3 c κs = search needs
-
 returns-3 : tie.Need-returns-3
 returns-3 c = list-deep _ _ _ _ (c .before .before .before .before .before .before .first-erased .ensures) (c .before .before .before .before .before .if1 .left) (reaching _ _ _ _ _) (c .before .before .before .before .first-fault .ensures) (c .before .before .before .if2 .left) (c .before .before .first-deep .ensures) (c .before .if3 .taken) (c .fault-at-row3 .ensures)
-
-mul-if4 : tie.Need-mul-if4
-mul-if4 c = search needs
-
-list-rows-requires : tie.Need-list-rows-requires
-list-rows-requires c κs = search needs
-
-same-length : tie.Need-same-length
-same-length c = search needs
 
 returns-4 : tie.Need-returns-4
 returns-4 c = list-given _ _ _ _ (c .before .before .before .before .before .before .before .before .before .before .first-erased .ensures) (c .before .before .before .before .before .before .before .before .before .if1 .left) (reaching _ _ _ _ _) (c .before .before .before .before .before .before .before .before .first-fault .ensures) (c .before .before .before .before .before .before .before .if2 .left) (c .before .before .before .before .before .before .first-deep .ensures) (c .before .before .before .before .before .if3 .left) (c .before .before .before .before .if4 .taken) (c .before .before .list-rows .ensures)
@@ -50,17 +23,17 @@ pub list-spec : {M : Type 1} → statement M
 list-spec =
     tie.close
     (tie.spec
-    first-erased-requires
-    fault-at-row-requires
+    (λ c κs. search needs)
+    (λ c κs. search needs)
     returns
-    first-fault-requires
-    fault-at-row-requires-2
+    (λ c κs. search needs)
+    (λ c κs. search needs)
     returns-2
-    first-deep-requires
-    fault-at-row-requires-3
+    (λ c κs. search needs)
+    (λ c κs. search needs)
     returns-3
-    mul-if4
-    list-rows-requires
-    same-length
+    (λ c. search needs)
+    (λ c κs. search needs)
+    (λ c. search needs)
     returns-4
     returns-5)

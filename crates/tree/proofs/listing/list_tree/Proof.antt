@@ -4,20 +4,8 @@ use borrow.Author.Needs.{needs}
 use Rattle.tree.proofs.listing.list_tree.Statement.{statement}
 use Rattle.tree.proofs.listing.list_tree.Tie as tie
 
-check-table-requires : tie.Need-check-table-requires
-check-table-requires c κs = search needs
-
-enum-told : tie.Need-enum-told
-enum-told c = search needs
-
 list-requires : tie.Need-list-requires
 list-requires c κs = tested-rows (c .before .before .before .check-table .ensures) (c .before .enum-told .given .1)
-
-enum-known-why : tie.Need-enum-known-why
-enum-known-why c = search needs
-
-same-length : tie.Need-same-length
-same-length c = search needs
 
 returns : tie.Need-returns
 returns c = tree-passed _ _ _ _ _ _ _ _ (c .before .before .before .before .before .before .check-table .ensures) (c .before .before .before .before .enum-told .given .1) (c .before .before .list .ensures)
@@ -29,10 +17,10 @@ pub list-tree-spec : {M : Type 1} → statement M
 list-tree-spec =
     tie.close
     (tie.spec
-    check-table-requires
-    enum-told
+    (λ c κs. search needs)
+    (λ c. search needs)
     list-requires
-    enum-known-why
-    same-length
+    (λ c. search needs)
+    (λ c. search needs)
     returns
     returns-2)

@@ -14,23 +14,8 @@ abbrev μ-loop : tie.MeasureT-loop
 loop-holds : tie.Need-loop-holds Inv-loop μ-loop
 loop-holds c = refl
 
-sub-cell : tie.Need-sub-cell Inv-loop μ-loop
-sub-cell c = search needs
-
-cell-requires : tie.Need-cell-requires Inv-loop μ-loop
-cell-requires c κs = search needs
-
-cast-end : tie.Need-cast-end Inv-loop μ-loop
-cast-end c = search needs
-
 returns : tie.Need-returns Inv-loop μ-loop
 returns c = height-here _ _ _ _ (c .before .before .before .loop .inv) (c .before .before .loop-test .taken) (c .before .cell .ensures) (c .if1 .taken)
-
-sub-k : tie.Need-sub-k Inv-loop μ-loop
-sub-k c = search needs
-
-loop-less : tie.Need-loop-less Inv-loop μ-loop
-loop-less c = search needs
 
 loop-again : tie.Need-loop-again Inv-loop μ-loop
 loop-again c = height-less _ _ _ _ (c .before .before .before .loop .inv) (c .before .before .loop-test .taken) (c .before .cell .ensures) (c .if1 .left)
@@ -45,11 +30,11 @@ close-spec =
     Inv-loop
     μ-loop
     loop-holds
-    sub-cell
-    cell-requires
-    cast-end
+    (λ c. search needs)
+    (λ c κs. search needs)
+    (λ c. search needs)
     returns
-    sub-k
-    loop-less
+    (λ c. search needs)
+    (λ c. search needs)
     loop-again
     returns-2)

@@ -17,62 +17,20 @@ abbrev μ-loop : tie.MeasureT-loop
 loop-holds : tie.Need-loop-holds Inv-loop μ-loop
 loop-holds c = pass-begin _ _ _ _ _ refl refl
 
-slice-aggregate-close : tie.Need-slice-aggregate-close Inv-loop μ-loop
-slice-aggregate-close c = omega arith
-
-close-requires : tie.Need-close-requires Inv-loop μ-loop
-close-requires c κs = search needs
-
 same-length : tie.Need-same-length Inv-loop μ-loop
 same-length c = pass-length (c .before .before .before .before .loop .inv)
 
 returns : tie.Need-returns Inv-loop μ-loop
 returns c = pass-deep (c .before .before .before .before .loop .inv) (c .before .close .ensures) (c .if1 .taken) (c .before .before .before .loop-test .taken)
 
-slice-aggregate-nearest-of : tie.Need-slice-aggregate-nearest-of Inv-loop μ-loop
-slice-aggregate-nearest-of c = omega arith
-
-nearest-of-requires : tie.Need-nearest-of-requires Inv-loop μ-loop
-nearest-of-requires c κs = search needs
-
-cast-put-place : tie.Need-cast-put-place Inv-loop μ-loop
-cast-put-place c = omega arith
-
-put-place-requires : tie.Need-put-place-requires Inv-loop μ-loop
-put-place-requires c κs = search needs
-
-slice-aggregate-put : tie.Need-slice-aggregate-put Inv-loop μ-loop
-slice-aggregate-put c = omega arith
-
-add-put : tie.Need-add-put Inv-loop μ-loop
-add-put c = search needs
-
 cast-put : tie.Need-cast-put Inv-loop μ-loop
 cast-put c = omega (arith, c .before .before .before .before .before .before .before .before .before .before .before .before .before .before .before .before .pre .few)
-
-put-requires : tie.Need-put-requires Inv-loop μ-loop
-put-requires c κs = search needs
 
 end-of-requires : tie.Need-end-of-requires Inv-loop μ-loop
 end-of-requires c κs = record { rising = c .before .before .before .before .before .before .before .before .before .before .before .before .before .before .before .before .before .before .pre .rising; there = c .before .before .before .before .before .before .before .before .before .before .before .before .loop-test .taken }
 
-slice-aggregate-put-2 : tie.Need-slice-aggregate-put-2 Inv-loop μ-loop
-slice-aggregate-put-2 c = omega arith
-
 cast-put-2 : tie.Need-cast-put-2 Inv-loop μ-loop
 cast-put-2 c = omega (arith, c .before .before .before .before .before .before .before .before .before .before .before .before .before .before .before .before .before .before .before .before .pre .few, reach-within _ _ _ _ _ _ (c .before .before .before .before .before .before .before .before .before .before .before .before .before .before .loop-test .taken) (c .before .end-of .ensures))
-
-put-requires-2 : tie.Need-put-requires-2 Inv-loop μ-loop
-put-requires-2 c κs = search needs
-
-add-h : tie.Need-add-h Inv-loop μ-loop
-add-h c = search needs
-
-add-j : tie.Need-add-j Inv-loop μ-loop
-add-j c = search needs
-
-loop-less : tie.Need-loop-less Inv-loop μ-loop
-loop-less c = omega arith
 
 loop-again : tie.Need-loop-again Inv-loop μ-loop
 loop-again c = pass-next (c .before .before .before .before .before .before .before .before .before .before .before .before .before .before .before .before .before .loop .inv) (c .before .before .before .before .before .before .before .before .before .before .before .before .before .before .close .ensures) (c .before .before .before .before .before .before .before .before .before .before .before .before .before .if1 .left) (c .before .before .before .before .before .before .before .before .before .before .before .before .before .before .before .before .loop-test .taken) (c .before .before .before .before .before .before .before .before .before .before .before .nearest-of .ensures) (c .before .before .before .before .before .before .before .before .before .put-place .ensures) (c .before .before .before .before .before .put .ensures) (c .before .before .before .end-of .ensures) (c .before .put2 .ensures)
@@ -90,25 +48,25 @@ list-rows-spec =
     Inv-loop
     μ-loop
     loop-holds
-    slice-aggregate-close
-    close-requires
+    (λ c. omega arith)
+    (λ c κs. search needs)
     same-length
     returns
-    slice-aggregate-nearest-of
-    nearest-of-requires
-    cast-put-place
-    put-place-requires
-    slice-aggregate-put
-    add-put
+    (λ c. omega arith)
+    (λ c κs. search needs)
+    (λ c. omega arith)
+    (λ c κs. search needs)
+    (λ c. omega arith)
+    (λ c. search needs)
     cast-put
-    put-requires
+    (λ c κs. search needs)
     end-of-requires
-    slice-aggregate-put-2
+    (λ c. omega arith)
     cast-put-2
-    put-requires-2
-    add-h
-    add-j
-    loop-less
+    (λ c κs. search needs)
+    (λ c. search needs)
+    (λ c. search needs)
+    (λ c. omega arith)
     loop-again
     same-length-2
     returns-2)

@@ -5,24 +5,6 @@ use mathlib.Core.Path.{_∙_}
 use Rattle.tree.proofs.reach.end_of.Statement.{statement}
 use Rattle.tree.proofs.reach.end_of.Tie as tie
 
-reference-of-requires : tie.Need-reference-of-requires
-reference-of-requires c κs = search needs
-
-enum-known-key : tie.Need-enum-known-key
-enum-known-key c = search needs
-
-cast-if1 : tie.Need-cast-if1
-cast-if1 c = search needs
-
-later-row-requires : tie.Need-later-row-requires
-later-row-requires c κs = search needs
-
-enum-told : tie.Need-enum-told
-enum-told c = search needs
-
-add-result : tie.Need-add-result
-add-result c = search needs
-
 returns : tie.Need-returns
 returns c = reach-all _ _ _ _ _ _ (c .before .before .before .before .reference-of .ensures) (c .before .before .key .given .1) (c .if1 .taken)
 
@@ -36,12 +18,12 @@ pub end-of-spec : {M : Type 1} → statement M
 end-of-spec =
     tie.close
     (tie.spec
-    reference-of-requires
-    enum-known-key
-    cast-if1
-    later-row-requires
-    enum-told
-    add-result
+    (λ c κs. search needs)
+    (λ c. search needs)
+    (λ c. search needs)
+    (λ c κs. search needs)
+    (λ c. search needs)
+    (λ c. search needs)
     returns
     returns-2
     returns-3)

@@ -3,15 +3,6 @@ use borrow.Author.Needs.{needs}
 use Rattle.tree.proofs.reach.later_row.Statement.{statement}
 use Rattle.tree.proofs.reach.later_row.Tie as tie
 
-find-row-near-requires : tie.Need-find-row-near-requires
-find-row-near-requires c κs = search needs
-
-enum-known-j : tie.Need-enum-known-j
-enum-known-j c = search needs
-
-enum-told : tie.Need-enum-told
-enum-told c = search needs
-
 returns : tie.Need-returns
 returns c = later-named _ (c .before .before .before .before .find-row-near .ensures) (c .before .before .j .given .1) (c .if1 .taken)
 
@@ -23,4 +14,5 @@ returns-3 c = none-named _ (c .before .before .find-row-near .ensures) (c .enum-
 
 pub later-row-spec : {M : Type 1} → statement M
 later-row-spec =
-    tie.close (tie.spec find-row-near-requires enum-known-j enum-told returns returns-2 returns-3)
+    tie.close
+    (tie.spec (λ c κs. search needs) (λ c. search needs) (λ c. search needs) returns returns-2 returns-3)
