@@ -5,6 +5,7 @@ use crate::subscript::next_subscript;
 use crate::types::Type;
 use format::refusal::Reason;
 use format::refusal::Refusal;
+use lent::cells::put_cell;
 use numbers::Endian;
 ghost use mathlib.Core.Path.{_≡_};
 ghost use Prim.Native.Nat.{_*_};
@@ -35,21 +36,12 @@ pub enum Subscripts {
     Room { dimensions: usize },
 }
 
-// A word is stored only where it fits.
-fn put(t: &mut [u32], i: usize, v: u32)
-    ensures { λ _. ⌜ now (t .exit) ≡ set (now (t .entry)) i v ⌝ }
-{
-    if i < t.len() {
-        t[i] = v;
-    }
-}
-
 fn put_dimension(t: &mut [u32], n: usize, index: u16, size: u32)
     ensures { λ _. ⌜ now (t .exit) ≡ sets (now (t .entry)) (n * 2) (dimensionWords index size) ⌝ }
 {
     if n < t.len() {
-        put(t, n * DIMENSION_WIDTH, index as u32);
-        put(t, n * DIMENSION_WIDTH + 1, size);
+        put_cell(t, n * DIMENSION_WIDTH, index as u32);
+        put_cell(t, n * DIMENSION_WIDTH + 1, size);
     }
 }
 

@@ -33,9 +33,9 @@ use format::modifier::Modifier;
 use format::refusal::Reason;
 use format::refusal::Refusal;
 use format::settings::Producer;
+use lent::cells::cell;
 use numbers::Endian;
 use std::num::wrapping_add_usize;
-use tables::words::cell;
 
 fn located(body: &[u8], c: Cursor, found: Located) -> Cursor {
     match found {

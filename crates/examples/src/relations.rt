@@ -14,6 +14,7 @@ use crate::values::ends_by;
 use format::refusal::Refusal;
 use format::refusal::reason_of;
 use format::settings::Settings;
+use lent::cells::cell;
 use links::children::ChildRows;
 use links::children::children;
 use links::neighbour::Neighbour;
@@ -33,7 +34,6 @@ use sizes::size::size_of_key;
 use sizes::sized::Sized;
 use tables::row::Counts;
 use tables::row::row_at;
-use tables::words::cell;
 
 fn child_keys(body: &[u8], c: Cursor, rows: &[u32], room: &[u32], n: usize) -> Cursor {
     let mut d = count(body, c, n);

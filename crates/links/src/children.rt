@@ -4,6 +4,7 @@ use crate::link::sibling_row;
 use format::refusal::Reason;
 use format::refusal::Refusal;
 use format::settings::Settings;
+use lent::cells::put_cell;
 use numbers::Endian;
 use tables::check::Check;
 use tables::check::check_table;
@@ -11,7 +12,6 @@ use tables::find::Found;
 use tables::find::find_row;
 use tables::row::Counts;
 use tables::row::row_at;
-use tables::words::put;
 ghost use mathlib.Core.Path.{_≡_};
 ghost use Rattle.tables.specs.Check.{refusedAt};
 ghost use Rattle.links.specs.Walk.{walkFrom};
@@ -44,7 +44,7 @@ fn take_child(rows: &[u32], c: usize, room: &mut [u32], k: usize) -> usize
     if row.kind == 0 {
         k
     } else {
-        put(room, k, c as u32);
+        put_cell(room, k, c as u32);
         k + 1
     }
 }

@@ -1,5 +1,5 @@
 // A number's digits in a base.
-use crate::bytes::put;
+use lent::bytes::put_byte;
 ghost use mathlib.Core.Path.{_≡_};
 ghost use Prim.Native.Nat.{_≤_, _<_};
 ghost use lib.Seq.{sets};
@@ -23,7 +23,7 @@ pub fn write_digits(rest: &mut [u8], base: u64, w: usize, v: u64)
     let mut left = v;
     while i > 0 {
         i -= 1;
-        put(rest, i, glyph(left % base));
+        put_byte(rest, i, glyph(left % base));
         left = left / base;
     }
 }

@@ -1,7 +1,6 @@
 // The listing program: a section from standard input, its listing to standard output. Read `report` (what is printed for an input), `page` (its lines), `line`; below them
 // `hex`, `decimal`, `digits`, `text` and `bytes` write fields. What it prints: specs/Report.antt and specs/Text.antt.
 // `io::read_full` does not tell a read error from the end of input: after an error, what was read before it is listed.
-mod bytes;
 mod decimal;
 mod digits;
 mod hex;

@@ -1,8 +1,8 @@
 // The lines of a listing, one after the other in one page.
 use crate::line::write_header;
 use crate::line::write_row;
+use lent::cells::cell;
 use tables::row::row_at;
-use tables::words::cell;
 ghost use Prim.Native.Nat.{suc, _+_, _*_, _^_, _≤_, _<_};
 ghost use Rattle.listing.specs.Text.{lineLimit, rowsText, listingText};
 ghost use Rattle.listing.specs.Put.{Put, Printed};

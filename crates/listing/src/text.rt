@@ -1,5 +1,5 @@
 // Fixed words.
-use crate::bytes::put;
+use lent::bytes::put_byte;
 ghost use Rattle.listing.specs.Put.{Put};
 
 // Writes the text at the beginning of a line's rest, and answers how many bytes it has.
@@ -8,7 +8,7 @@ pub fn write_text(rest: &mut [u8], text: &[u8]) -> usize
 {
     let mut i = 0;
     while i < text.len() {
-        put(rest, i, text[i]);
+        put_byte(rest, i, text[i]);
         i += 1;
     }
     i

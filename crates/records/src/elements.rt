@@ -1,11 +1,11 @@
 // The element list of an enumeration: pairs of a value and a name. A width of 0 says that only names are read and nothing is listed.
+use crate::counted::Counted;
 use crate::fields::Word;
 use crate::scan::refused;
-use crate::words::Counted;
-use crate::words::put_value;
-use crate::words::put_word;
 use attributes::text::zero_from;
 use format::refusal::Reason;
+use lent::values::put_value;
+use lent::words::put_word;
 use numbers::Endian;
 use numbers::signed::ReadSigned;
 use numbers::signed::i8_at;

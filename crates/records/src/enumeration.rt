@@ -1,4 +1,5 @@
 // Enumerations: the Rust's `process_enumeration_tag`.
+use crate::counted::Counted;
 use crate::elements::Slots;
 use crate::elements::list_width;
 use crate::elements::read_list;
@@ -21,7 +22,6 @@ use crate::scan::attribute_fault;
 use crate::scan::run_of;
 use crate::scan::scan_from;
 use crate::taken::Record;
-use crate::words::Counted;
 use attributes::decode::block4;
 use format::attribute_kind::BYTE_SIZE;
 use format::attribute_kind::NAME;

@@ -3,6 +3,7 @@
 // `process_overlay_branch`. `taken` says which attributes each takes, `scan` goes over them, `fields` picks what counts, `front` is what comes before the fields;
 // then a file for each record, with `elements` for an enumeration's list and `member_words` and `words` for what goes into lent room. What it means: the specs of the
 // same names.
+pub mod counted;
 pub mod elements;
 pub mod enumeration;
 pub mod fields;
@@ -17,4 +18,3 @@ pub mod taken;
 pub mod typedef;
 pub mod unions;
 pub mod variable;
-pub mod words;

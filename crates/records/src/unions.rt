@@ -1,4 +1,5 @@
 // Unions: the Rust's `process_union_tag`. Their members' records go into lent room, in words.
+use crate::counted::Counted;
 use crate::fields::Name;
 use crate::fields::Needed;
 use crate::fields::last_name;
@@ -14,7 +15,6 @@ use crate::scan::Run;
 use crate::scan::refused;
 use crate::scan::run_of;
 use crate::taken::Record;
-use crate::words::Counted;
 use format::attribute_kind::BYTE_SIZE;
 use format::attribute_kind::NAME;
 use format::refusal::Reason;

@@ -3,7 +3,8 @@ use crate::sized::Sized;
 use format::refusal::Refusal;
 use format::refusal::number_of;
 use format::refusal::reason_of;
-use records::words::put_word;
+use lent::words::put_word;
+use lent::words::word;
 ghost use mathlib.Core.Path.{_≡_};
 ghost use Prim.Native.Nat.{_+_, _*_, _≤_};
 ghost use mathlib.Core.List.{[], _∷_};
@@ -15,13 +16,6 @@ ghost use Rattle.sizes.specs.declared.sized.Sized.the-variants.{Is, Refu
 // The words of a size.
 pub const KNOWN_WIDTH: usize = 3;
 
-// A word; 0 past the end.
-fn word_at(t: &[u64], i: usize) -> u64
-    ensures { λ r. ⌜ r ≡ getD (now (t .entry)) i 0 ⌝ }
-{
-    if i < t.len() { t[i] } else { 0 }
-}
-
 // The size of row i.
 pub fn known_at(known: &[u64], i: usize) -> Sized
     ensures { λ r. ⌜ r ≡ knownAt (now (known .entry)) i ⌝ }
@@ -30,13 +24,13 @@ pub fn known_at(known: &[u64], i: usize) -> Sized
         return Sized::Is(0);
     }
     let at = i * KNOWN_WIDTH;
-    let number = word_at(known, at);
+    let number = word(known, at);
     if number == 0 {
-        Sized::Is((word_at(known, at + 1) % 4294967296) as u32)
+        Sized::Is((word(known, at + 1) % 4294967296) as u32)
     } else {
         Sized::Refused(Refusal {
             reason: reason_of((number % 4294967296) as u32),
-            place: word_at(known, at + 2),
+            place: word(known, at + 2),
         })
     }
 }

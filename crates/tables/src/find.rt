@@ -1,6 +1,6 @@
 // The row of a key, by bisection: a tested table's keys rise.
 use crate::row::ROW_WIDTH;
-use crate::words::cell;
+use lent::cells::cell;
 ghost use mathlib.Core.Path.{_≡_};
 ghost use Prim.Native.Nat.{_<_};
 ghost use Rattle.tables.specs.Find.{rowOfKey};

@@ -6,4 +6,3 @@ pub mod find;
 pub mod row;
 pub mod store;
 pub mod test;
-pub mod words;

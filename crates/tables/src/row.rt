@@ -1,5 +1,5 @@
 // What a table holds: a row for each entry, an attribute for each attribute, and how many of each.
-use crate::words::cell;
+use lent::cells::cell;
 use numbers::Endian;
 ghost use mathlib.Core.Path.{_≡_};
 ghost use Rattle.tables.specs.Row.{rowAt, attrAt, endianOf, erasedRow};

@@ -3,7 +3,7 @@ use crate::row::ATTR_WIDTH;
 use crate::row::Attr;
 use crate::row::ROW_WIDTH;
 use crate::row::Row;
-use crate::words::put;
+use lent::cells::put_cell;
 ghost use mathlib.Core.Path.{_≡_};
 ghost use Rattle.tables.specs.Row.{putRow, putAttr};
 
@@ -12,11 +12,11 @@ pub fn put_row(rows: &mut [u32], i: usize, row: Row)
 {
     if i < rows.len() {
         let at = i * ROW_WIDTH;
-        put(rows, at, row.key);
-        put(rows, at + 1, row.kind);
-        put(rows, at + 2, row.flags);
-        put(rows, at + 3, row.first);
-        put(rows, at + 4, row.count);
+        put_cell(rows, at, row.key);
+        put_cell(rows, at + 1, row.kind);
+        put_cell(rows, at + 2, row.flags);
+        put_cell(rows, at + 3, row.first);
+        put_cell(rows, at + 4, row.count);
     }
 }
 
@@ -25,7 +25,7 @@ pub fn put_attr(attrs: &mut [u32], i: usize, attr: Attr)
 {
     if i < attrs.len() {
         let at = i * ATTR_WIDTH;
-        put(attrs, at, attr.number);
-        put(attrs, at + 1, attr.value);
+        put_cell(attrs, at, attr.number);
+        put_cell(attrs, at + 1, attr.value);
     }
 }

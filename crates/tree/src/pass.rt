@@ -2,9 +2,9 @@
 use crate::listing::PLACE_WIDTH;
 use crate::reach::end_of;
 use format::limits::DEPTH_LIMIT;
+use lent::cells::cell;
+use lent::cells::put_cell;
 use numbers::Endian;
-use tables::words::cell;
-use tables::words::put;
 ghost use mathlib.Core.Path.{_≡_};
 ghost use mathlib.Core.List.{[], _∷_};
 ghost use Prim.Native.Nat.{_*_};
@@ -46,8 +46,8 @@ fn put_place(room: &mut [u32], i: usize, depth: u32, parent: u32)
 {
     if i < room.len() {
         let at = i * PLACE_WIDTH;
-        put(room, at, depth);
-        put(room, at + 1, parent);
+        put_cell(room, at, depth);
+        put_cell(room, at + 1, parent);
     }
 }
 
@@ -74,9 +74,9 @@ pub fn list_rows(
         }
         let parent = nearest_of(&stack, h);
         put_place(room, j, h as u32, parent);
-        put(&mut stack, h, (j + 1) as u32);
+        put_cell(&mut stack, h, (j + 1) as u32);
         let end = end_of(s, e, rows, attrs, n, j);
-        put(&mut ends, h, end as u32);
+        put_cell(&mut ends, h, end as u32);
         h += 1;
         j += 1;
     }

@@ -1,61 +1,56 @@
--- No second answer fits: two results that meet a public function's contract at the same inputs are the same result; of a part that is handed
--- back, the same bytes.
-use Prim.Native.Nat.{ℕ}
-use mathlib.Core.Path.{_≡_}
-use mathlib.Core.List.{List}
-use Rattle.numbers.proofs.Laws.Only.{only}
-use Rattle.numbers.specs.declared.Endian.{Endian}
-use Rattle.numbers.specs.declared.unsigned.Read16.{Read16}
-use Rattle.numbers.specs.declared.unsigned.Read32.{Read32}
-use Rattle.numbers.specs.declared.unsigned.Read64.{Read64}
-use Rattle.format.specs.declared.form_kind.FormKind.{FormKind}
-use Rattle.attributes.specs.Text.{zeroFrom}
-use Rattle.attributes.specs.End.{valueEnd}
-use Rattle.attributes.specs.Read.{readAttribute}
-use Rattle.attributes.specs.Decode.{addressAt, referenceAt, data2At, data4At, data8At}
-use Rattle.attributes.specs.Parts.{partAt, blockAt, textAt}
-use Rattle.attributes.specs.declared.value.End.{End}
-use Rattle.attributes.specs.declared.read.Attribute.{Attribute}
-use Rattle.attributes.specs.declared.decode.Endians.{Endians}
+-- No second answer fits: of any two results that meet a public function's contract for the same arguments, and what they leave in lent memory, the one is the
+-- other. Written and held against the source by .ci/promises.
+use denote.Ref.{now}
+use Rattle.lent.specs.OneAnswer.{One, OneAnswer}
+use Rattle.attributes.proofs.text as text
+use Rattle.attributes.proofs.value as value
+use Rattle.attributes.proofs.read as read
+use Rattle.attributes.proofs.decode as decode
 
 -- `text::zero_from`
-pub only-zero-from : (s : List ℕ) (at : ℕ) {r r′ : ℕ} → r ≡ zeroFrom s at → r′ ≡ zeroFrom s at → r ≡ r′
-only-zero-from s at = only
+pub only-zero-from : OneAnswer text.zero_from.Kinds.ps text.zero_from.Kinds.r text.zero_from.Reads.Post
+only-zero-from κs a z z′ e e′ p q = cc
 
 -- `value::value_end`
-pub only-value-end : (form : FormKind) (e : Endian) (s : List ℕ) (at : ℕ) {r r′ : End} → r ≡ valueEnd form e s at → r′ ≡ valueEnd form e s at → r ≡ r′
-only-value-end form e s at = only
+pub only-value-end : OneAnswer value.value_end.Kinds.ps value.value_end.Kinds.r value.value_end.Reads.Post
+only-value-end κs a z z′ e e′ p q = cc
 
 -- `read::read_attribute`
-pub only-read-attribute : (vendors : List ℕ) (e : Endian) (s : List ℕ) (at : ℕ) {r r′ : Attribute} → r ≡ readAttribute vendors e s at
-    → r′ ≡ readAttribute vendors e s at → r ≡ r′
-only-read-attribute vendors e s at = only
+pub only-read-attribute : OneAnswer read.read_attribute.Kinds.ps read.read_attribute.Kinds.r read.read_attribute.Reads.Post
+only-read-attribute κs a z z′ e e′ p q = cc
 
-module _ (ends : Endians) (s : List ℕ) (at : ℕ) where
-  -- `decode::address`, `decode::reference`, `decode::data2`, `decode::data4`, `decode::data8`
-  pub only-address : {r r′ : Read32} → r ≡ addressAt ends s at → r′ ≡ addressAt ends s at → r ≡ r′
-  only-address = only
+-- `decode::address`
+pub only-address : OneAnswer decode.address.Kinds.ps decode.address.Kinds.r decode.address.Reads.Post
+only-address κs a z z′ e e′ p q = cc
 
-  pub only-reference : {r r′ : Read32} → r ≡ referenceAt ends s at → r′ ≡ referenceAt ends s at → r ≡ r′
-  only-reference = only
+-- `decode::reference`
+pub only-reference : OneAnswer decode.reference.Kinds.ps decode.reference.Kinds.r decode.reference.Reads.Post
+only-reference κs a z z′ e e′ p q = cc
 
-  pub only-data2 : {r r′ : Read16} → r ≡ data2At ends s at → r′ ≡ data2At ends s at → r ≡ r′
-  only-data2 = only
+-- `decode::data2`
+pub only-data2 : OneAnswer decode.data2.Kinds.ps decode.data2.Kinds.r decode.data2.Reads.Post
+only-data2 κs a z z′ e e′ p q = cc
 
-  pub only-data4 : {r r′ : Read32} → r ≡ data4At ends s at → r′ ≡ data4At ends s at → r ≡ r′
-  only-data4 = only
+-- `decode::data4`
+pub only-data4 : OneAnswer decode.data4.Kinds.ps decode.data4.Kinds.r decode.data4.Reads.Post
+only-data4 κs a z z′ e e′ p q = cc
 
-  pub only-data8 : {r r′ : Read64} → r ≡ data8At ends s at → r′ ≡ data8At ends s at → r ≡ r′
-  only-data8 = only
+-- `decode::data8`
+pub only-data8 : OneAnswer decode.data8.Kinds.ps decode.data8.Kinds.r decode.data8.Reads.Post
+only-data8 κs a z z′ e e′ p q = cc
 
 -- `decode::part`
-pub only-part : (s : List ℕ) (from n : ℕ) {r r′ : List ℕ} → r ≡ partAt s from n → r′ ≡ partAt s from n → r ≡ r′
-only-part s from n = only
+pub only-part : One decode.part.Kinds.ps decode.part.Kinds.r (λ κs z e. now z) decode.part.Reads.Post
+only-part κs a z z′ e e′ p q = cc
 
--- `decode::block2` and `decode::block4`, at w = 2 and w = 4
-pub only-block : (e : Endian) (w : ℕ) (s : List ℕ) (at : ℕ) {r r′ : List ℕ} → r ≡ blockAt e w s at → r′ ≡ blockAt e w s at → r ≡ r′
-only-block e w s at = only
+-- `decode::block2`
+pub only-block2 : One decode.block2.Kinds.ps decode.block2.Kinds.r (λ κs z e. now z) decode.block2.Reads.Post
+only-block2 κs a z z′ e e′ p q = cc
+
+-- `decode::block4`
+pub only-block4 : One decode.block4.Kinds.ps decode.block4.Kinds.r (λ κs z e. now z) decode.block4.Reads.Post
+only-block4 κs a z z′ e e′ p q = cc
 
 -- `decode::string`
-pub only-string : (s : List ℕ) (at : ℕ) {r r′ : List ℕ} → r ≡ textAt s at → r′ ≡ textAt s at → r ≡ r′
-only-string s at = only
+pub only-string : One decode.string.Kinds.ps decode.string.Kinds.r (λ κs z e. now z) decode.string.Reads.Post
+only-string κs a z z′ e e′ p q = cc

@@ -1,68 +1,53 @@
--- No second answer fits: two results that meet a public function's contract at the same inputs are the same result.
-use Prim.Native.Nat.{ℕ}
-use mathlib.Core.Path.{_≡_}
-use mathlib.Core.List.{List}
-use Rattle.numbers.proofs.Laws.Only.{only}
-use Rattle.numbers.specs.declared.Endian.{Endian}
-use Rattle.format.specs.declared.settings.Producer.{Producer}
-use Rattle.blocks.specs.Location.{offsetOf, addressOf, variableLocation}
-use Rattle.blocks.specs.Modifiers.{modifiersOf}
-use Rattle.blocks.specs.Producer.{producerOf}
-use Rattle.blocks.specs.declared.location.Located.{Located}
-use Rattle.blocks.specs.declared.location.VariableLocation.{VariableLocation}
-use Rattle.blocks.specs.declared.modifiers.Modifiers.{Modifiers}
-use Rattle.attributes.specs.Parts.{partAt}
-use Rattle.attributes.specs.declared.decode.Endians.{Endians}
-use Rattle.blocks.specs.Types.{typeAt}
-use Rattle.blocks.specs.Subscript.{subscriptOf}
-use Rattle.blocks.specs.Subscripts.{countSubscripts, readSubscripts, SubscriptsRead}
-use Rattle.blocks.specs.declared.types.Type.{«Type»}
-use Rattle.blocks.specs.declared.types.Typed.{Typed}
-use Rattle.blocks.specs.declared.subscript.Subscript.{Subscript}
-use Rattle.blocks.specs.declared.subscripts.Counted.{Counted}
-use Rattle.blocks.specs.declared.subscripts.Subscripts.{Subscripts}
+-- No second answer fits: of any two results that meet a public function's contract for the same arguments, and what they leave in lent memory, the one is the
+-- other. Written and held against the source by .ci/promises.
+use denote.Ref.{now}
+use Rattle.lent.specs.OneAnswer.{One, OneAnswer, OneRoom}
+use Rattle.blocks.proofs.location as location
+use Rattle.blocks.proofs.modifiers as modifiers
+use Rattle.blocks.proofs.types as types
+use Rattle.blocks.proofs.subscript as subscript
+use Rattle.blocks.proofs.subscripts as subscripts
+use Rattle.blocks.proofs.producer as producer
 
-module _ (e : Endian) (block : List ℕ) where
-  -- `location::process_offset`, `location::process_address`, `location::process_variable_location`
-  pub only-process-offset : {r r′ : Located} → r ≡ offsetOf e block → r′ ≡ offsetOf e block → r ≡ r′
-  only-process-offset = only
+-- `location::process_offset`
+pub only-process-offset : OneAnswer location.process_offset.Kinds.ps location.process_offset.Kinds.r location.process_offset.Reads.Post
+only-process-offset κs a z z′ e e′ p q = cc
 
-  pub only-process-address : {r r′ : Located} → r ≡ addressOf e block → r′ ≡ addressOf e block → r ≡ r′
-  only-process-address = only
+-- `location::process_address`
+pub only-process-address : OneAnswer location.process_address.Kinds.ps location.process_address.Kinds.r location.process_address.Reads.Post
+only-process-address κs a z z′ e e′ p q = cc
 
-  pub only-process-variable-location : {r r′ : VariableLocation} → r ≡ variableLocation e block → r′ ≡ variableLocation e block → r ≡ r′
-  only-process-variable-location = only
+-- `location::process_variable_location`
+pub only-process-variable-location : OneAnswer location.process_variable_location.Kinds.ps location.process_variable_location.Kinds.r location.process_variable_location.Reads.Post
+only-process-variable-location κs a z z′ e e′ p q = cc
 
 -- `modifiers::process_modifiers`
-pub only-process-modifiers : (block : List ℕ) {r r′ : Modifiers} → r ≡ modifiersOf block → r′ ≡ modifiersOf block → r ≡ r′
-only-process-modifiers block = only
-
--- `producer::parse_producer`
-pub only-parse-producer : (text : List ℕ) {r r′ : Producer} → r ≡ producerOf text → r′ ≡ producerOf text → r ≡ r′
-only-parse-producer text = only
+pub only-process-modifiers : OneAnswer modifiers.process_modifiers.Kinds.ps modifiers.process_modifiers.Kinds.r modifiers.process_modifiers.Reads.Post
+only-process-modifiers κs a z z′ e e′ p q = cc
 
 -- `types::process_type`
-pub only-process-type : (ends : Endians) (s : List ℕ) (number at : ℕ) {r r′ : Typed} → r ≡ typeAt ends s number at → r′ ≡ typeAt ends s number at → r ≡ r′
-only-process-type ends s number at = only
+pub only-process-type : OneAnswer types.process_type.Kinds.ps types.process_type.Kinds.r types.process_type.Reads.Post
+only-process-type κs a z z′ e e′ p q = cc
 
 -- `types::modifiers_of`
-pub only-modifiers-of : (s : List ℕ) (of : «Type») {r r′ : List ℕ} → r ≡ partAt s (of .place) (of .count) → r′ ≡ partAt s (of .place) (of .count) → r ≡ r′
-only-modifiers-of s of = only
+pub only-modifiers-of : One types.modifiers_of.Kinds.ps types.modifiers_of.Kinds.r (λ κs z e. now z) types.modifiers_of.Reads.Post
+only-modifiers-of κs a z z′ e e′ p q = cc
 
-module _ (e : Endian) (block : List ℕ) where
-  -- `subscript::next_subscript`
-  pub only-next-subscript : {r r′ : Subscript} → r ≡ subscriptOf e block → r′ ≡ subscriptOf e block → r ≡ r′
-  only-next-subscript = only
+-- `subscript::next_subscript`
+pub only-next-subscript : OneAnswer subscript.next_subscript.Kinds.ps subscript.next_subscript.Kinds.r subscript.next_subscript.Reads.Post
+only-next-subscript κs a z z′ e e′ p q = cc
 
-  -- `subscripts::count_subscripts`
-  pub only-count-subscripts : {r r′ : Counted} → r ≡ countSubscripts e block → r′ ≡ countSubscripts e block → r ≡ r′
-  only-count-subscripts = only
+-- `subscripts::count_subscripts`
+pub only-count-subscripts : OneAnswer subscripts.count_subscripts.Kinds.ps subscripts.count_subscripts.Kinds.r subscripts.count_subscripts.Reads.Post
+only-count-subscripts κs a z z′ e e′ p q = cc
 
-  -- `subscripts::process_array_subscript_data`: the answer, and what is left in the room
-  module _ (room : List ℕ) {r r′ : Subscripts} {room₁ room₂ : List ℕ} (p : SubscriptsRead (readSubscripts e block room) r room₁)
-      (q : SubscriptsRead (readSubscripts e block room) r′ room₂) where
-    pub only-read-subscripts : r ≡ r′
-    only-read-subscripts = only (p .answer-is) (q .answer-is)
+-- `subscripts::process_array_subscript_data`
+pub only-process-array-subscript-data : OneAnswer subscripts.process_array_subscript_data.Kinds.ps subscripts.process_array_subscript_data.Kinds.r subscripts.process_array_subscript_data.Reads.Post
+only-process-array-subscript-data κs a z z′ e e′ p q = cc
 
-    pub only-room : room₁ ≡ room₂
-    only-room = only (p .room-is) (q .room-is)
+pub only-process-array-subscript-data-dims : OneRoom subscripts.process_array_subscript_data.Kinds.ps subscripts.process_array_subscript_data.Kinds.r (λ κs e. now (e .1 .1 .0)) subscripts.process_array_subscript_data.Reads.Post
+only-process-array-subscript-data-dims κs a z z′ e e′ p q = cc
+
+-- `producer::parse_producer`
+pub only-parse-producer : OneAnswer producer.parse_producer.Kinds.ps producer.parse_producer.Kinds.r producer.parse_producer.Reads.Post
+only-parse-producer κs a z z′ e e′ p q = cc

@@ -1,57 +1,113 @@
--- No second answer fits: two results, with what they leave behind every `&mut`, that meet an exported function's contract at the same inputs are the same.
-use Prim.Native.Nat.{ℕ}
-use mathlib.Core.Path.{_≡_}
-use mathlib.Core.List.{List}
-use Rattle.numbers.proofs.Laws.Only.{only}
-use Rattle.entries.specs.Section as entries
-use Rattle.entries.specs.declared.section.Count.{Count}
-use Rattle.sizes.specs.Layout as laying
-use Rattle.sizes.specs.All as every
-use Rattle.sizes.specs.declared.sized.Sized.{Sized}
-use Rattle.blocks.specs.declared.location.Located.{Located}
-use Rattle.tree.specs.Tree as tree
-use Rattle.exports.specs.Crossing.{SaysOne, SaysTwo, SaysThree, CountCrosses, SectionCrosses, SizeCrosses, OffsetCrosses, TreeCrosses, LayoutCrosses, LayoutsCross}
-use Rattle.exports.specs.declared.told.Told.{Told}
-
-only-one : (told : Told) {n n′ p p′ a a′ : ℕ} → SaysOne told n p a → SaysOne told n′ p′ a′ → (n ≡ n′) × (p ≡ p′) × (a ≡ a′)
-only-one told x y = (only (x .number-is) (y .number-is), only (x .place-is) (y .place-is), only (x .first-is) (y .first-is))
-
-only-two : (told : Told) {n n′ p p′ a a′ b b′ : ℕ} → SaysTwo told n p a b → SaysTwo told n′ p′ a′ b′ → ((n ≡ n′) × (p ≡ p′) × (a ≡ a′)) × (b ≡ b′)
-only-two told x y = (only-one told (x .says) (y .says), only (x .second-is) (y .second-is))
-
-only-three : (told : Told) {n n′ p p′ a a′ b b′ c c′ : ℕ} → SaysThree told n p a b c → SaysThree told n′ p′ a′ b′ c′
-    → (((n ≡ n′) × (p ≡ p′) × (a ≡ a′)) × (b ≡ b′)) × (c ≡ c′)
-only-three told x y = (only-two told (x .says) (y .says), only (x .third-is) (y .third-is))
+-- No second answer fits: of any two results that meet a public function's contract for the same arguments, and what they leave in lent memory, the one is the
+-- other. Written and held against the source by .ci/promises.
+use denote.Ref.{now}
+use Rattle.lent.specs.OneAnswer.{OneAnswer, OneRoom}
+use Rattle.exports.proofs.reading as reading
+use Rattle.exports.proofs.size as size
+use Rattle.exports.proofs.block as block
+use Rattle.exports.proofs.listing as listing
+use Rattle.exports.proofs.layout as layout
+use Rattle.exports.proofs.layouts as layouts
 
 -- `reading::capbeacon_count_debug_section`
-pub only-count : (answer : Count) {n n′ p p′ r r′ a a′ : ℕ} → CountCrosses answer n p r a → CountCrosses answer n′ p′ r′ a′
-    → ((n ≡ n′) × (p ≡ p′) × (r ≡ r′)) × (a ≡ a′)
-only-count answer x y = only-two _ x y
+pub only-capbeacon-count-debug-section : OneAnswer reading.capbeacon_count_debug_section.Kinds.ps reading.capbeacon_count_debug_section.Kinds.r reading.capbeacon_count_debug_section.Reads.Post
+only-capbeacon-count-debug-section κs a z z′ e e′ p q = cc
+
+pub only-capbeacon-count-debug-section-place : OneRoom reading.capbeacon_count_debug_section.Kinds.ps reading.capbeacon_count_debug_section.Kinds.r (λ κs e. now (e .1 .1 .1 .1 .1 .1 .1 .1 .1 .1 .0)) reading.capbeacon_count_debug_section.Reads.Post
+only-capbeacon-count-debug-section-place κs a z z′ e e′ p q = cc
+
+pub only-capbeacon-count-debug-section-row-count : OneRoom reading.capbeacon_count_debug_section.Kinds.ps reading.capbeacon_count_debug_section.Kinds.r (λ κs e. now (e .1 .1 .1 .1 .1 .1 .1 .1 .1 .1 .1 .0)) reading.capbeacon_count_debug_section.Reads.Post
+only-capbeacon-count-debug-section-row-count κs a z z′ e e′ p q = cc
+
+pub only-capbeacon-count-debug-section-attr-count : OneRoom reading.capbeacon_count_debug_section.Kinds.ps reading.capbeacon_count_debug_section.Kinds.r (λ κs e. now (e .1 .1 .1 .1 .1 .1 .1 .1 .1 .1 .1 .1 .0)) reading.capbeacon_count_debug_section.Reads.Post
+only-capbeacon-count-debug-section-attr-count κs a z z′ e e′ p q = cc
 
 -- `reading::capbeacon_read_debug_section`
-pub only-read : (o : entries.Outcome) {n n′ p p′ r r′ a a′ : ℕ} {rows rows′ attrs attrs′ : List ℕ} → SectionCrosses o n p r a rows attrs
-    → SectionCrosses o n′ p′ r′ a′ rows′ attrs′ → (((n ≡ n′) × (p ≡ p′) × (r ≡ r′)) × (a ≡ a′)) × (rows ≡ rows′) × (attrs ≡ attrs′)
-only-read o x y = (only-two _ (x .says) (y .says), only (x .row-table) (y .row-table), only (x .attr-table) (y .attr-table))
+pub only-capbeacon-read-debug-section : OneAnswer reading.capbeacon_read_debug_section.Kinds.ps reading.capbeacon_read_debug_section.Kinds.r reading.capbeacon_read_debug_section.Reads.Post
+only-capbeacon-read-debug-section κs a z z′ e e′ p q = cc
+
+pub only-capbeacon-read-debug-section-rows : OneRoom reading.capbeacon_read_debug_section.Kinds.ps reading.capbeacon_read_debug_section.Kinds.r (λ κs e. now (e .1 .1 .1 .1 .1 .1 .1 .1 .1 .1 .0)) reading.capbeacon_read_debug_section.Reads.Post
+only-capbeacon-read-debug-section-rows κs a z z′ e e′ p q = cc
+
+pub only-capbeacon-read-debug-section-attrs : OneRoom reading.capbeacon_read_debug_section.Kinds.ps reading.capbeacon_read_debug_section.Kinds.r (λ κs e. now (e .1 .1 .1 .1 .1 .1 .1 .1 .1 .1 .1 .0)) reading.capbeacon_read_debug_section.Reads.Post
+only-capbeacon-read-debug-section-attrs κs a z z′ e e′ p q = cc
+
+pub only-capbeacon-read-debug-section-place : OneRoom reading.capbeacon_read_debug_section.Kinds.ps reading.capbeacon_read_debug_section.Kinds.r (λ κs e. now (e .1 .1 .1 .1 .1 .1 .1 .1 .1 .1 .1 .1 .0)) reading.capbeacon_read_debug_section.Reads.Post
+only-capbeacon-read-debug-section-place κs a z z′ e e′ p q = cc
+
+pub only-capbeacon-read-debug-section-row-count : OneRoom reading.capbeacon_read_debug_section.Kinds.ps reading.capbeacon_read_debug_section.Kinds.r (λ κs e. now (e .1 .1 .1 .1 .1 .1 .1 .1 .1 .1 .1 .1 .1 .0)) reading.capbeacon_read_debug_section.Reads.Post
+only-capbeacon-read-debug-section-row-count κs a z z′ e e′ p q = cc
+
+pub only-capbeacon-read-debug-section-attr-count : OneRoom reading.capbeacon_read_debug_section.Kinds.ps reading.capbeacon_read_debug_section.Kinds.r (λ κs e. now (e .1 .1 .1 .1 .1 .1 .1 .1 .1 .1 .1 .1 .1 .1 .0)) reading.capbeacon_read_debug_section.Reads.Post
+only-capbeacon-read-debug-section-attr-count κs a z z′ e e′ p q = cc
 
 -- `size::capbeacon_size_of_key`
-pub only-size : (answer : Sized) {n n′ p p′ a a′ : ℕ} → SizeCrosses answer n p a → SizeCrosses answer n′ p′ a′ → (n ≡ n′) × (p ≡ p′) × (a ≡ a′)
-only-size answer x y = only-one _ x y
+pub only-capbeacon-size-of-key : OneAnswer size.capbeacon_size_of_key.Kinds.ps size.capbeacon_size_of_key.Kinds.r size.capbeacon_size_of_key.Reads.Post
+only-capbeacon-size-of-key κs a z z′ e e′ p q = cc
+
+pub only-capbeacon-size-of-key-place : OneRoom size.capbeacon_size_of_key.Kinds.ps size.capbeacon_size_of_key.Kinds.r (λ κs e. now (e .1 .1 .1 .1 .1 .1 .1 .1 .1 .1 .1 .1 .1 .1 .1 .0)) size.capbeacon_size_of_key.Reads.Post
+only-capbeacon-size-of-key-place κs a z z′ e e′ p q = cc
+
+pub only-capbeacon-size-of-key-size : OneRoom size.capbeacon_size_of_key.Kinds.ps size.capbeacon_size_of_key.Kinds.r (λ κs e. now (e .1 .1 .1 .1 .1 .1 .1 .1 .1 .1 .1 .1 .1 .1 .1 .1 .0)) size.capbeacon_size_of_key.Reads.Post
+only-capbeacon-size-of-key-size κs a z z′ e e′ p q = cc
 
 -- `block::capbeacon_process_offset`
-pub only-offset : (answer : Located) {n n′ p p′ a a′ : ℕ} → OffsetCrosses answer n p a → OffsetCrosses answer n′ p′ a′ → (n ≡ n′) × (p ≡ p′) × (a ≡ a′)
-only-offset answer x y = only-one _ x y
+pub only-capbeacon-process-offset : OneAnswer block.capbeacon_process_offset.Kinds.ps block.capbeacon_process_offset.Kinds.r block.capbeacon_process_offset.Reads.Post
+only-capbeacon-process-offset κs a z z′ e e′ p q = cc
+
+pub only-capbeacon-process-offset-place : OneRoom block.capbeacon_process_offset.Kinds.ps block.capbeacon_process_offset.Kinds.r (λ κs e. now (e .1 .1 .0)) block.capbeacon_process_offset.Reads.Post
+only-capbeacon-process-offset-place κs a z z′ e e′ p q = cc
+
+pub only-capbeacon-process-offset-offset : OneRoom block.capbeacon_process_offset.Kinds.ps block.capbeacon_process_offset.Kinds.r (λ κs e. now (e .1 .1 .1 .0)) block.capbeacon_process_offset.Reads.Post
+only-capbeacon-process-offset-offset κs a z z′ e e′ p q = cc
 
 -- `listing::capbeacon_list_tree`
-pub only-tree : (o : tree.Outcome) {n n′ p p′ a a′ : ℕ} {room room′ : List ℕ} → TreeCrosses o n p a room → TreeCrosses o n′ p′ a′ room′
-    → ((n ≡ n′) × (p ≡ p′) × (a ≡ a′)) × (room ≡ room′)
-only-tree o x y = (only-one _ (x .says) (y .says), only (x .room-is) (y .room-is))
+pub only-capbeacon-list-tree : OneAnswer listing.capbeacon_list_tree.Kinds.ps listing.capbeacon_list_tree.Kinds.r listing.capbeacon_list_tree.Reads.Post
+only-capbeacon-list-tree κs a z z′ e e′ p q = cc
+
+pub only-capbeacon-list-tree-room : OneRoom listing.capbeacon_list_tree.Kinds.ps listing.capbeacon_list_tree.Kinds.r (λ κs e. now (e .1 .1 .1 .1 .1 .1 .1 .1 .1 .1 .1 .1 .1 .1 .0)) listing.capbeacon_list_tree.Reads.Post
+only-capbeacon-list-tree-room κs a z z′ e e′ p q = cc
+
+pub only-capbeacon-list-tree-place : OneRoom listing.capbeacon_list_tree.Kinds.ps listing.capbeacon_list_tree.Kinds.r (λ κs e. now (e .1 .1 .1 .1 .1 .1 .1 .1 .1 .1 .1 .1 .1 .1 .1 .0)) listing.capbeacon_list_tree.Reads.Post
+only-capbeacon-list-tree-place κs a z z′ e e′ p q = cc
+
+pub only-capbeacon-list-tree-listed : OneRoom listing.capbeacon_list_tree.Kinds.ps listing.capbeacon_list_tree.Kinds.r (λ κs e. now (e .1 .1 .1 .1 .1 .1 .1 .1 .1 .1 .1 .1 .1 .1 .1 .1 .0)) listing.capbeacon_list_tree.Reads.Post
+only-capbeacon-list-tree-listed κs a z z′ e e′ p q = cc
 
 -- `layout::capbeacon_layout_of_key`
-pub only-layout : (o : laying.Outcome) {n n′ p p′ a a′ b b′ c c′ : ℕ} {room room′ : List ℕ} → LayoutCrosses o n p a b c room
-    → LayoutCrosses o n′ p′ a′ b′ c′ room′ → ((((n ≡ n′) × (p ≡ p′) × (a ≡ a′)) × (b ≡ b′)) × (c ≡ c′)) × (room ≡ room′)
-only-layout o x y = (only-three _ (x .says) (y .says), only (x .room-is) (y .room-is))
+pub only-capbeacon-layout-of-key : OneAnswer layout.capbeacon_layout_of_key.Kinds.ps layout.capbeacon_layout_of_key.Kinds.r layout.capbeacon_layout_of_key.Reads.Post
+only-capbeacon-layout-of-key κs a z z′ e e′ p q = cc
+
+pub only-capbeacon-layout-of-key-room : OneRoom layout.capbeacon_layout_of_key.Kinds.ps layout.capbeacon_layout_of_key.Kinds.r (λ κs e. now (e .1 .1 .1 .1 .1 .1 .1 .1 .1 .1 .1 .1 .1 .1 .1 .0)) layout.capbeacon_layout_of_key.Reads.Post
+only-capbeacon-layout-of-key-room κs a z z′ e e′ p q = cc
+
+pub only-capbeacon-layout-of-key-place : OneRoom layout.capbeacon_layout_of_key.Kinds.ps layout.capbeacon_layout_of_key.Kinds.r (λ κs e. now (e .1 .1 .1 .1 .1 .1 .1 .1 .1 .1 .1 .1 .1 .1 .1 .1 .0)) layout.capbeacon_layout_of_key.Reads.Post
+only-capbeacon-layout-of-key-place κs a z z′ e e′ p q = cc
+
+pub only-capbeacon-layout-of-key-row : OneRoom layout.capbeacon_layout_of_key.Kinds.ps layout.capbeacon_layout_of_key.Kinds.r (λ κs e. now (e .1 .1 .1 .1 .1 .1 .1 .1 .1 .1 .1 .1 .1 .1 .1 .1 .1 .0)) layout.capbeacon_layout_of_key.Reads.Post
+only-capbeacon-layout-of-key-row κs a z z′ e e′ p q = cc
+
+pub only-capbeacon-layout-of-key-size : OneRoom layout.capbeacon_layout_of_key.Kinds.ps layout.capbeacon_layout_of_key.Kinds.r (λ κs e. now (e .1 .1 .1 .1 .1 .1 .1 .1 .1 .1 .1 .1 .1 .1 .1 .1 .1 .1 .0)) layout.capbeacon_layout_of_key.Reads.Post
+only-capbeacon-layout-of-key-size κs a z z′ e e′ p q = cc
+
+pub only-capbeacon-layout-of-key-members : OneRoom layout.capbeacon_layout_of_key.Kinds.ps layout.capbeacon_layout_of_key.Kinds.r (λ κs e. now (e .1 .1 .1 .1 .1 .1 .1 .1 .1 .1 .1 .1 .1 .1 .1 .1 .1 .1 .1 .0)) layout.capbeacon_layout_of_key.Reads.Post
+only-capbeacon-layout-of-key-members κs a z z′ e e′ p q = cc
 
 -- `layouts::capbeacon_all_layouts`
-pub only-layouts : (o : every.Outcome) {n n′ p p′ a a′ b b′ : ℕ} {structures structures′ members members′ : List ℕ} → LayoutsCross o n p a b structures members
-    → LayoutsCross o n′ p′ a′ b′ structures′ members′ → (((n ≡ n′) × (p ≡ p′) × (a ≡ a′)) × (b ≡ b′)) × (structures ≡ structures′) × (members ≡ members′)
-only-layouts o x y = (only-two _ (x .says) (y .says), only (x .structure-room) (y .structure-room), only (x .member-room) (y .member-room))
+pub only-capbeacon-all-layouts : OneAnswer layouts.capbeacon_all_layouts.Kinds.ps layouts.capbeacon_all_layouts.Kinds.r layouts.capbeacon_all_layouts.Reads.Post
+only-capbeacon-all-layouts κs a z z′ e e′ p q = cc
+
+pub only-capbeacon-all-layouts-structures : OneRoom layouts.capbeacon_all_layouts.Kinds.ps layouts.capbeacon_all_layouts.Kinds.r (λ κs e. now (e .1 .1 .1 .1 .1 .1 .1 .1 .1 .1 .1 .1 .1 .1 .0)) layouts.capbeacon_all_layouts.Reads.Post
+only-capbeacon-all-layouts-structures κs a z z′ e e′ p q = cc
+
+pub only-capbeacon-all-layouts-members : OneRoom layouts.capbeacon_all_layouts.Kinds.ps layouts.capbeacon_all_layouts.Kinds.r (λ κs e. now (e .1 .1 .1 .1 .1 .1 .1 .1 .1 .1 .1 .1 .1 .1 .1 .0)) layouts.capbeacon_all_layouts.Reads.Post
+only-capbeacon-all-layouts-members κs a z z′ e e′ p q = cc
+
+pub only-capbeacon-all-layouts-place : OneRoom layouts.capbeacon_all_layouts.Kinds.ps layouts.capbeacon_all_layouts.Kinds.r (λ κs e. now (e .1 .1 .1 .1 .1 .1 .1 .1 .1 .1 .1 .1 .1 .1 .1 .1 .0)) layouts.capbeacon_all_layouts.Reads.Post
+only-capbeacon-all-layouts-place κs a z z′ e e′ p q = cc
+
+pub only-capbeacon-all-layouts-structure-count : OneRoom layouts.capbeacon_all_layouts.Kinds.ps layouts.capbeacon_all_layouts.Kinds.r (λ κs e. now (e .1 .1 .1 .1 .1 .1 .1 .1 .1 .1 .1 .1 .1 .1 .1 .1 .1 .0)) layouts.capbeacon_all_layouts.Reads.Post
+only-capbeacon-all-layouts-structure-count κs a z z′ e e′ p q = cc
+
+pub only-capbeacon-all-layouts-member-count : OneRoom layouts.capbeacon_all_layouts.Kinds.ps layouts.capbeacon_all_layouts.Kinds.r (λ κs e. now (e .1 .1 .1 .1 .1 .1 .1 .1 .1 .1 .1 .1 .1 .1 .1 .1 .1 .1 .0)) layouts.capbeacon_all_layouts.Reads.Post
+only-capbeacon-all-layouts-member-count κs a z z′ e e′ p q = cc

@@ -1,85 +1,73 @@
--- No second answer fits: two results that meet a public function's contract at the same inputs are the same result.
-use Prim.Native.Nat.{ℕ}
-use mathlib.Core.Path.{_≡_}
-use mathlib.Core.Bool.{Bool}
-use mathlib.Core.List.{List}
-use Rattle.numbers.proofs.Laws.Only.{only}
-use Rattle.format.specs.Lookup.{member, indexOf}
-use Rattle.format.specs.TagKind.{tags}
-use Rattle.format.specs.AttributeKind.{attributeKinds}
-use Rattle.format.specs.Known.{known}
-use Rattle.format.specs.FormKind.{formOf, isForm}
-use Rattle.format.specs.FundType.{fundTypes, fundTypeOf, parseInt}
-use Rattle.format.specs.Modifier.{modifierOf}
-use Rattle.format.specs.LocationOp.{locationOpOf}
-use Rattle.format.specs.SubscriptFormat.{subscriptFormatOf}
-use Rattle.format.specs.Refusal.{numberOf, reasonOf}
-use Rattle.format.specs.Settings.{settingsHold}
-use Rattle.format.specs.declared.form_kind.FormKind.{FormKind}
-use Rattle.format.specs.declared.fund_type.FundType.{FundType}
-use Rattle.format.specs.declared.modifier.Modifier.{Modifier}
-use Rattle.format.specs.declared.location_op.LocationOp.{LocationOp}
-use Rattle.format.specs.declared.subscript_format.SubscriptFormat.{SubscriptFormat}
-use Rattle.format.specs.declared.refusal.Reason.{Reason}
-use Rattle.format.specs.declared.settings.Settings.{Settings}
+-- No second answer fits: of any two results that meet a public function's contract for the same arguments, and what they leave in lent memory, the one is the
+-- other. Written and held against the source by .ci/promises.
+use Rattle.lent.specs.OneAnswer.{OneAnswer}
+use Rattle.format.proofs.tag_kind as tag_kind
+use Rattle.format.proofs.attribute_kind as attribute_kind
+use Rattle.format.proofs.lookup as lookup
+use Rattle.format.proofs.fund_type as fund_type
+use Rattle.format.proofs.form_kind as form_kind
+use Rattle.format.proofs.modifier as modifier
+use Rattle.format.proofs.location_op as location_op
+use Rattle.format.proofs.subscript_format as subscript_format
+use Rattle.format.proofs.refusal as refusal
+use Rattle.format.proofs.settings as settings
 
 -- `tag_kind::is_tag`
-pub only-is-tag : (n : ℕ) {r r′ : Bool} → r ≡ member n tags → r′ ≡ member n tags → r ≡ r′
-only-is-tag n = only
+pub only-is-tag : OneAnswer tag_kind.is_tag.Kinds.ps tag_kind.is_tag.Kinds.r tag_kind.is_tag.Reads.Post
+only-is-tag κs a z z′ e e′ p q = cc
 
 -- `attribute_kind::is_named`
-pub only-is-named : (n : ℕ) {r r′ : Bool} → r ≡ member n attributeKinds → r′ ≡ member n attributeKinds → r ≡ r′
-only-is-named n = only
+pub only-is-named : OneAnswer attribute_kind.is_named.Kinds.ps attribute_kind.is_named.Kinds.r attribute_kind.is_named.Reads.Post
+only-is-named κs a z z′ e e′ p q = cc
 
 -- `attribute_kind::is_known`
-pub only-is-known : (vendors : List ℕ) (n : ℕ) {r r′ : Bool} → r ≡ known vendors n → r′ ≡ known vendors n → r ≡ r′
-only-is-known vendors n = only
+pub only-is-known : OneAnswer attribute_kind.is_known.Kinds.ps attribute_kind.is_known.Kinds.r attribute_kind.is_known.Reads.Post
+only-is-known κs a z z′ e e′ p q = cc
 
 -- `lookup::on_list`
-pub only-on-list : (list : List ℕ) (x : ℕ) {r r′ : Bool} → r ≡ member x list → r′ ≡ member x list → r ≡ r′
-only-on-list list x = only
+pub only-on-list : OneAnswer lookup.on_list.Kinds.ps lookup.on_list.Kinds.r lookup.on_list.Reads.Post
+only-on-list κs a z z′ e e′ p q = cc
 
 -- `fund_type::order_of`
-pub only-order-of : (n : ℕ) {r r′ : ℕ} → r ≡ indexOf n fundTypes → r′ ≡ indexOf n fundTypes → r ≡ r′
-only-order-of n = only
+pub only-order-of : OneAnswer fund_type.order_of.Kinds.ps fund_type.order_of.Kinds.r fund_type.order_of.Reads.Post
+only-order-of κs a z z′ e e′ p q = cc
 
 -- `form_kind::form_of`
-pub only-form-of : (n : ℕ) {r r′ : FormKind} → r ≡ formOf n → r′ ≡ formOf n → r ≡ r′
-only-form-of n = only
+pub only-form-of : OneAnswer form_kind.form_of.Kinds.ps form_kind.form_of.Kinds.r form_kind.form_of.Reads.Post
+only-form-of κs a z z′ e e′ p q = cc
 
 -- `fund_type::try_from`
-pub only-try-from : (n : ℕ) {r r′ : FundType} → r ≡ fundTypeOf n → r′ ≡ fundTypeOf n → r ≡ r′
-only-try-from n = only
+pub only-try-from : OneAnswer fund_type.try_from.Kinds.ps fund_type.try_from.Kinds.r fund_type.try_from.Reads.Post
+only-try-from κs a z z′ e e′ p q = cc
 
 -- `fund_type::parse_int`
-pub only-parse-int : (n : ℕ) {r r′ : FundType} → r ≡ parseInt n → r′ ≡ parseInt n → r ≡ r′
-only-parse-int n = only
+pub only-parse-int : OneAnswer fund_type.parse_int.Kinds.ps fund_type.parse_int.Kinds.r fund_type.parse_int.Reads.Post
+only-parse-int κs a z z′ e e′ p q = cc
 
 -- `modifier::parse_int`
-pub only-modifier : (n : ℕ) {r r′ : Modifier} → r ≡ modifierOf n → r′ ≡ modifierOf n → r ≡ r′
-only-modifier n = only
+pub only-modifier-parse-int : OneAnswer modifier.parse_int.Kinds.ps modifier.parse_int.Kinds.r modifier.parse_int.Reads.Post
+only-modifier-parse-int κs a z z′ e e′ p q = cc
 
 -- `location_op::location_op`
-pub only-location-op : (n : ℕ) {r r′ : LocationOp} → r ≡ locationOpOf n → r′ ≡ locationOpOf n → r ≡ r′
-only-location-op n = only
+pub only-location-op : OneAnswer location_op.location_op.Kinds.ps location_op.location_op.Kinds.r location_op.location_op.Reads.Post
+only-location-op κs a z z′ e e′ p q = cc
 
 -- `subscript_format::subscript_format`
-pub only-subscript-format : (n : ℕ) {r r′ : SubscriptFormat} → r ≡ subscriptFormatOf n → r′ ≡ subscriptFormatOf n → r ≡ r′
-only-subscript-format n = only
+pub only-subscript-format : OneAnswer subscript_format.subscript_format.Kinds.ps subscript_format.subscript_format.Kinds.r subscript_format.subscript_format.Reads.Post
+only-subscript-format κs a z z′ e e′ p q = cc
 
 -- `form_kind::is_form`
-pub only-is-form : (form : FormKind) (n : ℕ) {r r′ : Bool} → r ≡ isForm form n → r′ ≡ isForm form n → r ≡ r′
-only-is-form form n = only
+pub only-is-form : OneAnswer form_kind.is_form.Kinds.ps form_kind.is_form.Kinds.r form_kind.is_form.Reads.Post
+only-is-form κs a z z′ e e′ p q = cc
 
 -- `refusal::reason_of`
-pub only-reason-of : (n : ℕ) {r r′ : Reason} → r ≡ reasonOf n → r′ ≡ reasonOf n → r ≡ r′
-only-reason-of n = only
+pub only-reason-of : OneAnswer refusal.reason_of.Kinds.ps refusal.reason_of.Kinds.r refusal.reason_of.Reads.Post
+only-reason-of κs a z z′ e e′ p q = cc
 
 -- `refusal::number_of`
-pub only-number-of : (reason : Reason) {r r′ : ℕ} → r ≡ numberOf reason → r′ ≡ numberOf reason → r ≡ r′
-only-number-of reason = only
+pub only-number-of : OneAnswer refusal.number_of.Kinds.ps refusal.number_of.Kinds.r refusal.number_of.Reads.Post
+only-number-of κs a z z′ e e′ p q = cc
 
 -- `settings::settings_hold`
-pub only-settings-hold : (settings : Settings) (vendors sizes : List ℕ) {r r′ : Bool} → r ≡ settingsHold settings vendors sizes
-    → r′ ≡ settingsHold settings vendors sizes → r ≡ r′
-only-settings-hold settings vendors sizes = only
+pub only-settings-hold : OneAnswer settings.settings_hold.Kinds.ps settings.settings_hold.Kinds.r settings.settings_hold.Reads.Post
+only-settings-hold κs a z z′ e e′ p q = cc

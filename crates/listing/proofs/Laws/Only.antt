@@ -1,14 +1,12 @@
--- No second answer fits: two results that meet a contract of this crate at the same inputs are the same place and the same bytes.
-use Prim.Native.Nat.{ℕ}
-use mathlib.Core.Path.{_≡_}
-use mathlib.Core.List.{List}
-use Rattle.numbers.proofs.Laws.Only.{only}
-use Rattle.listing.specs.Put.{Put, Printed}
+-- No second answer fits: of any two results that meet a public function's contract for the same arguments, and what they leave in lent memory, the one is the
+-- other. Written and held against the source by .ci/promises.
+use denote.Ref.{now}
+use Rattle.lent.specs.OneAnswer.{OneAnswer, OneRoom}
+use Rattle.listing.proofs.report as report
 
--- the writers, the fields, the lines, the rows
-pub only-put : {text : List ℕ} {at r r′ : ℕ} {a b b′ : List ℕ} → Put text at r a b → Put text at r′ a b′ → (r ≡ r′) × (b ≡ b′)
-only-put f g = (only (f .place-is) (g .place-is), only (f .bytes-are) (g .bytes-are))
+-- `report::report_input`
+pub only-report-input : OneAnswer report.report_input.Kinds.ps report.report_input.Kinds.r report.report_input.Reads.Post
+only-report-input κs a z z′ e e′ p q = cc
 
--- the listing and the reports
-pub only-printed : {text : List ℕ} {r r′ : ℕ} {a b b′ : List ℕ} → Printed text r a b → Printed text r′ a b′ → (r ≡ r′) × (b ≡ b′)
-only-printed f g = only-put (f .put) (g .put)
+pub only-report-input-page : OneRoom report.report_input.Kinds.ps report.report_input.Kinds.r (λ κs e. now (e .1 .1 .0)) report.report_input.Reads.Post
+only-report-input-page κs a z z′ e e′ p q = cc

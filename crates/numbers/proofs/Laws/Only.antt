@@ -1,25 +1,42 @@
--- No second answer fits: two results that meet a public function's contract at the same inputs are the same result. Each contract here
--- says that the result is what a definition gives for the inputs, so one law serves them all; below it stands each function's own.
-use Prim.Native.Nat.{ℕ}
-use mathlib.Core.Path.{_≡_, sym, _∙_}
-use mathlib.Core.Bool.{Bool}
-use mathlib.Core.List.{List}
-use Rattle.numbers.specs.Value.{there, readAt}
-use Rattle.numbers.specs.Prefix.{beginsWith}
-use Rattle.numbers.specs.declared.Endian.{Endian}
+-- No second answer fits: of any two results that meet a public function's contract for the same arguments, and what they leave in lent memory, the one is the
+-- other. Written and held against the source by .ci/promises.
+use Rattle.lent.specs.OneAnswer.{OneAnswer}
+use Rattle.numbers.proofs.unsigned as unsigned
+use Rattle.numbers.proofs.signed as signed
+use Rattle.numbers.proofs.prefix as prefix
 
-pub only {ℓ} : {A : Type ℓ} {answer r r′ : A} → r ≡ answer → r′ ≡ answer → r ≡ r′
-only p q = p ∙ sym q
+-- `unsigned::bytes_there`
+pub only-bytes-there : OneAnswer unsigned.bytes_there.Kinds.ps unsigned.bytes_there.Kinds.r unsigned.bytes_there.Reads.Post
+only-bytes-there κs a z z′ e e′ p q = cc
 
--- `bytes_there`
-pub only-bytes-there : (s : List ℕ) (at w : ℕ) {r r′ : Bool} → r ≡ there s at w → r′ ≡ there s at w → r ≡ r′
-only-bytes-there s at w = only
+-- `unsigned::u8_at`
+pub only-u8-at : OneAnswer unsigned.u8_at.Kinds.ps unsigned.u8_at.Kinds.r unsigned.u8_at.Reads.Post
+only-u8-at κs a z z′ e e′ p q = cc
 
--- `u8_at`, `u16_at`, `u32_at`, `u64_at`, `i8_at`, `i16_at`, `i32_at`, each at its own answers and width
-pub only-read : {A : Type 0} (value : ℕ → A) (short : A) (e : Endian) (w : ℕ) (s : List ℕ) (at : ℕ) {r r′ : A}
-    → r ≡ readAt value short e w s at → r′ ≡ readAt value short e w s at → r ≡ r′
-only-read value short e w s at = only
+-- `unsigned::u16_at`
+pub only-u16-at : OneAnswer unsigned.u16_at.Kinds.ps unsigned.u16_at.Kinds.r unsigned.u16_at.Reads.Post
+only-u16-at κs a z z′ e e′ p q = cc
 
--- `starts_with`
-pub only-starts-with : (fixed text : List ℕ) {r r′ : Bool} → r ≡ beginsWith fixed text → r′ ≡ beginsWith fixed text → r ≡ r′
-only-starts-with fixed text = only
+-- `unsigned::u32_at`
+pub only-u32-at : OneAnswer unsigned.u32_at.Kinds.ps unsigned.u32_at.Kinds.r unsigned.u32_at.Reads.Post
+only-u32-at κs a z z′ e e′ p q = cc
+
+-- `unsigned::u64_at`
+pub only-u64-at : OneAnswer unsigned.u64_at.Kinds.ps unsigned.u64_at.Kinds.r unsigned.u64_at.Reads.Post
+only-u64-at κs a z z′ e e′ p q = cc
+
+-- `signed::i8_at`
+pub only-i8-at : OneAnswer signed.i8_at.Kinds.ps signed.i8_at.Kinds.r signed.i8_at.Reads.Post
+only-i8-at κs a z z′ e e′ p q = cc
+
+-- `signed::i16_at`
+pub only-i16-at : OneAnswer signed.i16_at.Kinds.ps signed.i16_at.Kinds.r signed.i16_at.Reads.Post
+only-i16-at κs a z z′ e e′ p q = cc
+
+-- `signed::i32_at`
+pub only-i32-at : OneAnswer signed.i32_at.Kinds.ps signed.i32_at.Kinds.r signed.i32_at.Reads.Post
+only-i32-at κs a z z′ e e′ p q = cc
+
+-- `prefix::starts_with`
+pub only-starts-with : OneAnswer prefix.starts_with.Kinds.ps prefix.starts_with.Kinds.r prefix.starts_with.Reads.Post
+only-starts-with κs a z z′ e e′ p q = cc

@@ -24,14 +24,14 @@ use Rattle.format.specs.declared.refusal.Reason.the-variants as reason
 use Rattle.attributes.specs.Text.{zeroFrom}
 use Rattle.attributes.proofs.Laws.Text.{zero-after}
 use Rattle.tables.specs.Check.{refusedAt}
-use Rattle.tables.proofs.Laws.Flat.{sets-append, sets-out}
+use Rattle.lent.proofs.Laws.Stores.{sets-append, sets-out}
 use Rattle.records.proofs.Laws.Fields.{by-told}
 use Rattle.records.specs.Elements.{listWidth, valueAt, namedFrom, nameFrom, valued, elementAt, Listed, Elements, are, missing, andThen, elementThen, elementsFrom, elementsIn, valuesOf, namesOf}
 use Rattle.records.specs.Inside.Elements.{slotOf, valueWords, nameWords, listedAs, Stored, storeAll, storeValues, storeNames, asLists, countFrom, StoredFrom}
 use Rattle.records.specs.Enumeration.{listed, reversed}
 use Rattle.records.specs.declared.fields.Word.{Word}
 use Rattle.records.specs.declared.fields.Word.the-variants as word
-use Rattle.records.specs.declared.words.Counted.the-variants as counted
+use Rattle.records.specs.declared.counted.Counted.the-variants as counted
 use Rattle.records.specs.declared.elements.Element.{Element}
 use Rattle.records.specs.declared.elements.Element.the-variants as element
 use Rattle.records.specs.declared.elements.Slots.{Slots}

@@ -51,8 +51,8 @@ use Rattle.records.specs.declared.scan.Scan.{Scan}
 use Rattle.records.specs.declared.scan.Scan.the-variants as scan
 use Rattle.records.specs.declared.fields.Sought.the-variants as sought
 use Rattle.records.specs.declared.fields.Word.{Word}
-use Rattle.records.specs.declared.words.Counted.{Counted}
-use Rattle.records.specs.declared.words.Counted.the-variants as counted
+use Rattle.records.specs.declared.counted.Counted.{Counted}
+use Rattle.records.specs.declared.counted.Counted.the-variants as counted
 use Rattle.records.specs.declared.elements.Slots.{Slots}
 use Rattle.records.specs.declared.enumeration.Enumeration.{Enumeration}
 use Rattle.records.specs.declared.enumeration.EnumerationWhole.{EnumerationWhole}

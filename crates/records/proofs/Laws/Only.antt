@@ -1,83 +1,58 @@
--- No second answer fits: two results that meet a public function's contract at the same inputs are the same result; of a part that is handed
--- back, the same bytes.
-use Prim.Native.Nat.{ℕ}
-use mathlib.Core.Path.{_≡_}
-use mathlib.Core.List.{List}
-use Rattle.numbers.proofs.Laws.Only.{only}
-use Rattle.format.specs.declared.settings.Settings.{Settings}
-use Rattle.attributes.specs.Parts.{partAt}
-use Rattle.tables.specs.declared.row.Counts.{Counts}
-use Rattle.records.specs.Member.{memberBy}
-use Rattle.records.specs.Variable.{variableBy}
-use Rattle.records.specs.Label.{labelBy}
-use Rattle.records.specs.PtrToMember.{ptrBy}
-use Rattle.records.specs.OverlayBranch.{overlayBy}
-use Rattle.records.specs.declared.fields.Text.{Text}
-use Rattle.records.specs.declared.member.MemberRead.{MemberRead}
-use Rattle.records.specs.declared.variable.VariableRead.{VariableRead}
-use Rattle.records.specs.declared.label.LabelRead.{LabelRead}
-use Rattle.records.specs.declared.ptr_to_member.PtrToMemberRead.{PtrToMemberRead}
-use Rattle.records.specs.declared.overlay_branch.OverlayBranchRead.{OverlayBranchRead}
-use Rattle.records.specs.Unions.{unionAt, unionBy, UnionGiven}
-use Rattle.records.specs.declared.unions.UnionWhole.{UnionWhole}
-use Rattle.records.specs.declared.unions.UnionRead.{UnionRead}
-use Rattle.records.specs.Typedef.{typedefOf}
-use Rattle.records.specs.declared.typedef.TypedefRead.{TypedefRead}
-use lib.IntN.{ℤ}
-use Rattle.records.specs.Enumeration.{enumerationBy, EnumerationGiven}
-use Rattle.records.specs.declared.enumeration.EnumerationRead.{EnumerationRead}
+-- No second answer fits: of any two results that meet a public function's contract for the same arguments, and what they leave in lent memory, the one is the
+-- other. Written and held against the source by .ci/promises.
+use denote.Ref.{now}
+use Rattle.lent.specs.OneAnswer.{One, OneAnswer, OneRoom}
+use Rattle.records.proofs.member as member
+use Rattle.records.proofs.unions as unions
+use Rattle.records.proofs.enumeration as enumeration
+use Rattle.records.proofs.typedef as typedef
+use Rattle.records.proofs.variable as variable
+use Rattle.records.proofs.label as label
+use Rattle.records.proofs.ptr_to_member as ptr_to_member
+use Rattle.records.proofs.overlay_branch as overlay_branch
+use Rattle.records.proofs.fields as fields
 
--- `fields::text_part`
-pub only-text-part : (s : List ℕ) (text : Text) {r r′ : List ℕ} → r ≡ partAt s (text .place) (text .length) → r′ ≡ partAt s (text .place) (text .length)
-    → r ≡ r′
-only-text-part s text = only
+-- `member::process_structure_member_tag`
+pub only-process-structure-member-tag : OneAnswer member.process_structure_member_tag.Kinds.ps member.process_structure_member_tag.Kinds.r member.process_structure_member_tag.Reads.Post
+only-process-structure-member-tag κs a z z′ e e′ p q = cc
 
-module _ (settings : Settings) (vendors sizes s rows attrs : List ℕ) (counts : Counts) (key : ℕ) where
-  -- `member::process_structure_member_tag`
-  pub only-structure-member : {r r′ : MemberRead} → r ≡ memberBy settings vendors sizes s rows attrs counts key
-      → r′ ≡ memberBy settings vendors sizes s rows attrs counts key → r ≡ r′
-  only-structure-member = only
+-- `unions::process_union_tag`
+pub only-process-union-tag : OneAnswer unions.process_union_tag.Kinds.ps unions.process_union_tag.Kinds.r unions.process_union_tag.Reads.Post
+only-process-union-tag κs a z z′ e e′ p q = cc
 
-  -- `variable::process_variable_tag`
-  pub only-variable : {r r′ : VariableRead} → r ≡ variableBy settings vendors sizes s rows attrs counts key
-      → r′ ≡ variableBy settings vendors sizes s rows attrs counts key → r ≡ r′
-  only-variable = only
+pub only-process-union-tag-room : OneRoom unions.process_union_tag.Kinds.ps unions.process_union_tag.Kinds.r (λ κs e. now (e .1 .1 .1 .1 .1 .1 .1 .1 .0)) unions.process_union_tag.Reads.Post
+only-process-union-tag-room κs a z z′ e e′ p q = cc
 
-  -- `label::process_subroutine_label_tag`
-  pub only-subroutine-label : {r r′ : LabelRead} → r ≡ labelBy settings vendors sizes s rows attrs counts key
-      → r′ ≡ labelBy settings vendors sizes s rows attrs counts key → r ≡ r′
-  only-subroutine-label = only
+-- `enumeration::process_enumeration_tag`
+pub only-process-enumeration-tag : OneAnswer enumeration.process_enumeration_tag.Kinds.ps enumeration.process_enumeration_tag.Kinds.r enumeration.process_enumeration_tag.Reads.Post
+only-process-enumeration-tag κs a z z′ e e′ p q = cc
 
-  -- `ptr_to_member::process_ptr_to_member_tag`
-  pub only-ptr-to-member : {r r′ : PtrToMemberRead} → r ≡ ptrBy settings vendors sizes s rows attrs counts key
-      → r′ ≡ ptrBy settings vendors sizes s rows attrs counts key → r ≡ r′
-  only-ptr-to-member = only
+pub only-process-enumeration-tag-values : OneRoom enumeration.process_enumeration_tag.Kinds.ps enumeration.process_enumeration_tag.Kinds.r (λ κs e. now (e .1 .1 .1 .1 .1 .1 .1 .1 .0)) enumeration.process_enumeration_tag.Reads.Post
+only-process-enumeration-tag-values κs a z z′ e e′ p q = cc
 
-  -- `overlay_branch::process_overlay_branch`
-  pub only-overlay-branch : {r r′ : OverlayBranchRead} → r ≡ overlayBy settings vendors sizes s rows attrs counts key
-      → r′ ≡ overlayBy settings vendors sizes s rows attrs counts key → r ≡ r′
-  only-overlay-branch = only
-
--- `unions::process_union_tag`: the answer, and the whole content of the lent room
-pub only-union : (settings : Settings) (vendors sizes s rows attrs : List ℕ) (counts : Counts) (key : ℕ) (room : List ℕ) {r r′ : UnionRead} {room₁ room₁′ : List ℕ}
-    → UnionGiven (unionBy settings vendors sizes s rows attrs counts key room) r room₁ → UnionGiven (unionBy settings vendors sizes s rows attrs counts key room) r′ room₁′ → (r ≡ r′) × (room₁ ≡ room₁′)
-only-union settings vendors sizes s rows attrs counts key room p q = (only (p .answer-is) (q .answer-is), only (p .room-is) (q .room-is))
-
--- `unions::union_at`
-pub only-union-at : (settings : Settings) (s rows attrs : List ℕ) (n i : ℕ) {r r′ : UnionWhole} → r ≡ unionAt settings s rows attrs n i
-    → r′ ≡ unionAt settings s rows attrs n i → r ≡ r′
-only-union-at settings s rows attrs n i = only
+pub only-process-enumeration-tag-names : OneRoom enumeration.process_enumeration_tag.Kinds.ps enumeration.process_enumeration_tag.Kinds.r (λ κs e. now (e .1 .1 .1 .1 .1 .1 .1 .1 .1 .0)) enumeration.process_enumeration_tag.Reads.Post
+only-process-enumeration-tag-names κs a z z′ e e′ p q = cc
 
 -- `typedef::process_typedef_tag`
-pub only-typedef : (settings : Settings) (vendors sizes s rows attrs : List ℕ) (counts : Counts) (key : ℕ) {r r′ : TypedefRead}
-    → r ≡ typedefOf settings vendors sizes s rows attrs counts key → r′ ≡ typedefOf settings vendors sizes s rows attrs counts key → r ≡ r′
-only-typedef settings vendors sizes s rows attrs counts key = only
+pub only-process-typedef-tag : OneAnswer typedef.process_typedef_tag.Kinds.ps typedef.process_typedef_tag.Kinds.r typedef.process_typedef_tag.Reads.Post
+only-process-typedef-tag κs a z z′ e e′ p q = cc
 
--- `process_enumeration_tag`
-pub only-enumeration : (settings : Settings) (vendors sizes s rows attrs : List ℕ) (counts : Counts) (key : ℕ) (values : List ℤ) (names : List ℕ)
-    {r r′ : EnumerationRead} {values₁ values₂ : List ℤ} {names₁ names₂ : List ℕ}
-    → EnumerationGiven (enumerationBy settings vendors sizes s rows attrs counts key values names) r values₁ names₁
-    → EnumerationGiven (enumerationBy settings vendors sizes s rows attrs counts key values names) r′ values₂ names₂
-    → (r ≡ r′) × (values₁ ≡ values₂) × (names₁ ≡ names₂)
-only-enumeration settings vendors sizes s rows attrs counts key values names p q =
-    (only (p .answer-is) (q .answer-is), only (p .values-are) (q .values-are), only (p .names-are) (q .names-are))
+-- `variable::process_variable_tag`
+pub only-process-variable-tag : OneAnswer variable.process_variable_tag.Kinds.ps variable.process_variable_tag.Kinds.r variable.process_variable_tag.Reads.Post
+only-process-variable-tag κs a z z′ e e′ p q = cc
+
+-- `label::process_subroutine_label_tag`
+pub only-process-subroutine-label-tag : OneAnswer label.process_subroutine_label_tag.Kinds.ps label.process_subroutine_label_tag.Kinds.r label.process_subroutine_label_tag.Reads.Post
+only-process-subroutine-label-tag κs a z z′ e e′ p q = cc
+
+-- `ptr_to_member::process_ptr_to_member_tag`
+pub only-process-ptr-to-member-tag : OneAnswer ptr_to_member.process_ptr_to_member_tag.Kinds.ps ptr_to_member.process_ptr_to_member_tag.Kinds.r ptr_to_member.process_ptr_to_member_tag.Reads.Post
+only-process-ptr-to-member-tag κs a z z′ e e′ p q = cc
+
+-- `overlay_branch::process_overlay_branch`
+pub only-process-overlay-branch : OneAnswer overlay_branch.process_overlay_branch.Kinds.ps overlay_branch.process_overlay_branch.Kinds.r overlay_branch.process_overlay_branch.Reads.Post
+only-process-overlay-branch κs a z z′ e e′ p q = cc
+
+-- `fields::text_part`
+pub only-text-part : One fields.text_part.Kinds.ps fields.text_part.Kinds.r (λ κs z e. now z) fields.text_part.Reads.Post
+only-text-part κs a z z′ e e′ p q = cc

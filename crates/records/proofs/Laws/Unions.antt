@@ -16,7 +16,7 @@ use Rattle.format.specs.declared.settings.Settings.{Settings}
 use Rattle.format.specs.declared.refusal.Refusal.{Refusal}
 use Rattle.format.specs.declared.refusal.Reason.the-variants as reason
 use Rattle.tables.specs.Row.{rowAt}
-use Rattle.tables.proofs.Laws.Flat.{sets-append}
+use Rattle.lent.proofs.Laws.Stores.{sets-append}
 use Rattle.tables.specs.Check.{refusedAt}
 use Rattle.tables.specs.declared.row.Row.{Row}
 use Rattle.tables.specs.declared.row.Counts.{Counts}
@@ -49,8 +49,8 @@ use Rattle.records.specs.declared.scan.Fault.the-variants as fault
 use Rattle.records.specs.declared.member.Member.{Member}
 use Rattle.records.specs.declared.member.MemberRead.{MemberRead}
 use Rattle.records.specs.declared.member.MemberRead.the-variants as read
-use Rattle.records.specs.declared.words.Counted.{Counted}
-use Rattle.records.specs.declared.words.Counted.the-variants as counted
+use Rattle.records.specs.declared.counted.Counted.{Counted}
+use Rattle.records.specs.declared.counted.Counted.the-variants as counted
 use Rattle.records.specs.declared.unions.Union.{Union}
 use Rattle.records.specs.declared.unions.UnionWhole.{UnionWhole}
 use Rattle.records.specs.declared.unions.UnionWhole.the-variants as whole

@@ -10,8 +10,8 @@ use Rattle.format.specs.declared.refusal.Reason.the-variants as reason
 use Rattle.tables.specs.Check.{refusedAt}
 use Rattle.records.specs.Elements.{Listed, Elements, are, missing}
 use Rattle.records.specs.Enumeration.{Lists, listed, refused}
-use Rattle.records.specs.declared.words.Counted.{Counted}
-use Rattle.records.specs.declared.words.Counted.the-variants as counted
+use Rattle.records.specs.declared.counted.Counted.{Counted}
+use Rattle.records.specs.declared.counted.Counted.the-variants as counted
 use Rattle.records.specs.declared.elements.Slots.{Slots}
 
 -- ---- an element in its slot

@@ -11,8 +11,8 @@ use Rattle.links.specs.Inside.Kids.{Ends}
 use Rattle.links.specs.Inside.Children.{Asked}
 use Rattle.records.specs.MemberWords.{memberWidth}
 use Rattle.records.specs.Unions.{Placed, Members, members, refused, childThen, membersWords}
-use Rattle.records.specs.declared.words.Counted.{Counted}
-use Rattle.records.specs.declared.words.Counted.the-variants as counted
+use Rattle.records.specs.declared.counted.Counted.{Counted}
+use Rattle.records.specs.declared.counted.Counted.the-variants as counted
 use Rattle.records.specs.declared.unions.Union.{Union}
 use Rattle.records.specs.declared.unions.UnionWhole.{UnionWhole}
 use Rattle.records.specs.declared.unions.UnionWhole.the-variants as whole

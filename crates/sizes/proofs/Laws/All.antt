@@ -18,7 +18,7 @@ use Rattle.format.specs.AttributeKind as attribute
 use Rattle.format.specs.declared.settings.Settings.{Settings}
 use Rattle.format.specs.declared.refusal.Refusal.{Refusal}
 use Rattle.blocks.specs.declared.types.Type.{«Type»}
-use Rattle.tables.proofs.Laws.Flat.{sets-append, sets-out, sets-rest}
+use Rattle.lent.proofs.Laws.Stores.{sets-append, sets-out, sets-rest}
 use Rattle.tables.specs.Row.{rowAt}
 use Rattle.tables.specs.Check.{Tells}
 use Rattle.tables.proofs.Laws.Check.{passed-answer, refused-answer}

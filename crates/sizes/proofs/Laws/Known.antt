@@ -15,14 +15,10 @@ use Rattle.format.specs.Refusal.{numberOf, reasonOf}
 use Rattle.format.proofs.Laws.Refusal.{reason-of-number, number-some}
 use Rattle.format.specs.declared.refusal.Refusal.{Refusal}
 use Rattle.format.specs.declared.refusal.Reason.{Reason}
-use Rattle.tables.proofs.Laws.Flat.{sets-before, sets-after, sets-back}
+use Rattle.lent.proofs.Laws.Stores.{sets-before, sets-after, sets-back}
 use Rattle.sizes.specs.Inside.Known.{knownWidth, knownAt, PutKnown}
 use Rattle.sizes.specs.declared.sized.Sized.{Sized}
 use Rattle.sizes.specs.declared.sized.Sized.the-variants.{Is, Refused}
-
--- a word past the end is 0
-pub word-none : (t : List ℕ) (i : ℕ) → length t ≤ i → 0 ≡ getD t i 0
-word-none t i h = sym (List·getD-eq-default t 0 h)
 
 module _ (known : List ℕ) (i : ℕ) where
   -- past the end a size is 0

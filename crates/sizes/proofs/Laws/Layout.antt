@@ -20,7 +20,7 @@ use Rattle.format.specs.declared.refusal.Reason.the-variants as reason
 use Rattle.blocks.specs.declared.types.Type.{«Type»}
 use Rattle.blocks.specs.declared.types.Typed.{Typed}
 use Rattle.blocks.specs.declared.types.Typed.the-variants as typed
-use Rattle.tables.proofs.Laws.Flat.{sets-append, sets-out}
+use Rattle.lent.proofs.Laws.Stores.{sets-append, sets-out}
 use Rattle.tables.specs.Row.{rowAt}
 use Rattle.tables.specs.Check.{refusedAt}
 use Rattle.tables.specs.declared.row.Row.{Row}

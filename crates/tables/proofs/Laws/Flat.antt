@@ -1,64 +1,13 @@
 -- Things of so many words each, one after the other in a table: what holds of rows and of attributes alike. `Row` says it of each.
 use Prim.Native.Nat.{ℕ, zero, suc, _+_, _-_, _*_, _≤_, _<_}
-use native.Mathlib.Nat.{le-refl, add-zero, add-mul, zero-mul, suc-mul, ne-of-lt}
+use native.Mathlib.Nat.{le-refl, add-mul, zero-mul, suc-mul}
 use native.Mathlib.Numerals.{add-one}
 use native.Mathlib.Omega.{arith}
-use mathlib.Core.Path.{_≡_, refl, sym, ap, ap₂, _∙_}
-use mathlib.Core.List.{List, [], _∷_, _++_, append-nil, append-assoc}
-use lib.ListN.{length, getD, take, drop, set, length-append, length-drop, take-append-drop, drop-of-length-le, List·getD-append}
-use lib.Seq.{set-out, drop-set-add, take-set-le, take-all, getD-set-other, getD-append-add, length-take-le, sets, length-sets, sets-eq}
-
--- ---- runs of stores
-
--- one run after the other is one run
-pub sets-append : {A : Type 0} (t : List A) (i : ℕ) (xs ys : List A) → sets t i (xs ++ ys) ≡ sets (sets t i xs) (i + length xs) ys
-sets-append t i [] ys = rw add-zero
-sets-append t i (x ∷ xs) ys =
-    let next : suc i + length xs ≡ i + suc (length xs) = omega arith in
-    sets-append (set t i x) (suc i) xs ys ∙ ap (λ (k : ℕ). sets (sets (set t i x) (suc i) xs) k ys) next
-
--- past the end nothing is stored
-pub sets-out : (t : List ℕ) (i : ℕ) (vs : List ℕ) → length t ≤ i → sets t i vs ≡ t
-sets-out t i [] h = refl
-sets-out t i (v ∷ vs) h = rw (set-out t i v h) (sets-out t (suc i) vs (omega arith))
-
--- what lies before a run is as it was
-pub sets-before : (t : List ℕ) (i : ℕ) (vs : List ℕ) (k : ℕ) → k < i → getD (sets t i vs) k 0 ≡ getD t k 0
-sets-before t i [] k h = refl
-sets-before t i (v ∷ vs) k h = sets-before (set t i v) (suc i) vs k (omega arith) ∙ getD-set-other t i k v 0 (ne-of-lt h)
-
--- what lies after a run is as it was
-pub sets-after : (t : List ℕ) (i : ℕ) (vs : List ℕ) (k : ℕ) → i + length vs ≤ k → getD (sets t i vs) k 0 ≡ getD t k 0
-sets-after t i [] k h = refl
-sets-after t i (v ∷ vs) k h = sets-after (set t i v) (suc i) vs k (omega arith) ∙ getD-set-other t i k v 0 (omega arith)
-
--- a run that fits is read back
-pub sets-back : (t : List ℕ) (i : ℕ) (vs : List ℕ) (k : ℕ) → i + length vs ≤ length t → k < length vs → getD (sets t i vs) (i + k) 0 ≡ getD vs k 0
-sets-back t i vs k h l =
-    let front : length (take i t) ≡ i = length-take-le i t (omega arith) in
-    ap (λ (u : List ℕ). getD u (i + k) 0) (sets-eq vs t i h ∙ append-assoc (take i t) vs (drop (i + length vs) t))
-    ∙ ap (λ (p : ℕ). getD (take i t ++ (vs ++ drop (i + length vs) t)) (p + k) 0) (sym front)
-    ∙ getD-append-add (take i t) (vs ++ drop (i + length vs) t) k 0
-    ∙ List·getD-append vs (drop (i + length vs) t) 0 k l
-
--- ---- a lent rest
-
-sets-skip : (l : List ℕ) (n i : ℕ) (xs : List ℕ) → take n l ++ sets (drop n l) i xs ≡ sets l (n + i) xs
-sets-skip l n i [] = take-append-drop n l
-sets-skip l n i (x ∷ xs) =
-    let far : n ≤ n + i = omega arith in
-    let next : n + suc i ≡ suc (n + i) = omega arith in
-    rw (← drop-set-add n l i x, ← take-set-le n l (n + i) x far) (sets-skip (set l (n + i) x) n (suc i) xs) ∙ ap (λ (k : ℕ). sets (set l (n + i) x) k xs) next
-
--- what is stored in the rest of a list is stored in the list, from the rest's place on
-pub sets-rest : (l : List ℕ) (n : ℕ) (xs : List ℕ) {part : List ℕ} → part ≡ sets (take (length l - n) (drop n l)) 0 xs
-    → take n l ++ (part ++ drop (length l - n) (drop n l)) ≡ sets l n xs
-sets-rest l n xs {part} p =
-    let rest-is : take (length l - n) (drop n l) ≡ drop n l = take-all (length l - n) (drop n l) (omega (arith, length-drop n l)) in
-    let rest-ends : drop (length l - n) (drop n l) ≡ [] = drop-of-length-le (drop n l) {i = length l - n} (omega (arith, length-drop n l)) in
-    rw (rest-ends, append-nil part, p, rest-is) (sets-skip l n 0 xs) ∙ ap (λ (k : ℕ). sets l k xs) (add-zero n)
-
--- ---- things of `width` words
+use mathlib.Core.Path.{_≡_, sym, ap, ap₂, _∙_}
+use mathlib.Core.List.{List, [], _∷_, _++_, append-assoc}
+use lib.ListN.{length, getD, length-append}
+use lib.Seq.{sets, length-sets}
+use Rattle.lent.proofs.Laws.Stores.{sets-append, sets-before, sets-back}
 
 -- how a thing is written in words, and a list of them; how the thing at a place is read, and so many from there on
 pub record Kind (A : Type 0) : Type 0 where

@@ -5,12 +5,14 @@ use native.Mathlib.Numerals.{add-one, add-two, add-three, add-four}
 use native.Mathlib.Omega.{arith}
 use mathlib.Core.Path.{_≡_, refl, sym}
 use mathlib.Core.List.{List, _++_}
-use lib.ListN.{length, getD, set, List·getD-eq-default}
+use lib.ListN.{length, getD, set}
 use lib.Seq.{sets}
 use borrow.Author.Tests.{eq-eqb, ne-eqb}
+use Rattle.lent.proofs.Laws.Stores.{word-none}
 use Rattle.numbers.specs.declared.Endian.the-variants.{Big, Little}
 use Rattle.tables.specs.Row.{rowWidth, attrWidth, rowWords, attrWords, rowsWords, attrsWords, rowAt, attrAt, rowsFrom, attrsFrom, putRow, putAttr, endianOf}
-use Rattle.tables.proofs.Laws.Flat.{Kind, sets-out, runs-append, all-back}
+use Rattle.lent.proofs.Laws.Stores.{sets-out}
+use Rattle.tables.proofs.Laws.Flat.{Kind, runs-append, all-back}
 use Rattle.tables.specs.declared.row.Row.{Row}
 use Rattle.tables.specs.declared.row.Attr.{Attr}
 
@@ -26,10 +28,6 @@ module _ (t : List ℕ) (i : ℕ) where
   pub attr-read : {n v : ℕ} → n ≡ getD t (i * attrWidth) 0 → v ≡ getD t (i * attrWidth + 1) 0 → record { number = n; value = v } ≡ attrAt t i
   unfolding attrAt
   attr-read p q = cc
-
--- past the words all are zero
-pub word-none : (t : List ℕ) (k : ℕ) → length t ≤ k → 0 ≡ getD t k 0
-word-none t k h = sym (List·getD-eq-default t 0 h)
 
 pub row-none : (t : List ℕ) (i : ℕ) → length t ≤ i → record { key = 0; kind = 0; flags = 0; first = 0; count = 0 } ≡ rowAt t i
 row-none t i h =

@@ -1,15 +1,12 @@
--- No second answer fits: two results, with the room that they leave, that meet the contract of the public function at the same inputs are the same.
-use Prim.Native.Nat.{ℕ}
-use mathlib.Core.Path.{_≡_}
-use mathlib.Core.List.{List}
-use Rattle.numbers.proofs.Laws.Only.{only}
-use Rattle.format.specs.declared.settings.Settings.{Settings}
-use Rattle.tables.specs.declared.row.Counts.{Counts}
-use Rattle.tree.specs.Tree.{treeOf, Given}
-use Rattle.tree.specs.declared.listing.Listing.{Listing}
+-- No second answer fits: of any two results that meet a public function's contract for the same arguments, and what they leave in lent memory, the one is the
+-- other. Written and held against the source by .ci/promises.
+use denote.Ref.{now}
+use Rattle.lent.specs.OneAnswer.{OneAnswer, OneRoom}
+use Rattle.tree.proofs.listing as listing
 
 -- `listing::list_tree`
-pub only-tree : (settings : Settings) (vendors sizes s rows attrs : List ℕ) (counts : Counts) (room : List ℕ) {r r′ : Listing} {room₁ room₁′ : List ℕ}
-    → Given (treeOf settings vendors sizes s rows attrs counts room) r room₁ → Given (treeOf settings vendors sizes s rows attrs counts room) r′ room₁′
-    → (r ≡ r′) × (room₁ ≡ room₁′)
-only-tree settings vendors sizes s rows attrs counts room p q = (only (p .answer-is) (q .answer-is), only (p .room-is) (q .room-is))
+pub only-list-tree : OneAnswer listing.list_tree.Kinds.ps listing.list_tree.Kinds.r listing.list_tree.Reads.Post
+only-list-tree κs a z z′ e e′ p q = cc
+
+pub only-list-tree-room : OneRoom listing.list_tree.Kinds.ps listing.list_tree.Kinds.r (λ κs e. now (e .1 .1 .1 .1 .1 .1 .1 .0)) listing.list_tree.Reads.Post
+only-list-tree-room κs a z z′ e e′ p q = cc

@@ -27,7 +27,7 @@ use Rattle.attributes.specs.Text.{zeroFrom}
 use Rattle.attributes.specs.End.{fixedEnd, blockEnd, textEnd, valueEnd}
 use Rattle.attributes.specs.Read.{ending, numbered, readAttribute}
 use Rattle.tables.specs.Row.{rowWidth, attrWidth, rowWords, attrWords, rowsWords, attrsWords, rowAt, attrAt, rowsFrom, erasedRow}
-use Rattle.tables.proofs.Laws.Flat.{sets-back}
+use Rattle.lent.proofs.Laws.Stores.{sets-back}
 use Rattle.tables.proofs.Laws.Row.{rows-back}
 use Rattle.tables.specs.declared.row.Row.{Row}
 use Rattle.tables.specs.declared.row.Attr.{Attr}
@@ -39,7 +39,6 @@ use Rattle.entries.specs.Walk.{walked, join, andThen, onward, walkFrom, walkAt}
 use Rattle.tables.specs.Test.{fitting}
 use Rattle.entries.specs.Section.{Outcome, counts, stored, wholeWalk, readSection, SectionRead}
 use Rattle.entries.proofs.Laws.Section.{attrs-decide}
-use Rattle.entries.proofs.Laws.Only.{only-read}
 use Rattle.entries.specs.declared.section.Section.{Section}
 use Rattle.entries.specs.declared.section.Section.the-variants.{Read, Refused, Room}
 use Rattle.links.specs.Attribute.{wants, attrFrom, attributeOf, asReference, referenceBy, referenceOf}
@@ -154,12 +153,12 @@ module _ (settings : Settings) (vendors sizes s rows attrs : List ℕ) {c c′ :
   -- invented row counts: two answers that both meet the contract have the same counts
   pub invented-counts : SectionRead (readSection settings vendors sizes s rows attrs) (Read c) rows₁ attrs₁
       → SectionRead (readSection settings vendors sizes s rows attrs) (Read c′) rows₁′ attrs₁′ → c ≡ c′
-  invented-counts p q = ap countsOf (only-read settings vendors sizes s rows attrs p q .0)
+  invented-counts p q = ap countsOf (p .answer-is ∙ sym (q .answer-is))
 
   -- invented needed counts: so have two that tell what room is needed
   pub invented-needed : SectionRead (readSection settings vendors sizes s rows attrs) (Room c) rows₁ attrs₁
       → SectionRead (readSection settings vendors sizes s rows attrs) (Room c′) rows₁′ attrs₁′ → c ≡ c′
-  invented-needed p q = ap countsOf (only-read settings vendors sizes s rows attrs p q .0)
+  invented-needed p q = ap countsOf (p .answer-is ∙ sym (q .answer-is))
 
 -- ---- the listing of input A
 

@@ -12,7 +12,7 @@ use lib.Seq.{getD-set-same, getD-set-other, sets, length-sets}
 use lib.Dec.{ltb}
 use borrow.Author.Tests.{lt-ltb, le-ltb}
 use Rattle.format.specs.Limits.{depthLimit}
-use Rattle.tables.proofs.Laws.Flat.{sets-append, sets-out}
+use Rattle.lent.proofs.Laws.Stores.{sets-append, sets-out}
 use Rattle.tree.proofs.Laws.Pick.{first-unique}
 use Rattle.tree.specs.Inside.Passing.{closing, opened, openAt, nearest, openDeep, openWords, OpenListed}
 use Rattle.tree.specs.Tree.{placeWidth}

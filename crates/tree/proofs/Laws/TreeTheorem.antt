@@ -19,7 +19,7 @@ use Rattle.format.specs.declared.settings.Settings.{Settings}
 use Rattle.tables.specs.Row.{rowAt, erasedRow}
 use Rattle.tables.specs.Test.{tableHolds, Checked}
 use Rattle.tables.proofs.Laws.Checked.{checked-rising, checked-inside}
-use Rattle.tables.proofs.Laws.Flat.{sets-back}
+use Rattle.lent.proofs.Laws.Stores.{sets-back}
 use Rattle.tables.specs.Check.{afterTests, tested}
 use Rattle.tables.specs.declared.row.Counts.{Counts}
 use Rattle.entries.specs.Section.{readSection, SectionRead}

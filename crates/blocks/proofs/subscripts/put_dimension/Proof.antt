@@ -4,7 +4,7 @@ use Rattle.blocks.proofs.subscripts.put_dimension.Statement.{statement}
 use Rattle.blocks.proofs.subscripts.put_dimension.Tie as tie
 
 returns : tie.Need-returns
-returns c = dimension-stored _ _ _ _ (c .before .before .before .before .before .before .put .ensures) (c .before .before .put2 .ensures)
+returns c = dimension-stored _ _ _ _ (c .before .before .before .before .before .before .put-cell .ensures) (c .before .before .put-cell2 .ensures)
 
 returns-2 : tie.Need-returns-2
 returns-2 c = dimension-unstored _ _ _ _ (c .if1 .left)

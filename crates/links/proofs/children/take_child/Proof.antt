@@ -7,7 +7,7 @@ returns : tie.Need-returns
 returns c = takes-null _ _ _ _ (c .before .before .row-at .ensures) (c .if1 .taken)
 
 returns-2 : tie.Need-returns-2
-returns-2 c = takes-row _ _ _ _ (c .before .before .before .before .before .before .row-at .ensures) (c .before .before .before .before .if1 .left) (c .before .before .put .ensures)
+returns-2 c = takes-row _ _ _ _ (c .before .before .before .before .before .before .row-at .ensures) (c .before .before .before .before .if1 .left) (c .before .before .put-cell .ensures)
 
 pub take-child-spec : {M : Type 1} → statement M
 take-child-spec =

@@ -25,7 +25,7 @@ glyph-requires c κs = omega (arith, mod-lt (c .before .before .loop .left) {m =
 
 loop-again : tie.Need-loop-again Inv-loop μ-loop
 loop-again c =
-    (set-length (c .before .before .before .before .before .before .loop .rest) (c .before .before .before .before .before .before .loop .i - 1) (c .before .before .before .glyph .result) (c .before .before .put .ensures) ∙ c .before .before .before .before .before .before .loop .inv .0, digits-last _ _ _ _ (c .before .before .before .before .before .loop-test .taken) (c .before .before .before .glyph .ensures) (c .before .before .put .ensures) ∙ c .before .before .before .before .before .before .loop .inv .1)
+    (set-length (c .before .before .before .before .before .before .loop .rest) (c .before .before .before .before .before .before .loop .i - 1) (c .before .before .before .glyph .result) (c .before .before .put-byte .ensures) ∙ c .before .before .before .before .before .before .loop .inv .0, digits-last _ _ _ _ (c .before .before .before .before .before .loop-test .taken) (c .before .before .before .glyph .ensures) (c .before .before .put-byte .ensures) ∙ c .before .before .before .before .before .before .loop .inv .1)
 
 same-length : tie.Need-same-length Inv-loop μ-loop
 same-length c = c .before .loop .inv .0

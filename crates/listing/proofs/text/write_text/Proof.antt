@@ -20,7 +20,7 @@ loop-holds c = (omega arith, refl, refl)
 
 loop-again : tie.Need-loop-again Inv-loop μ-loop
 loop-again c =
-    (omega arith, set-length (c .before .before .before .before .before .before .loop .rest) (c .before .before .before .before .before .before .loop .i) (getD (c .before .before .before .before .before .before .before .before .before .args .text .now) (c .before .before .before .before .before .before .loop .i) 0) (c .before .before .put .ensures) ∙ c .before .before .before .before .before .before .loop .inv .1, text-next _ _ _ (c .before .before .before .before .before .loop-test .taken) (c .before .before .put .ensures) ∙ c .before .before .before .before .before .before .loop .inv .2)
+    (omega arith, set-length (c .before .before .before .before .before .before .loop .rest) (c .before .before .before .before .before .before .loop .i) (getD (c .before .before .before .before .before .before .before .before .before .args .text .now) (c .before .before .before .before .before .before .loop .i) 0) (c .before .before .put-byte .ensures) ∙ c .before .before .before .before .before .before .loop .inv .1, text-next _ _ _ (c .before .before .before .before .before .loop-test .taken) (c .before .before .put-byte .ensures) ∙ c .before .before .before .before .before .before .loop .inv .2)
 
 same-length : tie.Need-same-length Inv-loop μ-loop
 same-length c = c .before .loop .inv .1

@@ -7,10 +7,10 @@ returns : tie.Need-returns
 returns c = known-past _ _ (c .if1 .taken)
 
 returns-2 : tie.Need-returns-2
-returns-2 c = known-size _ _ (c .before .before .word-at .ensures) (c .before .if2 .taken) (c .word-at2 .ensures)
+returns-2 c = known-size _ _ (c .before .before .word .ensures) (c .before .if2 .taken) (c .word2 .ensures)
 
 returns-3 : tie.Need-returns-3
-returns-3 c = known-refused _ _ (c .before .before .before .word-at .ensures) (c .before .before .if2 .left) (c .before .reason-of .ensures) (c .word-at3 .ensures)
+returns-3 c = known-refused _ _ (c .before .before .before .word .ensures) (c .before .before .if2 .left) (c .before .reason-of .ensures) (c .word3 .ensures)
 
 pub known-at-spec : {M : Type 1} → statement M
 known-at-spec =

@@ -4,7 +4,7 @@ use Rattle.tables.proofs.store.put_attr.Statement.{statement}
 use Rattle.tables.proofs.store.put_attr.Tie as tie
 
 returns : tie.Need-returns
-returns c = attr-stored _ _ _ (c .before .before .before .before .before .before .put .ensures) (c .before .before .put2 .ensures)
+returns c = attr-stored _ _ _ (c .before .before .before .before .before .before .put-cell .ensures) (c .before .before .put-cell2 .ensures)
 
 returns-2 : tie.Need-returns-2
 returns-2 c = attr-unstored _ _ _ (c .if1 .left)

@@ -23,17 +23,17 @@ same-length c = pass-length (c .before .before .before .before .loop .inv)
 returns : tie.Need-returns Inv-loop μ-loop
 returns c = pass-deep (c .before .before .before .before .loop .inv) (c .before .close .ensures) (c .if1 .taken) (c .before .before .before .loop-test .taken)
 
-cast-put : tie.Need-cast-put Inv-loop μ-loop
-cast-put c = omega (arith, c .before .before .before .before .before .before .before .before .before .before .before .before .before .before .before .before .pre .few)
+cast-put-cell : tie.Need-cast-put-cell Inv-loop μ-loop
+cast-put-cell c = omega (arith, c .before .before .before .before .before .before .before .before .before .before .before .before .before .before .before .before .pre .few)
 
 end-of-requires : tie.Need-end-of-requires Inv-loop μ-loop
 end-of-requires c κs = record { rising = c .before .before .before .before .before .before .before .before .before .before .before .before .before .before .before .before .before .before .pre .rising; there = c .before .before .before .before .before .before .before .before .before .before .before .before .loop-test .taken }
 
-cast-put-2 : tie.Need-cast-put-2 Inv-loop μ-loop
-cast-put-2 c = omega (arith, c .before .before .before .before .before .before .before .before .before .before .before .before .before .before .before .before .before .before .before .before .pre .few, reach-within _ _ _ _ _ _ (c .before .before .before .before .before .before .before .before .before .before .before .before .before .before .loop-test .taken) (c .before .end-of .ensures))
+cast-put-cell-2 : tie.Need-cast-put-cell-2 Inv-loop μ-loop
+cast-put-cell-2 c = omega (arith, c .before .before .before .before .before .before .before .before .before .before .before .before .before .before .before .before .before .before .before .before .pre .few, reach-within _ _ _ _ _ _ (c .before .before .before .before .before .before .before .before .before .before .before .before .before .before .loop-test .taken) (c .before .end-of .ensures))
 
 loop-again : tie.Need-loop-again Inv-loop μ-loop
-loop-again c = pass-next (c .before .before .before .before .before .before .before .before .before .before .before .before .before .before .before .before .before .loop .inv) (c .before .before .before .before .before .before .before .before .before .before .before .before .before .before .close .ensures) (c .before .before .before .before .before .before .before .before .before .before .before .before .before .if1 .left) (c .before .before .before .before .before .before .before .before .before .before .before .before .before .before .before .before .loop-test .taken) (c .before .before .before .before .before .before .before .before .before .before .before .nearest-of .ensures) (c .before .before .before .before .before .before .before .before .before .put-place .ensures) (c .before .before .before .before .before .put .ensures) (c .before .before .before .end-of .ensures) (c .before .put2 .ensures)
+loop-again c = pass-next (c .before .before .before .before .before .before .before .before .before .before .before .before .before .before .before .before .before .loop .inv) (c .before .before .before .before .before .before .before .before .before .before .before .before .before .before .close .ensures) (c .before .before .before .before .before .before .before .before .before .before .before .before .before .if1 .left) (c .before .before .before .before .before .before .before .before .before .before .before .before .before .before .before .before .loop-test .taken) (c .before .before .before .before .before .before .before .before .before .before .before .nearest-of .ensures) (c .before .before .before .before .before .before .before .before .before .put-place .ensures) (c .before .before .before .before .before .put-cell .ensures) (c .before .before .before .end-of .ensures) (c .before .put-cell2 .ensures)
 
 same-length-2 : tie.Need-same-length-2 Inv-loop μ-loop
 same-length-2 c = pass-length (c .before .loop .inv)
@@ -58,11 +58,11 @@ list-rows-spec =
     (λ c κs. search needs)
     (λ c. omega arith)
     (λ c. search needs)
-    cast-put
+    cast-put-cell
     (λ c κs. search needs)
     end-of-requires
     (λ c. omega arith)
-    cast-put-2
+    cast-put-cell-2
     (λ c κs. search needs)
     (λ c. search needs)
     (λ c. search needs)

@@ -5,7 +5,7 @@ use Rattle.tree.proofs.pass.put_place.Statement.{statement}
 use Rattle.tree.proofs.pass.put_place.Tie as tie
 
 returns : tie.Need-returns
-returns c = place-stored (now (c .before .before .before .before .before .before .before .before .before .before .args .room)) _ (c .before .before .before .before .before .before .before .before .before .before .args .depth) _ (c .before .before .before .before .before .before .put .ensures) (c .before .before .put2 .ensures)
+returns c = place-stored (now (c .before .before .before .before .before .before .before .before .before .before .args .room)) _ (c .before .before .before .before .before .before .before .before .before .before .args .depth) _ (c .before .before .before .before .before .before .put-cell .ensures) (c .before .before .put-cell2 .ensures)
 
 returns-2 : tie.Need-returns-2
 returns-2 c = place-unstored _ _ _ _ (c .if1 .left)

@@ -1,9 +1,9 @@
-use Rattle.records.proofs.Laws.MemberWords.{Storing, storing-begins, storing-on, storing-ends}
+use Rattle.lent.proofs.Laws.Stores.{Storing, storing-begins, storing-on, storing-ends}
 use borrow.Author.Needs.{needs}
 use Prim.Native.Nat.{_-_}
 use lib.ListN.{length}
-use Rattle.records.proofs.words.put_words.Statement.{statement}
-use Rattle.records.proofs.words.put_words.Tie as tie
+use Rattle.lent.proofs.words.put_words.Statement.{statement}
+use Rattle.lent.proofs.words.put_words.Tie as tie
 
 abbrev Inv-loop : tie.InvT-loop
 Inv-loop t₀ at words i₀ t i = Storing t₀ at words t i

@@ -1,4 +1,4 @@
-// One word of a table. A word past the end reads as 0 and is not stored, so that one reader can count on an empty table and fill a lent one.
+// Cells of 32 bits: rows, attributes, and what is told in row numbers.
 ghost use mathlib.Core.Path.{_≡_};
 ghost use lib.ListN.{getD, set};
 
@@ -8,7 +8,7 @@ pub fn cell(t: &[u32], i: usize) -> u32
     if i < t.len() { t[i] } else { 0 }
 }
 
-pub fn put(t: &mut [u32], i: usize, v: u32)
+pub fn put_cell(t: &mut [u32], i: usize, v: u32)
     ensures { λ _. ⌜ now (t .exit) ≡ set (now (t .entry)) i v ⌝ }
 {
     if i < t.len() {

@@ -1,25 +1,16 @@
-// Lent rooms for lists: a word past the end is not stored, so that one reader can count on empty room and fill lent room.
-use format::refusal::Refusal;
+// Words of 64 bits: rooms for lists of records.
 ghost use mathlib.Core.Path.{_≡_};
 ghost use Prim.Native.Nat.{_+_, _^_, _<_};
-ghost use lib.ListN.{length, set};
+ghost use lib.ListN.{length, getD, set};
 ghost use lib.Seq.{sets};
 
-// How many of a list there are; or a refusal.
-pub enum Counted {
-    Count(usize),
-    Refused(Refusal),
+pub fn word(t: &[u64], i: usize) -> u64
+    ensures { λ r. ⌜ r ≡ getD (now (t .entry)) i 0 ⌝ }
+{
+    if i < t.len() { t[i] } else { 0 }
 }
 
 pub fn put_word(t: &mut [u64], i: usize, v: u64)
-    ensures { λ _. ⌜ now (t .exit) ≡ set (now (t .entry)) i v ⌝ }
-{
-    if i < t.len() {
-        t[i] = v;
-    }
-}
-
-pub fn put_value(t: &mut [i32], i: usize, v: i32)
     ensures { λ _. ⌜ now (t .exit) ≡ set (now (t .entry)) i v ⌝ }
 {
     if i < t.len() {

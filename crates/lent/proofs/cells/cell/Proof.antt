@@ -1,8 +1,8 @@
-use Rattle.tables.proofs.Laws.Row.{word-none}
+use Rattle.lent.proofs.Laws.Stores.{word-none}
 use borrow.Author.Needs.{needs}
 use denote.Ref.{now}
-use Rattle.tables.proofs.words.cell.Statement.{statement}
-use Rattle.tables.proofs.words.cell.Tie as tie
+use Rattle.lent.proofs.cells.cell.Statement.{statement}
+use Rattle.lent.proofs.cells.cell.Tie as tie
 
 shared-slice-read-result : tie.Need-shared-slice-read-result
 shared-slice-read-result c = search needs

@@ -1,0 +1,7 @@
+// How many of a list there are; or a refusal.
+use format::refusal::Refusal;
+
+pub enum Counted {
+    Count(usize),
+    Refused(Refusal),
+}
