@@ -1,12 +1,12 @@
 -- A block of subscripts (document 01, 'Types, records, sizes'; the Rust's `process_array_subscript_data`): one after the other, the rest handed on; dimensions in
 -- their order, the last element type counting; no element type is 17.
 use Prim.Native.Nat.{ℕ, zero, suc, _/_}
-use mathlib.Core.Path.{_≡_}
 use mathlib.Core.Bool.{true, false, cond}
 use mathlib.Core.List.{List, [], _∷_, _++_}
 use lib.ListN.{length, drop}
 use lib.Seq.{sets}
 use lib.Dec.{eqb, leb}
+use Rattle.lent.specs.Outcome.{Outcome}
 use Rattle.numbers.specs.declared.Endian.{Endian}
 use Rattle.format.specs.declared.refusal.Reason.the-variants as reason
 use Rattle.blocks.specs.Location.{refusedBlock}
@@ -63,22 +63,12 @@ countSubscripts e block = wholeBlock e block .answer
 
 -- ---- into lent room: 8 last, with the count; on a refusal the room stays as it was
 
--- an outcome: the answer, and what the lent room then holds
-pub record Outcome : Type 0 where
-  pub answer : Subscripts
-  pub room : List ℕ
-
 -- a dimension is two words
-unfoldable pub intoRoom : List ℕ → List ℕ → Counted → Outcome
+unfoldable pub intoRoom : List ℕ → List ℕ → Counted → Outcome Subscripts ℕ
 intoRoom words room (counted.Are t n) =
     cond (leb n (length room / 2)) (record { answer = subscripts.Read t n; room = sets room 0 words }) (record { answer = subscripts.Room n; room = room })
 intoRoom words room (counted.Refused why) = record { answer = subscripts.Refused why; room = room }
 
 -- `process_array_subscript_data`
-unfoldable pub readSubscripts : Endian → List ℕ → List ℕ → Outcome
+unfoldable pub readSubscripts : Endian → List ℕ → List ℕ → Outcome Subscripts ℕ
 readSubscripts e block room = intoRoom (wholeBlock e block .words) room (countSubscripts e block)
-
--- answer and room are those of an outcome
-pub record SubscriptsRead (outcome : Outcome) (r : Subscripts) (room′ : List ℕ) : Type 0 where
-  pub answer-is : r ≡ outcome .answer
-  pub room-is : room′ ≡ outcome .room

@@ -37,7 +37,7 @@ pub enum VariableLocation {
 }
 
 // A refusal of a block alone, which has no key: its place is 0.
-pub fn refused_block(reason: Reason) -> Refusal
+pub(crate) fn refused_block(reason: Reason) -> Refusal
     ensures { λ r. ⌜ r ≡ refusedBlock reason ⌝ }
 {
     Refusal { reason, place: 0 }

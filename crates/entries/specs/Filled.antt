@@ -5,6 +5,7 @@ use mathlib.Core.Bool.{true}
 use mathlib.Core.List.{List, [], _∷_}
 use lib.ListN.{length}
 use lib.Seq.{sets}
+use Rattle.lent.specs.Outcome.{Outcomes}
 use Rattle.format.specs.declared.settings.Settings.{Settings}
 use Rattle.tables.specs.Row.{rowsWords, attrsWords, rowsFrom, attrsFrom}
 use Rattle.tables.specs.Test.{fitting}
@@ -12,7 +13,8 @@ use Rattle.tables.specs.declared.row.Row.{Row}
 use Rattle.tables.specs.declared.row.Attr.{Attr}
 use Rattle.tables.specs.declared.row.Counts.{Counts}
 use Rattle.entries.specs.Walk.{walked}
-use Rattle.entries.specs.Section.{wholeWalk, counts, Outcome}
+use Rattle.entries.specs.Section.{wholeWalk, counts}
+use Rattle.entries.specs.declared.section.Section.{Section}
 
 -- ---- keys
 
@@ -24,14 +26,14 @@ KeysRise top least (r ∷ rs) = (least ≤ r .key) × (r .key + 4 ≤ top) × Ke
 -- ---- the answer
 
 -- the tables were filled with what the walk gave: it is counted, stored from the first word on, and read back
-pub record Filled (settings : Settings) (vendors s rows attrs : List ℕ) (c : Counts) (o : Outcome) : Type 0 where
+pub record Filled (settings : Settings) (vendors s rows attrs : List ℕ) (c : Counts) (o : Outcomes Section ℕ ℕ) : Type 0 where
   pub rs : List Row
   pub xs : List Attr
   pub place : ℕ
   pub whole : wholeWalk settings vendors s ≡ walked rs xs place
   pub counted : c ≡ counts (length rs) (length xs)
   pub fits : fitting c (length rows) (length attrs) ≡ true
-  pub rows-stored : o .rows ≡ sets rows 0 (rowsWords rs)
-  pub attrs-stored : o .attrs ≡ sets attrs 0 (attrsWords xs)
-  pub rows-held : rowsFrom (o .rows) 0 (length rs) ≡ rs
-  pub attrs-held : attrsFrom (o .attrs) 0 (length xs) ≡ xs
+  pub rows-stored : o .first ≡ sets rows 0 (rowsWords rs)
+  pub attrs-stored : o .second ≡ sets attrs 0 (attrsWords xs)
+  pub rows-held : rowsFrom (o .first) 0 (length rs) ≡ rs
+  pub attrs-held : attrsFrom (o .second) 0 (length xs) ≡ xs

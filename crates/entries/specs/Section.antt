@@ -1,11 +1,11 @@
 -- The public calls: settings, a section, lent tables.
 use Prim.Native.Nat.{ℕ}
-use mathlib.Core.Path.{_≡_}
 use mathlib.Core.Bool.{false, cond}
 use mathlib.Core.List.{List}
 use lib.ListN.{length}
 use lib.Seq.{sets}
 use lib.Dec.{ltb}
+use Rattle.lent.specs.Outcome.{Outcomes, outcomes}
 use Rattle.format.specs.Limits.{sectionLimit, erasedLimit}
 use Rattle.format.specs.Settings.{settingsHold}
 use Rattle.format.specs.declared.settings.Settings.{Settings}
@@ -32,36 +32,20 @@ refusal why at = Refused (record { reason = why; place = at })
 abbrev pub counts : ℕ → ℕ → Counts
 counts n m = record { rows = n; attrs = m }
 
--- an outcome: the answer, and what the two lent tables then hold
-pub record Outcome : Type 0 where
-  pub answer : Section
-  pub rows : List ℕ
-  pub attrs : List ℕ
-
--- nothing is written
-abbrev pub untouched : Section → List ℕ → List ℕ → Outcome
-untouched answer rows attrs = record { answer = answer; rows = rows; attrs = attrs }
-
 -- what was read: into the tables if it fits them, words past it as they were; else 8 with the counts that are needed
-unfoldable pub stored : Walk → List ℕ → List ℕ → Outcome
+unfoldable pub stored : Walk → List ℕ → List ℕ → Outcomes Section ℕ ℕ
 stored (walked rs xs at) rows attrs =
     cond (fitting (counts (length rs) (length xs)) (length rows) (length attrs))
-    (record { answer = Read (counts (length rs) (length xs)); rows = sets rows 0 (rowsWords rs); attrs = sets attrs 0 (attrsWords xs) })
-    (untouched (Room (counts (length rs) (length xs))) rows attrs)
-stored (refused why at) rows attrs = untouched (refusal why at) rows attrs
+    (outcomes (Read (counts (length rs) (length xs))) (sets rows 0 (rowsWords rs)) (sets attrs 0 (attrsWords xs)))
+    (outcomes (Room (counts (length rs) (length xs))) rows attrs)
+stored (refused why at) rows attrs = outcomes (refusal why at) rows attrs
 
 -- 1, then 2, then what reading meets, then 8
-unfoldable pub readSection : Settings → List ℕ → List ℕ → List ℕ → List ℕ → List ℕ → Outcome
+unfoldable pub readSection : Settings → List ℕ → List ℕ → List ℕ → List ℕ → List ℕ → Outcomes Section ℕ ℕ
 readSection settings vendors sizes s rows attrs =
     cond (settingsHold settings vendors sizes)
-    (cond (ltb (length s) sectionLimit) (stored (wholeWalk settings vendors s) rows attrs) (untouched (refusal reason.Long 0) rows attrs))
-    (untouched (refusal reason.Settings 0) rows attrs)
-
--- the result and the tables are those of an outcome
-pub record SectionRead (o : Outcome) (r : Section) (rows attrs : List ℕ) : Type 0 where
-  pub answer-is : r ≡ o .answer
-  pub rows-are : rows ≡ o .rows
-  pub attrs-are : attrs ≡ o .attrs
+    (cond (ltb (length s) sectionLimit) (stored (wholeWalk settings vendors s) rows attrs) (outcomes (refusal reason.Long 0) rows attrs))
+    (outcomes (refusal reason.Settings 0) rows attrs)
 
 -- ---- reading and counting alone: whatever the limits, and with no tables
 

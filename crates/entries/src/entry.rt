@@ -258,7 +258,7 @@ fn read_ordinary(
 }
 
 // The entry at a state's place.
-pub fn read_entry(
+pub(crate) fn read_entry(
     s: &[u8],
     vendors: &[u16],
     fixed: Fixed,

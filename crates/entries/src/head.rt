@@ -66,7 +66,7 @@ fn size_head(erased: bool, s: &[u8], e: Endian, at: usize, size: u32) -> Head
 }
 
 // The head of the entry at a place.
-pub fn head_at(erased: bool, s: &[u8], e: Endian, at: usize) -> Head
+pub(crate) fn head_at(erased: bool, s: &[u8], e: Endian, at: usize) -> Head
     ensures { λ r. ⌜ HeadRead (now (s .entry)) at (headAt erased (now (s .entry)) e at) r ⌝ }
 {
     match u32_at(s, at, e) {

@@ -44,7 +44,7 @@ fn run_ends(global: u16, s: &[u8], e: Endian, high: bool, at: usize) -> bool
 }
 
 // The attributes from a place up to `end`, of a root or of an ordinary entry; the table has `attrs` of them before.
-pub fn read_run(
+pub(crate) fn read_run(
     s: &[u8],
     vendors: &[u16],
     global: u16,

@@ -18,10 +18,11 @@ use tables::row::ROW_WIDTH;
 ghost use mathlib.Core.Path.{_≡_};
 ghost use Prim.Native.Nat.{_<_};
 ghost use lib.ListN.{length};
+ghost use Rattle.lent.specs.Outcome.{BothGiven};
 ghost use Rattle.format.specs.Limits.{sectionLimit};
 ghost use Rattle.entries.specs.Inside.Promise.{start, walkAnswer, WalkRead};
 ghost use Rattle.tables.specs.Test.{fitting};
-ghost use Rattle.entries.specs.Section.{wholeWalk, countSection, readSection, SectionRead};
+ghost use Rattle.entries.specs.Section.{wholeWalk, countSection, readSection};
 
 // What counting answers.
 pub enum Count {
@@ -136,7 +137,7 @@ pub fn read_debug_section(
     rows: &mut [u32],
     attrs: &mut [u32],
 ) -> Section
-    ensures { λ r. ⌜ SectionRead (readSection settings (now (vendors .entry)) (now (sizes .entry)) (now (s .entry)) (now (rows .entry)) (now (attrs .entry))) r (now (rows .exit)) (now (attrs .exit)) ⌝ }
+    ensures { λ r. ⌜ BothGiven (readSection settings (now (vendors .entry)) (now (sizes .entry)) (now (s .entry)) (now (rows .entry)) (now (attrs .entry))) r (now (rows .exit)) (now (attrs .exit)) ⌝ }
 {
     match count_debug_section(s, settings, vendors, sizes) {
         Count::Counted(counts) => {

@@ -16,7 +16,7 @@ pub enum Walk {
 }
 
 // The entries from a state up to `end`: the Rust's `read_tags`.
-pub fn read_tags(
+pub(crate) fn read_tags(
     s: &[u8],
     vendors: &[u16],
     fixed: Fixed,

@@ -5,6 +5,7 @@ use mathlib.Core.Path.{_≡_}
 use mathlib.Core.Bool.{Bool, not, cond}
 use mathlib.Core.List.{List}
 use lib.Dec.{eqb}
+use Rattle.lent.specs.Outcome.{Outcome, Outcomes}
 use Rattle.numbers.specs.declared.Endian.{Endian}
 use Rattle.numbers.specs.declared.Endian.the-variants.{Big, Little}
 use Rattle.format.specs.Refusal.{numberOf}
@@ -14,24 +15,20 @@ use Rattle.format.specs.declared.settings.Producer.{Producer}
 use Rattle.format.specs.declared.settings.Producer.the-variants.{Mwcc, Gcc, Other}
 use Rattle.format.specs.declared.settings.Settings.{Settings}
 use Rattle.tables.specs.declared.row.Counts.{Counts}
-use Rattle.entries.specs.Section as entries
 use Rattle.entries.specs.declared.section.Count.{Count}
 use Rattle.entries.specs.declared.section.Count.the-variants as count
 use Rattle.entries.specs.declared.section.Section.{Section}
 use Rattle.entries.specs.declared.section.Section.the-variants as section
 use Rattle.sizes.specs.declared.sized.Sized.{Sized}
 use Rattle.sizes.specs.declared.sized.Sized.the-variants as sized
-use Rattle.sizes.specs.Layout as laying
 use Rattle.sizes.specs.declared.layout.Layout.{Layout}
 use Rattle.sizes.specs.declared.layout.LayoutRead.{LayoutRead}
 use Rattle.sizes.specs.declared.layout.LayoutRead.the-variants as layout
-use Rattle.sizes.specs.All as every
 use Rattle.sizes.specs.declared.all.LayoutCounts.{LayoutCounts}
 use Rattle.sizes.specs.declared.all.AllLayouts.{AllLayouts}
 use Rattle.sizes.specs.declared.all.AllLayouts.the-variants as layouts
 use Rattle.blocks.specs.declared.location.Located.{Located}
 use Rattle.blocks.specs.declared.location.Located.the-variants as located
-use Rattle.tree.specs.Tree as tree
 use Rattle.tree.specs.declared.listing.Listing.{Listing}
 use Rattle.tree.specs.declared.listing.Listing.the-variants as listing
 use Rattle.exports.specs.declared.told.Told.{Told}
@@ -148,10 +145,10 @@ abbrev pub CountCrosses : Count → ℕ → ℕ → ℕ → ℕ → Type 0
 CountCrosses answer number place rows attrs = SaysTwo (countTold answer) number place rows attrs
 
 -- the same of reading, and the lent tables hold what its outcome has
-pub record SectionCrosses (o : entries.Outcome) (number place rows attrs : ℕ) (rowTable attrTable : List ℕ) : Type 0 where
+pub record SectionCrosses (o : Outcomes Section ℕ ℕ) (number place rows attrs : ℕ) (rowTable attrTable : List ℕ) : Type 0 where
   pub says : SaysTwo (sectionTold (o .answer)) number place rows attrs
-  pub row-table : rowTable ≡ o .rows
-  pub attr-table : attrTable ≡ o .attrs
+  pub row-table : rowTable ≡ o .first
+  pub attr-table : attrTable ≡ o .second
 
 -- of a size
 abbrev pub SizeCrosses : Sized → ℕ → ℕ → ℕ → Type 0
@@ -162,17 +159,17 @@ abbrev pub OffsetCrosses : Located → ℕ → ℕ → ℕ → Type 0
 OffsetCrosses answer number place offset = SaysOne (offsetTold answer) number place offset
 
 -- of the tree listing, and the lent room holds what its outcome has
-pub record TreeCrosses (o : tree.Outcome) (number place rows : ℕ) (room : List ℕ) : Type 0 where
+pub record TreeCrosses (o : Outcome Listing ℕ) (number place rows : ℕ) (room : List ℕ) : Type 0 where
   pub says : SaysOne (treeTold (o .answer)) number place rows
   pub room-is : room ≡ o .room
 
 -- the same of a layout
-pub record LayoutCrosses (o : laying.Outcome) (number place row size members : ℕ) (room : List ℕ) : Type 0 where
+pub record LayoutCrosses (o : Outcome LayoutRead ℕ) (number place row size members : ℕ) (room : List ℕ) : Type 0 where
   pub says : SaysThree (layoutTold (o .answer)) number place row size members
   pub room-is : room ≡ o .room
 
 -- the same of all layouts, with both lent rooms
-pub record LayoutsCross (o : every.Outcome) (number place structures members : ℕ) (structureRoom memberRoom : List ℕ) : Type 0 where
+pub record LayoutsCross (o : Outcomes AllLayouts ℕ ℕ) (number place structures members : ℕ) (structureRoom memberRoom : List ℕ) : Type 0 where
   pub says : SaysTwo (layoutsTold (o .answer)) number place structures members
-  pub structure-room : structureRoom ≡ o .structures
-  pub member-room : memberRoom ≡ o .members
+  pub structure-room : structureRoom ≡ o .first
+  pub member-room : memberRoom ≡ o .second

@@ -8,7 +8,7 @@ ghost use mathlib.Core.Path.{_≡_};
 ghost use Rattle.exports.specs.Crossing.{endianFrom, erasedFrom, producerFrom, settingsFrom, countsFrom};
 
 // 0 is big-endian, any other number little-endian.
-pub fn endian_from(n: u32) -> Endian
+pub(crate) fn endian_from(n: u32) -> Endian
     ensures { λ r. ⌜ r ≡ endianFrom n ⌝ }
 {
     if n == 0 { Endian::Big } else { Endian::Little }
@@ -36,7 +36,7 @@ fn producer_from(n: u32) -> Producer
 }
 
 // The settings: three choices, then the numbers of the four roles, 0 for absent.
-pub fn settings_from(
+pub(crate) fn settings_from(
     endian: u32,
     erased: u32,
     producer: u32,
@@ -62,7 +62,7 @@ pub fn settings_from(
 }
 
 // How many rows and attributes a lent table has.
-pub fn counts_from(rows: u64, attrs: u64) -> Counts
+pub(crate) fn counts_from(rows: u64, attrs: u64) -> Counts
     ensures { λ r. ⌜ r ≡ countsFrom rows attrs ⌝ }
 {
     Counts {

@@ -14,7 +14,7 @@ pub struct Told {
 }
 
 // At no place: an answer that was given, or refusal 8.
-pub fn told_as(number: u32, first: u64, second: u64, third: u64) -> Told
+pub(crate) fn told_as(number: u32, first: u64, second: u64, third: u64) -> Told
     ensures { λ r. ⌜ r ≡ toldAs number first second third ⌝ }
 {
     Told {
@@ -27,7 +27,7 @@ pub fn told_as(number: u32, first: u64, second: u64, third: u64) -> Told
 }
 
 // A refusal's number and place; it has no results.
-pub fn refused_as(why: Refusal) -> Told
+pub(crate) fn refused_as(why: Refusal) -> Told
     ensures { λ r. ⌜ r ≡ refusedAs why ⌝ }
 {
     let reason = why.reason;

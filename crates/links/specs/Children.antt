@@ -1,11 +1,11 @@
 -- `children`, the public call: 1, 2, 3; 11 for a key without a row; 9 where the walk would never end; 8 with the count needed.
 use Prim.Native.Nat.{ℕ}
-use mathlib.Core.Path.{_≡_}
 use mathlib.Core.Bool.{cond}
 use mathlib.Core.List.{List}
 use lib.ListN.{length}
 use lib.Seq.{sets}
 use lib.Dec.{leb}
+use Rattle.lent.specs.Outcome.{Outcome, outcome}
 use Rattle.numbers.specs.declared.Endian.{Endian}
 use Rattle.format.specs.declared.settings.Settings.{Settings}
 use Rattle.format.specs.declared.refusal.Reason.the-variants as reason
@@ -19,33 +19,20 @@ use Rattle.links.specs.Links.{childWalk, nonNull}
 use Rattle.links.specs.declared.children.ChildRows.{ChildRows}
 use Rattle.links.specs.declared.children.ChildRows.the-variants.{Listed, Refused, Room}
 
--- an outcome: the answer, and what the lent room then holds
-pub record Outcome : Type 0 where
-  pub answer : ChildRows
-  pub room : List ℕ
-
-abbrev pub outcome : ChildRows → List ℕ → Outcome
-outcome answer room = record { answer = answer; room = room }
-
 -- the children of a walk into the room, words past them as they were; nothing is written on a refusal
-unfoldable pub given : List ℕ → ℕ → List ℕ → Walk → Outcome
+unfoldable pub given : List ℕ → ℕ → List ℕ → Walk → Outcome ChildRows ℕ
 given rows key room (ends cs) =
     cond (leb (length (nonNull rows cs)) (length room)) (outcome (Listed (length (nonNull rows cs))) (sets room 0 (nonNull rows cs)))
     (outcome (Room (length (nonNull rows cs))) room)
 given rows key room endless = outcome (Refused (refusedAt key reason.Link)) room
 
 -- of the row that was found; 11 at the key where there is none
-unfoldable pub childrenBy : Endian → List ℕ → List ℕ → List ℕ → ℕ → ℕ → List ℕ → Found → Outcome
+unfoldable pub childrenBy : Endian → List ℕ → List ℕ → List ℕ → ℕ → ℕ → List ℕ → Found → Outcome ChildRows ℕ
 childrenBy e s rows attrs n key room (At i) = given rows key room (childWalk e s rows attrs n i)
 childrenBy e s rows attrs n key room Nothing = outcome (Refused (refusedAt key reason.Entry)) room
 
 -- `children`: the tests, then the row of the key
-unfoldable pub childrenOf : Settings → List ℕ → List ℕ → List ℕ → List ℕ → List ℕ → Counts → ℕ → List ℕ → Outcome
+unfoldable pub childrenOf : Settings → List ℕ → List ℕ → List ℕ → List ℕ → List ℕ → Counts → ℕ → List ℕ → Outcome ChildRows ℕ
 childrenOf settings vendors sizes s rows attrs counts key room =
     tested settings vendors sizes s rows attrs counts (λ why. outcome (Refused why) room)
     (childrenBy (settings .endian) s rows attrs (counts .rows) key room (rowOfKey rows (counts .rows) key))
-
--- the result and the room are those of an outcome
-pub record Given (o : Outcome) (r : ChildRows) (room : List ℕ) : Type 0 where
-  pub answer-is : r ≡ o .answer
-  pub room-is : room ≡ o .room

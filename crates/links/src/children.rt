@@ -13,12 +13,13 @@ use tables::find::find_row;
 use tables::row::Counts;
 use tables::row::row_at;
 ghost use mathlib.Core.Path.{_≡_};
+ghost use Rattle.lent.specs.Outcome.{Given};
 ghost use Rattle.tables.specs.Check.{refusedAt};
 ghost use Rattle.links.specs.Walk.{walkFrom};
 ghost use Rattle.links.specs.Links.{siblingRow, childWalk};
 ghost use Rattle.links.specs.Inside.Links.{Rows};
 ghost use Rattle.links.specs.Inside.Children.{filled, Gathers, Takes, Small, Asked};
-ghost use Rattle.links.specs.Children.{given, childrenBy, childrenOf, Given};
+ghost use Rattle.links.specs.Children.{given, childrenBy, childrenOf};
 ghost use Rattle.tables.specs.Find.{rowOfKey};
 ghost use mathlib.Core.List.{[]};
 

@@ -51,7 +51,7 @@ fn first_attribute(attrs: &[u32], first: usize, n: usize, wanted: Wanted) -> Fou
 }
 
 // The first attribute of row i that is wanted.
-pub fn attribute_of(rows: &[u32], attrs: &[u32], i: usize, wanted: Wanted) -> Found
+pub(crate) fn attribute_of(rows: &[u32], attrs: &[u32], i: usize, wanted: Wanted) -> Found
     ensures { λ r. ⌜ r ≡ attributeOf (now (rows .entry)) (now (attrs .entry)) i wanted ⌝ }
 {
     let row = row_at(rows, i);

@@ -66,7 +66,7 @@ pub enum Placed {
 }
 
 // The row of a key, in a table that was tested.
-pub fn find_key(rows: &[u32], n: usize, key: u32) -> Keyed
+pub(crate) fn find_key(rows: &[u32], n: usize, key: u32) -> Keyed
     requires { ⌜ Rising (now rows) n ⌝ }
     ensures { λ r. ⌜ r ≡ rowBy key Keyed.Refused Keyed.Row (rowOfKey (now (rows .entry)) n key) ⌝ }
 {

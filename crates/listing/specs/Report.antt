@@ -3,16 +3,17 @@ use Prim.Native.Nat.{ℕ}
 use mathlib.Core.Bool.{Bool, false, cond}
 use mathlib.Core.List.{List, []}
 use lib.ListN.{replicate}
+use Rattle.lent.specs.Outcome.{Outcome, Outcomes}
 use Rattle.numbers.specs.declared.Endian.the-variants.{Big}
 use Rattle.format.specs.Refusal.{numberOf}
 use Rattle.format.specs.declared.refusal.Reason.the-variants as reason
 use Rattle.format.specs.declared.settings.Settings.{Settings}
 use Rattle.format.specs.declared.settings.Producer.the-variants.{Other}
-use Rattle.entries.specs.Section.{Outcome, readSection}
+use Rattle.entries.specs.Section.{readSection}
 use Rattle.entries.specs.declared.section.Section.{Section}
 use Rattle.entries.specs.declared.section.Section.the-variants.{Read, Refused, Room}
 use Rattle.tables.specs.declared.row.Counts.{Counts}
-use Rattle.tree.specs.Tree.{treeOf, Outcome as TreeOutcome}
+use Rattle.tree.specs.Tree.{treeOf}
 use Rattle.tree.specs.declared.listing.Listing.{Listing}
 use Rattle.tree.specs.declared.listing.Listing.the-variants as listing
 use Rattle.listing.specs.Text.{refusalText, listingText}
@@ -38,11 +39,11 @@ unfoldable pub placeRoom : List ℕ
 placeRoom = replicate 2048 0
 
 -- a section read into lent tables
-abbrev pub listingRead : List ℕ → List ℕ → List ℕ → Outcome
+abbrev pub listingRead : List ℕ → List ℕ → List ℕ → Outcomes Section ℕ ℕ
 listingRead s rows attrs = readSection listingSettings [] listingSizes s rows attrs
 
 -- the tree of such tables, into lent room
-abbrev pub listingTree : List ℕ → List ℕ → List ℕ → Counts → List ℕ → TreeOutcome
+abbrev pub listingTree : List ℕ → List ℕ → List ℕ → Counts → List ℕ → Outcome Listing ℕ
 listingTree s rows attrs counts room = treeOf listingSettings [] listingSizes s rows attrs counts room
 
 -- refusal 8, at 0
@@ -69,7 +70,7 @@ answerText s rows attrs (Room counts) = roomText
 -- the text for a section
 unfoldable pub reportText : List ℕ → List ℕ
 reportText s =
-    answerText s (listingRead s rowRoom attrRoom .rows) (listingRead s rowRoom attrRoom .attrs) (listingRead s rowRoom attrRoom .answer)
+    answerText s (listingRead s rowRoom attrRoom .first) (listingRead s rowRoom attrRoom .second) (listingRead s rowRoom attrRoom .answer)
 
 -- the text for an input, of which s is all or, where it is longer, the beginning
 unfoldable pub inputText : Bool → List ℕ → List ℕ

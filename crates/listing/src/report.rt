@@ -15,11 +15,10 @@ use tree::listing::Listing;
 use tree::listing::list_tree;
 ghost use mathlib.Core.Path.{_≡_};
 ghost use Prim.Native.Nat.{_≤_};
-ghost use Rattle.entries.specs.Section.{SectionRead};
+ghost use Rattle.lent.specs.Outcome.{Given, BothGiven};
 ghost use Rattle.listing.specs.Text.{refusalText};
 ghost use Rattle.listing.specs.Put.{Printed};
 ghost use Rattle.format.specs.Refusal.{numberOf};
-ghost use Rattle.tree.specs.Tree.{Given};
 ghost use Rattle.listing.specs.Inside.Report.{FewRead, FewListed};
 ghost use Rattle.listing.specs.Report.{listingSettings, listingRead, listingTree, roomText, placesText, treeText, answerText, reportText, inputText};
 
@@ -43,7 +42,7 @@ fn listing_settings() -> Settings
 
 // The section into the tables.
 fn read_tables(section: &[u8], rows: &mut [u32], attrs: &mut [u32]) -> Section
-    ensures { λ r. ⌜ SectionRead (listingRead (now (section .entry)) (now (rows .entry)) (now (attrs .entry))) r (now (rows .exit)) (now (attrs .exit)) ⌝ }
+    ensures { λ r. ⌜ BothGiven (listingRead (now (section .entry)) (now (rows .entry)) (now (attrs .entry))) r (now (rows .exit)) (now (attrs .exit)) ⌝ }
 {
     let vendors = [0u16; 0];
     let sizes = [4u32; 28];

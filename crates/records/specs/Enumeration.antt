@@ -1,13 +1,13 @@
 -- Enumerations (document 01, 'Types, records, sizes'; the Rust's `process_enumeration_tag`): attributes in their order, each list going by the ByteSize last seen
 -- before it; then no children; then a ByteSize is needed. GCC reverses the list.
 use Prim.Native.Nat.{ℕ, zero, suc, _+_, _/_, _-_}
-use mathlib.Core.Path.{_≡_}
 use mathlib.Core.Bool.{Bool, true, false, cond, _&&_}
 use mathlib.Core.List.{List, [], _∷_, _++_}
 use lib.ListN.{length}
 use lib.Seq.{sets}
 use lib.Dec.{leb}
 use lib.IntN.{ℤ}
+use Rattle.lent.specs.Outcome.{Outcomes, outcomes}
 use Rattle.format.specs.AttributeKind as attribute
 use Rattle.format.specs.declared.settings.Settings.{Settings}
 use Rattle.format.specs.declared.settings.Producer.{Producer}
@@ -118,35 +118,20 @@ module _ (settings : Settings) (s rows attrs : List ℕ) (n i : ℕ) where
 
 -- ---- into lent room: 8 last, with the count
 
--- an outcome: the answer, and what the two lent rooms then hold
-pub record Outcome : Type 0 where
-  pub answer : EnumerationRead
-  pub values : List ℤ
-  pub names : List ℕ
-
-abbrev outcome : EnumerationRead → List ℤ → List ℕ → Outcome
-outcome answer values names = record { answer = answer; values = values; names = names }
-
 -- the members in order into the rooms; nothing is written on a refusal
-unfoldable pub listInto : Producer → List ℤ → List ℕ → Lists → EnumerationRead → Outcome
+unfoldable pub listInto : Producer → List ℤ → List ℕ → Lists → EnumerationRead → Outcomes EnumerationRead ℤ ℕ
 listInto producer values names (listed xs) answer =
-    outcome answer (sets values 0 (valuesOf (inOrder producer xs))) (sets names 0 (namesOf (inOrder producer xs)))
-listInto producer values names (refused why) answer = outcome answer values names
+    outcomes answer (sets values 0 (valuesOf (inOrder producer xs))) (sets names 0 (namesOf (inOrder producer xs)))
+listInto producer values names (refused why) answer = outcomes answer values names
 
 -- a member is one value, and two words of names
-unfoldable pub intoRooms : Producer → List ℤ → List ℕ → Lists → EnumerationWhole → Outcome
+unfoldable pub intoRooms : Producer → List ℤ → List ℕ → Lists → EnumerationWhole → Outcomes EnumerationRead ℤ ℕ
 intoRooms producer values names lists (whole.Is e) =
-    cond (leb (e .members) (length values) && leb (e .members) (length names / 2)) (listInto producer values names lists (Is e)) (outcome (Room (e .members)) values names)
-intoRooms producer values names lists (whole.Refused why) = outcome (Refused why) values names
+    cond (leb (e .members) (length values) && leb (e .members) (length names / 2)) (listInto producer values names lists (Is e)) (outcomes (Room (e .members)) values names)
+intoRooms producer values names lists (whole.Refused why) = outcomes (Refused why) values names
 
 -- the enumeration of a key
-unfoldable pub enumerationBy : Settings → List ℕ → List ℕ → List ℕ → List ℕ → List ℕ → Counts → ℕ → List ℤ → List ℕ → Outcome
+unfoldable pub enumerationBy : Settings → List ℕ → List ℕ → List ℕ → List ℕ → List ℕ → Counts → ℕ → List ℤ → List ℕ → Outcomes EnumerationRead ℤ ℕ
 enumerationBy settings vendors sizes s rows attrs counts key values names =
-    inRow settings vendors sizes s rows attrs counts key (λ why. outcome (Refused why) values names)
+    inRow settings vendors sizes s rows attrs counts key (λ why. outcomes (Refused why) values names)
     (λ i. intoRooms (settings .producer) values names (rowLists settings s rows attrs (counts .rows) i) (enumerationAt settings s rows attrs (counts .rows) i))
-
--- answer and rooms are those of an outcome
-pub record EnumerationGiven (o : Outcome) (r : EnumerationRead) (values : List ℤ) (names : List ℕ) : Type 0 where
-  pub answer-is : r ≡ o .answer
-  pub values-are : values ≡ o .values
-  pub names-are : names ≡ o .names

@@ -1,12 +1,12 @@
 -- Unions (document 01, 'Types, records, sizes'; the Rust's `process_union_tag`): attributes, then the children in walk order, of which Member rows are read whole,
 -- rows that define a type are passed over and any other is 16 at the union; then a ByteSize is needed.
 use Prim.Native.Nat.{ℕ, _/_}
-use mathlib.Core.Path.{_≡_}
 use mathlib.Core.Bool.{Bool, cond}
 use mathlib.Core.List.{List, [], _∷_, _++_}
 use lib.ListN.{length}
 use lib.Seq.{sets}
 use lib.Dec.{eqb, leb}
+use Rattle.lent.specs.Outcome.{Outcome, outcome}
 use Rattle.format.specs.Lookup.{member}
 use Rattle.format.specs.TagKind as tag
 use Rattle.format.specs.declared.settings.Settings.{Settings}
@@ -110,31 +110,18 @@ unfoldable pub membersWords : List Placed → List ℕ
 membersWords [] = []
 membersWords (m ∷ ms) = memberWords (m .row) (m .member) ++ membersWords ms
 
--- an outcome: the answer, and what the lent room then holds
-pub record Outcome : Type 0 where
-  pub answer : UnionRead
-  pub room : List ℕ
-
-abbrev outcome : UnionRead → List ℕ → Outcome
-outcome answer room = record { answer = answer; room = room }
-
 -- the members into the room; nothing is written on a refusal
-unfoldable pub membersInto : List ℕ → Members → UnionRead → Outcome
+unfoldable pub membersInto : List ℕ → Members → UnionRead → Outcome UnionRead ℕ
 membersInto room (members ms) answer = outcome answer (sets room 0 (membersWords ms))
 membersInto room (refused why) answer = outcome answer room
 
 -- if they fit
-unfoldable pub intoRoom : List ℕ → Members → UnionWhole → Outcome
+unfoldable pub intoRoom : List ℕ → Members → UnionWhole → Outcome UnionRead ℕ
 intoRoom room ms (whole.Is u) = cond (leb (u .members) (length room / memberWidth)) (membersInto room ms (Is u)) (outcome (Room (u .members)) room)
 intoRoom room ms (whole.Refused why) = outcome (Refused why) room
 
 -- the union of a key
-unfoldable pub unionBy : Settings → List ℕ → List ℕ → List ℕ → List ℕ → List ℕ → Counts → ℕ → List ℕ → Outcome
+unfoldable pub unionBy : Settings → List ℕ → List ℕ → List ℕ → List ℕ → List ℕ → Counts → ℕ → List ℕ → Outcome UnionRead ℕ
 unionBy settings vendors sizes s rows attrs counts key room =
     inRow settings vendors sizes s rows attrs counts key (λ why. outcome (Refused why) room)
     (λ i. intoRoom room (rowMembers settings s rows attrs (counts .rows) i) (unionAt settings s rows attrs (counts .rows) i))
-
--- answer and room are those of an outcome
-pub record UnionGiven (o : Outcome) (r : UnionRead) (room : List ℕ) : Type 0 where
-  pub answer-is : r ≡ o .answer
-  pub room-is : room ≡ o .room

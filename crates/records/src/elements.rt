@@ -37,7 +37,7 @@ pub struct Slots {
 }
 
 // A ByteSize of 1, 2 or 4 is the width of the values; with any other, or none yet, there are none.
-pub fn list_width(size: Word) -> usize
+pub(crate) fn list_width(size: Word) -> usize
     ensures { λ r. ⌜ r ≡ listWidth size ⌝ }
 {
     match size {
@@ -143,7 +143,7 @@ fn put_element(
 }
 
 // A whole list, whose block stands at `base` of the section: elements from number k on.
-pub fn read_list(
+pub(crate) fn read_list(
     block: &[u8],
     e: Endian,
     width: usize,

@@ -35,9 +35,10 @@ use tables::row::attr_at;
 ghost use mathlib.Core.Path.{_≡_};
 ghost use Prim.Native.Nat.{_<_};
 ghost use lib.ListN.{length};
+ghost use Rattle.lent.specs.Outcome.{BothGiven};
 ghost use Rattle.links.specs.Inside.Children.{Asked};
 ghost use Rattle.format.specs.Limits.{sectionLimit};
-ghost use Rattle.records.specs.Enumeration.{sizeBefore, isGcc, sizedBy, enumerationEnd, rowLists, enumerationAt, listsFrom, intoRooms, enumerationBy, EnumerationGiven};
+ghost use Rattle.records.specs.Enumeration.{sizeBefore, isGcc, sizedBy, enumerationEnd, rowLists, enumerationAt, listsFrom, intoRooms, enumerationBy};
 ghost use Rattle.records.specs.Inside.Elements.{StoredFrom};
 ghost use Rattle.records.specs.Inside.Enumeration.{Countable, oneList, Stepping, Steps, AskedShort, WholeStored};
 
@@ -296,7 +297,7 @@ fn give_enumeration(
     names: &mut [u64],
 ) -> EnumerationRead
     requires { ⌜ AskedShort (now s) (now rows) n i ⌝ }
-    ensures { λ r. ⌜ EnumerationGiven (intoRooms (settings .producer) (now (values .entry)) (now (names .entry)) (rowLists settings (now (s .entry)) (now (rows .entry)) (now (attrs .entry)) n i) (enumerationAt settings (now (s .entry)) (now (rows .entry)) (now (attrs .entry)) n i)) r (now (values .exit)) (now (names .exit)) ⌝ }
+    ensures { λ r. ⌜ BothGiven (intoRooms (settings .producer) (now (values .entry)) (now (names .entry)) (rowLists settings (now (s .entry)) (now (rows .entry)) (now (attrs .entry)) n i) (enumerationAt settings (now (s .entry)) (now (rows .entry)) (now (attrs .entry)) n i)) r (now (values .exit)) (now (names .exit)) ⌝ }
 {
     match enumeration_at(s, settings, rows, attrs, n, i) {
         EnumerationWhole::Is(found) => {
@@ -329,7 +330,7 @@ pub fn process_enumeration_tag(
     values: &mut [i32],
     names: &mut [u64],
 ) -> EnumerationRead
-    ensures { λ r. ⌜ EnumerationGiven (enumerationBy settings (now (vendors .entry)) (now (sizes .entry)) (now (s .entry)) (now (rows .entry)) (now (attrs .entry)) counts key (now (values .entry)) (now (names .entry))) r (now (values .exit)) (now (names .exit)) ⌝ }
+    ensures { λ r. ⌜ BothGiven (enumerationBy settings (now (vendors .entry)) (now (sizes .entry)) (now (s .entry)) (now (rows .entry)) (now (attrs .entry)) counts key (now (values .entry)) (now (names .entry))) r (now (values .exit)) (now (names .exit)) ⌝ }
 {
     match row_of(s, settings, vendors, sizes, rows, attrs, counts, key) {
         Keyed::Row(i) => {

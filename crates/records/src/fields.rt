@@ -72,7 +72,7 @@ fn is_sought(sought: Sought, number: u16) -> bool
 }
 
 // The last of `count` attributes from `first` on that is sought.
-pub fn last_from(attrs: &[u32], first: u32, count: u32, sought: Sought) -> Found
+pub(crate) fn last_from(attrs: &[u32], first: u32, count: u32, sought: Sought) -> Found
     ensures { λ r. ⌜ r ≡ lastFrom sought (now (attrs .entry)) first count ⌝ }
 {
     let from = first as usize;
@@ -135,7 +135,7 @@ fn replaced(key: u32, typed: Typed) -> Typed
 }
 
 // A record needs its type.
-pub fn type_by(s: &[u8], attrs: &[u32], run: Run, found: Found) -> Typed
+pub(crate) fn type_by(s: &[u8], attrs: &[u32], run: Run, found: Found) -> Typed
     ensures { λ r. ⌜ r ≡ typeBy (now (s .entry)) (now (attrs .entry)) run found ⌝ }
 {
     match found {
@@ -151,7 +151,7 @@ pub fn type_by(s: &[u8], attrs: &[u32], run: Run, found: Found) -> Typed
     }
 }
 
-pub fn last_type(s: &[u8], attrs: &[u32], run: Run) -> Typed
+pub(crate) fn last_type(s: &[u8], attrs: &[u32], run: Run) -> Typed
     ensures { λ r. ⌜ r ≡ typeOf (now (s .entry)) (now (attrs .entry)) run ⌝ }
 {
     type_by(s, attrs, run, last_of(attrs, run, Sought::Type))
@@ -169,7 +169,7 @@ fn offset_in(block: &[u8], run: Run) -> Needed
 }
 
 // A member needs its offset.
-pub fn last_offset(s: &[u8], attrs: &[u32], run: Run) -> Needed
+pub(crate) fn last_offset(s: &[u8], attrs: &[u32], run: Run) -> Needed
     ensures { λ r. ⌜ r ≡ offsetField (now (s .entry)) (now (attrs .entry)) run ⌝ }
 {
     match last_of(attrs, run, Sought::Number(LOCATION)) {
@@ -193,7 +193,7 @@ fn address_in(block: &[u8], run: Run) -> Word
     }
 }
 
-pub fn last_address(s: &[u8], attrs: &[u32], run: Run) -> Word
+pub(crate) fn last_address(s: &[u8], attrs: &[u32], run: Run) -> Word
     ensures { λ r. ⌜ r ≡ addressField (now (s .entry)) (now (attrs .entry)) run ⌝ }
 {
     match last_of(attrs, run, Sought::Number(LOCATION)) {
@@ -230,7 +230,7 @@ fn word_in(s: &[u8], attrs: &[u32], run: Run, k: usize) -> Word
 }
 
 // The number that an attribute says.
-pub fn word_by(s: &[u8], attrs: &[u32], run: Run, found: Found) -> Word
+pub(crate) fn word_by(s: &[u8], attrs: &[u32], run: Run, found: Found) -> Word
     ensures { λ r. ⌜ r ≡ wordBy (now (s .entry)) (now (attrs .entry)) run found ⌝ }
 {
     match found {
@@ -246,7 +246,7 @@ pub fn last_word(s: &[u8], attrs: &[u32], run: Run, number: u16) -> Word
     word_by(s, attrs, run, last_of(attrs, run, Sought::Number(number)))
 }
 
-pub fn needs(word: Word, key: u32) -> Needed
+pub(crate) fn needs(word: Word, key: u32) -> Needed
     ensures { λ r. ⌜ r ≡ needed key word ⌝ }
 {
     match word {
@@ -256,7 +256,7 @@ pub fn needs(word: Word, key: u32) -> Needed
 }
 
 // The text of the attribute that plays a role; a role that is absent is played by none.
-pub fn role_name(s: &[u8], attrs: &[u32], run: Run, role: u16) -> Name
+pub(crate) fn role_name(s: &[u8], attrs: &[u32], run: Run, role: u16) -> Name
     ensures { λ r. ⌜ r ≡ roleName (now (s .entry)) (now (attrs .entry)) run role ⌝ }
 {
     if role == 0 {
@@ -267,7 +267,7 @@ pub fn role_name(s: &[u8], attrs: &[u32], run: Run, role: u16) -> Name
 }
 
 // The number that it says.
-pub fn role_word(s: &[u8], attrs: &[u32], run: Run, role: u16) -> Word
+pub(crate) fn role_word(s: &[u8], attrs: &[u32], run: Run, role: u16) -> Word
     ensures { λ r. ⌜ r ≡ roleWord (now (s .entry)) (now (attrs .entry)) run role ⌝ }
 {
     if role == 0 {
@@ -290,7 +290,7 @@ fn visibility_by(number: u16) -> Visibility
 }
 
 // Public where nothing else is said.
-pub fn last_visibility(attrs: &[u32], run: Run) -> Visibility
+pub(crate) fn last_visibility(attrs: &[u32], run: Run) -> Visibility
     ensures { λ r. ⌜ r ≡ visibilityOf (now (attrs .entry)) run ⌝ }
 {
     match last_of(attrs, run, Sought::Visibility) {

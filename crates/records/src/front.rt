@@ -46,7 +46,7 @@ fn kind_taken(producer: Producer, which: Record, kind: u32) -> bool
     }
 }
 
-pub fn kind_fault(settings: Settings, rows: &[u32], i: usize, which: Record) -> Fault
+pub(crate) fn kind_fault(settings: Settings, rows: &[u32], i: usize, which: Record) -> Fault
     ensures { λ r. ⌜ r ≡ kindFault settings (now (rows .entry)) which i ⌝ }
 {
     let row = row_at(rows, i);
@@ -59,7 +59,7 @@ pub fn kind_fault(settings: Settings, rows: &[u32], i: usize, which: Record) -> 
 }
 
 // A record that allows no children: 9 where the walk never ends, 16 where it meets one.
-pub fn childless_fault(
+pub(crate) fn childless_fault(
     s: &[u8],
     e: Endian,
     rows: &[u32],
@@ -84,7 +84,7 @@ pub fn childless_fault(
 }
 
 // Kind and attributes of a record that reads no attribute itself.
-pub fn head_fault(
+pub(crate) fn head_fault(
     s: &[u8],
     settings: Settings,
     rows: &[u32],
@@ -107,7 +107,7 @@ pub fn head_fault(
 }
 
 // The same, and no children.
-pub fn front_fault(
+pub(crate) fn front_fault(
     s: &[u8],
     settings: Settings,
     rows: &[u32],

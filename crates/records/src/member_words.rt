@@ -121,7 +121,7 @@ fn word_number(word: Word) -> u64
 }
 
 // The member at row `row`, as record k of the room, if it fits.
-pub fn put_member(room: &mut [u64], k: usize, row: usize, member: Member)
+pub(crate) fn put_member(room: &mut [u64], k: usize, row: usize, member: Member)
     ensures { λ _. ⌜ now (room .exit) ≡ sets (now (room .entry)) (k * memberWidth) (memberWords row member) ⌝ }
 {
     let name = member.name;

@@ -128,7 +128,7 @@ fn expected_form(roles: Roles, number: u16) -> FormKind
     }
 }
 
-pub fn is_type(number: u16) -> bool
+pub(crate) fn is_type(number: u16) -> bool
     ensures { λ r. ⌜ r ≡ isType number ⌝ }
 {
     (number == 0x55) | ((number == 0x63) | ((number == 0x72) | (number == 0x83)))
@@ -198,7 +198,7 @@ fn form_fault(s: &[u8], roles: Roles, which: Record, run: Run, attribute: Attrib
 }
 
 // An attribute of a record.
-pub fn attribute_fault(
+pub(crate) fn attribute_fault(
     s: &[u8],
     roles: Roles,
     which: Record,
@@ -215,7 +215,7 @@ pub fn attribute_fault(
 }
 
 // The attributes from `from` on, up to the next that is the record's own business.
-pub fn scan_from(
+pub(crate) fn scan_from(
     s: &[u8],
     roles: Roles,
     attrs: &[u32],
@@ -244,7 +244,13 @@ pub fn scan_from(
 }
 
 // All attributes of a record that reads none itself.
-pub fn attributes_fault(s: &[u8], roles: Roles, attrs: &[u32], which: Record, run: Run) -> Fault
+pub(crate) fn attributes_fault(
+    s: &[u8],
+    roles: Roles,
+    attrs: &[u32],
+    which: Record,
+    run: Run,
+) -> Fault
     requires { ⌜ Plain which ⌝ }
     ensures { λ r. ⌜ r ≡ faultsFrom (faultAt roles which run (now (s .entry)) (now (attrs .entry))) 0 (run .count) ⌝ }
 {

@@ -121,7 +121,7 @@ fn is_taken(which: Record, number: u16) -> bool
 }
 
 // Does an attribute of this number play a role? A role that is absent is played by none.
-pub fn plays(role: u16, number: u16) -> bool
+pub(crate) fn plays(role: u16, number: u16) -> bool
     ensures { λ r. ⌜ r ≡ plays role number ⌝ }
 {
     (role != 0) & (number == role)
@@ -145,14 +145,14 @@ fn role_taken(roles: Roles, which: Record, number: u16) -> bool
     }
 }
 
-pub fn takes(roles: Roles, which: Record, number: u16) -> bool
+pub(crate) fn takes(roles: Roles, which: Record, number: u16) -> bool
     ensures { λ r. ⌜ r ≡ takes roles which number ⌝ }
 {
     is_taken(which, number) | role_taken(roles, which, number)
 }
 
 // Attributes that the record reads itself: the scan stops at them.
-pub fn is_special(which: Record, number: u16) -> bool
+pub(crate) fn is_special(which: Record, number: u16) -> bool
     ensures { λ r. ⌜ r ≡ special which number ⌝ }
 {
     match which {

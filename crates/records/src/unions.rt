@@ -30,8 +30,9 @@ use links::typed::row_of;
 use tables::row::Counts;
 use tables::row::row_at;
 ghost use mathlib.Core.Path.{_≡_};
+ghost use Rattle.lent.specs.Outcome.{Given};
 ghost use Rattle.links.specs.Inside.Children.{Asked};
-ghost use Rattle.records.specs.Unions.{ignored, sizedBy, membersFrom, rowMembers, unionAt, intoRoom, unionBy, UnionGiven};
+ghost use Rattle.records.specs.Unions.{ignored, sizedBy, membersFrom, rowMembers, unionAt, intoRoom, unionBy};
 ghost use Rattle.records.specs.Inside.Unions.{TakeAsked, Takes, EndsAt, MembersStored, WholeStored};
 ghost use Rattle.links.specs.Inside.Kids.{kidsOf};
 ghost use Rattle.tables.specs.Row.{rowAt};
@@ -228,7 +229,7 @@ fn give_union(
     room: &mut [u64],
 ) -> UnionRead
     requires { ⌜ Asked (now rows) n i ⌝ }
-    ensures { λ r. ⌜ UnionGiven (intoRoom (now (room .entry)) (rowMembers settings (now (s .entry)) (now (rows .entry)) (now (attrs .entry)) n i) (unionAt settings (now (s .entry)) (now (rows .entry)) (now (attrs .entry)) n i)) r (now (room .exit)) ⌝ }
+    ensures { λ r. ⌜ Given (intoRoom (now (room .entry)) (rowMembers settings (now (s .entry)) (now (rows .entry)) (now (attrs .entry)) n i) (unionAt settings (now (s .entry)) (now (rows .entry)) (now (attrs .entry)) n i)) r (now (room .exit)) ⌝ }
 {
     match union_at(s, settings, rows, attrs, n, i) {
         UnionWhole::Is(found) => {
@@ -255,7 +256,7 @@ pub fn process_union_tag(
     key: u32,
     room: &mut [u64],
 ) -> UnionRead
-    ensures { λ r. ⌜ UnionGiven (unionBy settings (now (vendors .entry)) (now (sizes .entry)) (now (s .entry)) (now (rows .entry)) (now (attrs .entry)) counts key (now (room .entry))) r (now (room .exit)) ⌝ }
+    ensures { λ r. ⌜ Given (unionBy settings (now (vendors .entry)) (now (sizes .entry)) (now (s .entry)) (now (rows .entry)) (now (attrs .entry)) counts key (now (room .entry))) r (now (room .exit)) ⌝ }
 {
     match row_of(s, settings, vendors, sizes, rows, attrs, counts, key) {
         Keyed::Row(i) => give_union(s, settings, rows, attrs, counts.rows, i, room),

@@ -1,12 +1,12 @@
 -- Every structure's and class's layout of a table, in file order, each as `Layout` has it for its key. One that is refused says so, and the rest go on:
 -- only 1, 2, 3 and 8 refuse the call.
 use Prim.Native.Nat.{ℕ, zero, suc, _+_, _-_, _/_}
-use mathlib.Core.Path.{_≡_}
 use mathlib.Core.Bool.{Bool, cond, _&&_}
 use mathlib.Core.List.{List, [], _∷_, _++_}
 use lib.ListN.{length}
 use lib.Seq.{sets}
 use lib.Dec.{leb}
+use Rattle.lent.specs.Outcome.{Outcomes, outcomes}
 use Rattle.format.specs.AttributeKind as attribute
 use Rattle.format.specs.Limits.{depthLimit}
 use Rattle.format.specs.Refusal.{numberOf}
@@ -91,32 +91,16 @@ memberCount (x ∷ xs) = length (x .members) + memberCount xs
 unfoldable pub countsOf : List Structure → LayoutCounts
 countsOf xs = record { structures = length xs; members = memberCount xs }
 
--- an outcome: the answer, and what the two lent rooms then hold
-pub record Outcome : Type 0 where
-  pub answer : AllLayouts
-  pub structures : List ℕ
-  pub members : List ℕ
-
--- the same, in short
-abbrev pub outcome : AllLayouts → List ℕ → List ℕ → Outcome
-outcome answer structures members = record { answer = answer; structures = structures; members = members }
-
 -- 8, with both counts, where either room is too short: nothing is written in either
-unfoldable pub intoRooms : List ℕ → List ℕ → List Structure → Outcome
+unfoldable pub intoRooms : List ℕ → List ℕ → List Structure → Outcomes AllLayouts ℕ ℕ
 intoRooms structures members xs =
     cond (leb (length xs) (length structures / structureWidth) && leb (memberCount xs) (length members / laidWidth))
-    (outcome (all.Are (countsOf xs)) (sets structures 0 (structureWords 0 xs)) (sets members 0 (memberWords xs)))
-    (outcome (all.Room (countsOf xs)) structures members)
+    (outcomes (all.Are (countsOf xs)) (sets structures 0 (structureWords 0 xs)) (sets members 0 (memberWords xs)))
+    (outcomes (all.Room (countsOf xs)) structures members)
 
 -- all layouts of a table; each structure is depth 1: the entries that its members name are depth 2
-unfoldable pub allOf : Settings → List ℕ → List ℕ → List ℕ → List ℕ → List ℕ → Counts → List ℕ → List ℕ → Outcome
+unfoldable pub allOf : Settings → List ℕ → List ℕ → List ℕ → List ℕ → List ℕ → Counts → List ℕ → List ℕ → Outcomes AllLayouts ℕ ℕ
 allOf settings vendors sizes s rows attrs counts structures members =
-    tested settings vendors sizes s rows attrs counts (λ why. outcome (all.Refused why) structures members)
+    tested settings vendors sizes s rows attrs counts (λ why. outcomes (all.Refused why) structures members)
     (intoRooms structures members
     (structuresFrom settings s rows attrs (counts .rows) (typeSize settings sizes s rows attrs (counts .rows) (depthLimit - 1)) 0 (counts .rows)))
-
--- answer and rooms are those of an outcome
-pub record AllGiven (o : Outcome) (r : AllLayouts) (structures members : List ℕ) : Type 0 where
-  pub answer-is : r ≡ o .answer
-  pub structures-are : structures ≡ o .structures
-  pub members-are : members ≡ o .members

@@ -3,12 +3,12 @@
 -- which is tested (20) only where the ends make the size, that is without ByteSize.
 -- The tests in their order: 1, 2, 3; of the entry 11, 12; 9 and what its Member records refuse; member by member its size and end; 8.
 use Prim.Native.Nat.{ℕ, _+_, _-_, _/_}
-use mathlib.Core.Path.{_≡_}
 use mathlib.Core.Bool.{Bool, true, false, cond}
 use mathlib.Core.List.{List, [], _∷_}
 use lib.ListN.{length}
 use lib.Seq.{sets}
 use lib.Dec.{leb}
+use Rattle.lent.specs.Outcome.{Outcome, outcome}
 use Rattle.format.specs.AttributeKind as attribute
 use Rattle.format.specs.Limits.{depthLimit}
 use Rattle.format.specs.declared.settings.Settings.{Settings}
@@ -132,34 +132,20 @@ laidWords (x ∷ xs) = x .offset ∷ x .size ∷ x .place ∷ x .length ∷ laid
 abbrev pub laidWidth : ℕ
 laidWidth = 4
 
--- an outcome: the answer, and what the lent room then holds
-pub record Outcome : Type 0 where
-  pub answer : LayoutRead
-  pub room : List ℕ
-
--- the same, in short
-abbrev outcome : LayoutRead → List ℕ → Outcome
-outcome answer room = record { answer = answer; room = room }
-
 -- the members into the room; nothing is written on a refusal
-unfoldable pub layInto : List ℕ → Lay → LayoutRead → Outcome
+unfoldable pub layInto : List ℕ → Lay → LayoutRead → Outcome LayoutRead ℕ
 layInto room (laid xs largest) answer = outcome answer (sets room 0 (laidWords xs))
 layInto room (unlaid why) answer = outcome answer room
 
 -- 8, with how many members there are, where the room is too short for all: nothing is written
-unfoldable pub intoRoom : List ℕ → Lay → LayoutWhole → Outcome
+unfoldable pub intoRoom : List ℕ → Lay → LayoutWhole → Outcome LayoutRead ℕ
 intoRoom room lay (whole.Is x) = cond (leb (x .members) (length room / laidWidth)) (layInto room lay (layout.Is x)) (outcome (layout.Room (x .members)) room)
 intoRoom room lay (whole.Refused why) = outcome (layout.Refused why) room
 
 -- the layout of a key's entry, which is depth 1: the entries that its members name are depth 2
-unfoldable pub layoutOf : Settings → List ℕ → List ℕ → List ℕ → List ℕ → List ℕ → Counts → ℕ → List ℕ → Outcome
+unfoldable pub layoutOf : Settings → List ℕ → List ℕ → List ℕ → List ℕ → List ℕ → Counts → ℕ → List ℕ → Outcome LayoutRead ℕ
 layoutOf settings vendors sizes s rows attrs counts key room =
     inRow settings vendors sizes s rows attrs counts key (λ why. outcome (layout.Refused why) room)
     (λ i.
     intoRoom room (rowLay settings s rows attrs (counts .rows) (typeSize settings sizes s rows attrs (counts .rows) (depthLimit - 1)) i)
     (layoutAt settings s rows attrs (counts .rows) (typeSize settings sizes s rows attrs (counts .rows) (depthLimit - 1)) i))
-
--- answer and room are those of an outcome
-pub record LayoutGiven (o : Outcome) (r : LayoutRead) (room : List ℕ) : Type 0 where
-  pub answer-is : r ≡ o .answer
-  pub room-is : room ≡ o .room

@@ -27,12 +27,13 @@ ghost use mathlib.Core.Path.{_≡_};
 ghost use Prim.Native.Nat.{_*_, _≤_};
 ghost use lib.ListN.{length};
 ghost use lib.Seq.{sets};
+ghost use Rattle.lent.specs.Outcome.{BothGiven};
 ghost use Rattle.sizes.specs.Size.{typeSize};
 ghost use Rattle.sizes.specs.Inside.Size.{Ready, typeFrom};
 ghost use Rattle.sizes.specs.Inside.Known.{knownWidth};
 ghost use Rattle.sizes.specs.Inside.Levels.{deepest, FillAsked};
 ghost use Rattle.sizes.specs.Inside.Kept.{AllKept};
-ghost use Rattle.sizes.specs.All.{structureWidth, structuresFrom, allOf, intoRooms, AllGiven};
+ghost use Rattle.sizes.specs.All.{structureWidth, structuresFrom, allOf, intoRooms};
 ghost use Rattle.sizes.specs.Inside.All.{OneMore, CountAsked, PutAsked, PutsAsked, eightWords, sizeTold, countedOn, rowStructures, Told, RowCounted, AllCounted, Puts, PutAll};
 
 pub struct LayoutCounts {
@@ -322,7 +323,7 @@ fn give_layouts(
     members: &mut [u64],
 ) -> AllLayouts
     requires { ⌜ FillAsked (now s) (now rows) n (now told) × AllKept settings (now sizes) (now s) (now rows) (now attrs) n (now known) (now kept) ⌝ }
-    ensures { λ r. ⌜ AllGiven (intoRooms (now (structures .entry)) (now (members .entry)) (structuresFrom settings (now (s .entry)) (now (rows .entry)) (now (attrs .entry)) n (typeFrom settings (now (sizes .entry)) (now (s .entry)) (now (rows .entry)) (now (attrs .entry)) n (now (known .entry)) 0) 0 n)) r (now (structures .exit)) (now (members .exit)) ⌝ }
+    ensures { λ r. ⌜ BothGiven (intoRooms (now (structures .entry)) (now (members .entry)) (structuresFrom settings (now (s .entry)) (now (rows .entry)) (now (attrs .entry)) n (typeFrom settings (now (sizes .entry)) (now (s .entry)) (now (rows .entry)) (now (attrs .entry)) n (now (known .entry)) 0) 0 n)) r (now (structures .exit)) (now (members .exit)) ⌝ }
 {
     let needed = count_layouts(s, settings, sizes, rows, attrs, n, known, kept, told);
     if needed.structures > structures.len() / STRUCTURE_WIDTH {
@@ -359,7 +360,7 @@ fn lay_all(
     members: &mut [u64],
 ) -> AllLayouts
     requires { ⌜ Ready (now s) (now rows) n ⌝ }
-    ensures { λ r. ⌜ AllGiven (intoRooms (now (structures .entry)) (now (members .entry)) (structuresFrom settings (now (s .entry)) (now (rows .entry)) (now (attrs .entry)) n (typeSize settings (now (sizes .entry)) (now (s .entry)) (now (rows .entry)) (now (attrs .entry)) n deepest) 0 n)) r (now (structures .exit)) (now (members .exit)) ⌝ }
+    ensures { λ r. ⌜ BothGiven (intoRooms (now (structures .entry)) (now (members .entry)) (structuresFrom settings (now (s .entry)) (now (rows .entry)) (now (attrs .entry)) n (typeSize settings (now (sizes .entry)) (now (s .entry)) (now (rows .entry)) (now (attrs .entry)) n deepest) 0 n)) r (now (structures .exit)) (now (members .exit)) ⌝ }
 {
     let mut kept = [0u64; KEPT_WORDS];
     keep_rows(s, settings, sizes, rows, attrs, n, &mut kept);
@@ -403,7 +404,7 @@ pub fn all_layouts(
     structures: &mut [u64],
     members: &mut [u64],
 ) -> AllLayouts
-    ensures { λ r. ⌜ AllGiven (allOf settings (now (vendors .entry)) (now (sizes .entry)) (now (s .entry)) (now (rows .entry)) (now (attrs .entry)) counts (now (structures .entry)) (now (members .entry))) r (now (structures .exit)) (now (members .exit)) ⌝ }
+    ensures { λ r. ⌜ BothGiven (allOf settings (now (vendors .entry)) (now (sizes .entry)) (now (s .entry)) (now (rows .entry)) (now (attrs .entry)) counts (now (structures .entry)) (now (members .entry))) r (now (structures .exit)) (now (members .exit)) ⌝ }
 {
     match check_table(s, settings, vendors, sizes, rows, attrs, counts) {
         Check::Passed => lay_all(

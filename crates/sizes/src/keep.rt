@@ -190,7 +190,7 @@ fn keep_faults(
 }
 
 // What is kept of all rows.
-pub fn keep_rows(
+pub(crate) fn keep_rows(
     s: &[u8],
     settings: Settings,
     sizes: &[u32],

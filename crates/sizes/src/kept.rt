@@ -22,7 +22,7 @@ pub enum Added {
 // The answers of a row.
 pub const KEPT: usize = 3;
 
-pub fn with_size(offset: u32, size: Sized) -> Added
+pub(crate) fn with_size(offset: u32, size: Sized) -> Added
     ensures { λ r. ⌜ r ≡ withSize offset size ⌝ }
 {
     match size {
@@ -49,7 +49,7 @@ fn size_kept(known: &[u64], size: Sized) -> Sized
 }
 
 // The member at row c, as it is kept.
-pub fn added_kept(known: &[u64], kept: &[u64], c: usize) -> Added
+pub(crate) fn added_kept(known: &[u64], kept: &[u64], c: usize) -> Added
     requires { ⌜ SmallPlace c ⌝ }
     ensures { λ r. ⌜ r ≡ addedKept (now (known .entry)) (now (kept .entry)) c ⌝ }
 {
@@ -60,7 +60,7 @@ pub fn added_kept(known: &[u64], kept: &[u64], c: usize) -> Added
 }
 
 // The sibling of row c.
-pub fn kept_sibling(
+pub(crate) fn kept_sibling(
     s: &[u8],
     e: Endian,
     rows: &[u32],

@@ -33,13 +33,14 @@ ghost use mathlib.Core.Path.{_≡_};
 ghost use Prim.Native.Nat.{_+_, _*_, _^_, _<_};
 ghost use lib.Seq.{sets};
 ghost use mathlib.Core.List.{[], _∷_};
+ghost use Rattle.lent.specs.Outcome.{Given};
 ghost use Rattle.records.specs.Inside.Enumeration.{AskedShort};
 ghost use Rattle.tables.specs.Row.{rowAt};
 ghost use Rattle.links.specs.Inside.Kids.{kidsOf};
 ghost use Rattle.sizes.specs.Size.{shapeOf};
 ghost use Rattle.sizes.specs.Inside.Kept.{AllKept, LayoutAsked};
 ghost use Rattle.sizes.specs.Inside.Size.{EndsShort, typeFrom};
-ghost use Rattle.sizes.specs.Layout.{laidWidth, laidWords, isStructure, isBounded, sizeOrLargest, endOr, rowLay, layoutAt, intoRoom, layoutOf, LayoutGiven};
+ghost use Rattle.sizes.specs.Layout.{laidWidth, laidWords, isStructure, isBounded, sizeOrLargest, endOr, rowLay, layoutAt, intoRoom, layoutOf};
 ghost use Rattle.sizes.specs.Inside.Layout.{laidAt, sizedLaid, childLaid, childrenLaid, structureLaid, LayAsked, Lays, WholeLaid};
 
 pub struct Layout {
@@ -70,7 +71,7 @@ pub enum Laying {
 // The words of a member: offset, size, place and length of its name.
 pub const LAID_WIDTH: usize = 4;
 
-pub fn is_structure(kind: u32) -> bool
+pub(crate) fn is_structure(kind: u32) -> bool
     ensures { λ r. ⌜ r ≡ isStructure (shapeOf kind) ⌝ }
 {
     match shape_of(kind) {
@@ -310,7 +311,7 @@ fn lay_structure(
 }
 
 // Row i: only a structure or a class has a layout.
-pub fn read_layout(
+pub(crate) fn read_layout(
     s: &[u8],
     settings: Settings,
     sizes: &[u32],
@@ -370,7 +371,7 @@ fn give_layout(
     room: &mut [u64],
 ) -> LayoutRead
     requires { ⌜ AskedShort (now s) (now rows) n i × AllKept settings (now sizes) (now s) (now rows) (now attrs) n (now known) (now kept) ⌝ }
-    ensures { λ r. ⌜ LayoutGiven (intoRoom (now (room .entry)) (rowLay settings (now (s .entry)) (now (rows .entry)) (now (attrs .entry)) n (typeFrom settings (now (sizes .entry)) (now (s .entry)) (now (rows .entry)) (now (attrs .entry)) n (now (known .entry)) levels) i) (layoutAt settings (now (s .entry)) (now (rows .entry)) (now (attrs .entry)) n (typeFrom settings (now (sizes .entry)) (now (s .entry)) (now (rows .entry)) (now (attrs .entry)) n (now (known .entry)) levels) i)) r (now (room .exit)) ⌝ }
+    ensures { λ r. ⌜ Given (intoRoom (now (room .entry)) (rowLay settings (now (s .entry)) (now (rows .entry)) (now (attrs .entry)) n (typeFrom settings (now (sizes .entry)) (now (s .entry)) (now (rows .entry)) (now (attrs .entry)) n (now (known .entry)) levels) i) (layoutAt settings (now (s .entry)) (now (rows .entry)) (now (attrs .entry)) n (typeFrom settings (now (sizes .entry)) (now (s .entry)) (now (rows .entry)) (now (attrs .entry)) n (now (known .entry)) levels) i)) r (now (room .exit)) ⌝ }
 {
     let mut none = [0u64; 0];
     match read_layout(
@@ -422,7 +423,7 @@ pub fn layout_of_key(
     key: u32,
     room: &mut [u64],
 ) -> LayoutRead
-    ensures { λ r. ⌜ LayoutGiven (layoutOf settings (now (vendors .entry)) (now (sizes .entry)) (now (s .entry)) (now (rows .entry)) (now (attrs .entry)) counts key (now (room .entry))) r (now (room .exit)) ⌝ }
+    ensures { λ r. ⌜ Given (layoutOf settings (now (vendors .entry)) (now (sizes .entry)) (now (s .entry)) (now (rows .entry)) (now (attrs .entry)) counts key (now (room .entry))) r (now (room .exit)) ⌝ }
 {
     match row_of(s, settings, vendors, sizes, rows, attrs, counts, key) {
         Keyed::Row(i) => {

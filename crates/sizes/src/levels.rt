@@ -125,7 +125,7 @@ fn take_over(known: &mut [u64], next: &[u64], words: usize) -> bool
 }
 
 // The sizes of all rows, the entry that is asked for being depth 2. Once all are settled, or a level changes nothing, none above it does.
-pub fn fill_known(
+pub(crate) fn fill_known(
     s: &[u8],
     settings: Settings,
     sizes: &[u32],

@@ -65,7 +65,7 @@ pub enum Prepared {
     Refused(Refusal),
 }
 
-pub fn shape_of(kind: u32) -> Shape
+pub(crate) fn shape_of(kind: u32) -> Shape
     ensures { λ r. ⌜ r ≡ shapeOf kind ⌝ }
 {
     match kind {
@@ -85,7 +85,7 @@ pub fn shape_of(kind: u32) -> Shape
 // ---- arrays
 
 // The block of subscripts that is attribute k of the table.
-pub fn subscript_block<'a>(s: &'a [u8], attrs: &[u32], run: Run, k: usize) -> &'a [u8]
+pub(crate) fn subscript_block<'a>(s: &'a [u8], attrs: &[u32], run: Run, k: usize) -> &'a [u8]
     ensures { λ r. ⌜ now r ≡ subscriptBlock (now (s .entry)) (now (attrs .entry)) run k ⌝ }
 {
     let attribute = attribute_at(attrs, k);
@@ -198,7 +198,7 @@ fn members_fault(
 }
 
 // 9 where the walk never ends.
-pub fn structure_fault(
+pub(crate) fn structure_fault(
     s: &[u8],
     settings: Settings,
     rows: &[u32],
@@ -219,7 +219,7 @@ pub fn structure_fault(
 }
 
 // The same of a structure, if it is kept.
-pub fn kept_fault(
+pub(crate) fn kept_fault(
     s: &[u8],
     settings: Settings,
     rows: &[u32],
@@ -318,7 +318,7 @@ fn prepare_pointer(
 }
 
 // Row i of a tested table.
-pub fn prepare_row(
+pub(crate) fn prepare_row(
     s: &[u8],
     settings: Settings,
     rows: &[u32],

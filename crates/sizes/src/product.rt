@@ -23,7 +23,7 @@ fn times(key: u32, size: u32, many: u32) -> Sized
 }
 
 // Subscript after subscript, each handed the rest that the last one left.
-pub fn product_of(block: &[u8], e: Endian, key: u32, element: u32) -> Sized
+pub(crate) fn product_of(block: &[u8], e: Endian, key: u32, element: u32) -> Sized
     ensures { λ r. ⌜ r ≡ productOf e key (now (block .entry)) element ⌝ }
 {
     let mut rest = block;

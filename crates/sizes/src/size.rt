@@ -37,7 +37,7 @@ ghost use Rattle.sizes.specs.Inside.Kept.{AllKept, MemberAsked};
 ghost use Rattle.sizes.specs.Inside.Size.{Ready, EndsShort, memberAdded, grown, arrayProduct, childEnd, endsOver, entryFrom, typeFrom};
 
 // A fundamental type's line of the settings' table; 18 at 0 for a number that has none.
-pub fn fundamental_size(sizes: &[u32], number: u16) -> Sized
+pub(crate) fn fundamental_size(sizes: &[u32], number: u16) -> Sized
     ensures { λ r. ⌜ r ≡ fundamentalSize (now (sizes .entry)) number ⌝ }
 {
     let k = order_of(number);
@@ -49,7 +49,7 @@ pub fn fundamental_size(sizes: &[u32], number: u16) -> Sized
 }
 
 // The largest end so far and that of a member at row c: 20 past 32 bits, at the member.
-pub fn grown(rows: &[u32], c: usize, largest: u32, offset: u32, size: u32) -> Sized
+pub(crate) fn grown(rows: &[u32], c: usize, largest: u32, offset: u32, size: u32) -> Sized
     ensures { λ r. ⌜ r ≡ grown (now (rows .entry)) c largest offset size ⌝ }
 {
     let end = offset as u64 + size as u64;
@@ -83,7 +83,7 @@ fn array_product(
 }
 
 // The size of a type.
-pub fn type_size(
+pub(crate) fn type_size(
     s: &[u8],
     settings: Settings,
     sizes: &[u32],
@@ -111,7 +111,7 @@ pub fn type_size(
 }
 
 // The size of the entry that has a key: 11 where there is none, 10 where no level is left.
-pub fn entry_size(
+pub(crate) fn entry_size(
     s: &[u8],
     settings: Settings,
     sizes: &[u32],
@@ -152,7 +152,7 @@ pub fn entry_size(
 }
 
 // The size of row i; the entries that it names have so many levels left.
-pub fn row_size(
+pub(crate) fn row_size(
     s: &[u8],
     settings: Settings,
     sizes: &[u32],
@@ -216,7 +216,7 @@ fn read_added(
 }
 
 // The same, if it is kept as that.
-pub fn member_added(
+pub(crate) fn member_added(
     s: &[u8],
     settings: Settings,
     sizes: &[u32],

@@ -2,17 +2,19 @@
 use Prim.Native.Nat.{ℕ}
 use mathlib.Core.List.{List, [], _∷_}
 use lib.ListN.{replicate}
+use Rattle.lent.specs.Outcome.{Outcomes}
 use Rattle.format.specs.TagKind as tag
 use Rattle.format.specs.InputA.{settingsA as settings}
 use Rattle.tables.specs.declared.row.Row.{Row}
-use Rattle.entries.specs.Section.{Outcome, readSection}
+use Rattle.entries.specs.Section.{readSection}
+use Rattle.entries.specs.declared.section.Section.{Section}
 
 -- each size is 4, as in the listing program
 unfoldable pub sizes : List ℕ
 sizes = replicate 28 4
 
 -- what reading a section into lent tables must come to
-abbrev pub reading : List ℕ → List ℕ → List ℕ → Outcome
+abbrev pub reading : List ℕ → List ℕ → List ℕ → Outcomes Section ℕ ℕ
 reading s rows attrs = readSection settings [] sizes s rows attrs
 
 -- an entry's row: big-endian, not erased

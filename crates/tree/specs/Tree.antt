@@ -1,12 +1,12 @@
 -- The tree listing, the public call: 1, 2, 3; 12 for an erased row, 9 for a row at fault, 10 for a row that lies too deep, each at the first such row in file
 -- order; 8 with the count of rows; else the listing.
 use Prim.Native.Nat.{ℕ, zero, suc, _*_}
-use mathlib.Core.Path.{_≡_}
 use mathlib.Core.Bool.{cond}
 use mathlib.Core.List.{List, [], _∷_}
 use lib.ListN.{length}
 use lib.Seq.{sets}
 use lib.Dec.{leb, ltb}
+use Rattle.lent.specs.Outcome.{Outcome, outcome}
 use Rattle.format.specs.declared.settings.Settings.{Settings}
 use Rattle.format.specs.declared.refusal.Reason.{Reason}
 use Rattle.format.specs.declared.refusal.Reason.the-variants as reason
@@ -32,20 +32,12 @@ placesFrom n reach i (suc k) = depth n reach i ∷ parent n reach i ∷ placesFr
 unfoldable pub firstErased : List ℕ → ℕ → ℕ
 firstErased rows n = firstFrom (λ i. erasedRow (rowAt rows i .flags)) 0 n
 
--- an outcome: the answer, and what the lent room then holds
-pub record Outcome : Type 0 where
-  pub answer : Listing
-  pub room : List ℕ
-
-abbrev pub outcome : Listing → List ℕ → Outcome
-outcome answer room = record { answer = answer; room = room }
-
 -- a fault at row i
-abbrev pub faultAtRow : List ℕ → List ℕ → ℕ → Reason → Outcome
+abbrev pub faultAtRow : List ℕ → List ℕ → ℕ → Reason → Outcome Listing ℕ
 faultAtRow rows room i why = outcome (Refused (refusedAt (rowAt rows i .key) why)) room
 
 -- the listing of n rows with these reaches, into lent room; nothing is written on a refusal
-unfoldable pub listed : List ℕ → ℕ → (ℕ → ℕ) → List ℕ → Outcome
+unfoldable pub listed : List ℕ → ℕ → (ℕ → ℕ) → List ℕ → Outcome Listing ℕ
 listed rows n reach room =
     cond (ltb (firstErased rows n) n) (faultAtRow rows room (firstErased rows n) reason.Kind)
     (cond (ltb (firstFault n reach) n) (faultAtRow rows room (firstFault n reach) reason.Link)
@@ -53,12 +45,7 @@ listed rows n reach room =
     (cond (leb (n * placeWidth) (length room)) (outcome (Listed n) (sets room 0 (placesFrom n reach 0 n))) (outcome (Room n) room))))
 
 -- `list_tree`: the tests, then the listing
-unfoldable pub treeOf : Settings → List ℕ → List ℕ → List ℕ → List ℕ → List ℕ → Counts → List ℕ → Outcome
+unfoldable pub treeOf : Settings → List ℕ → List ℕ → List ℕ → List ℕ → List ℕ → Counts → List ℕ → Outcome Listing ℕ
 treeOf settings vendors sizes s rows attrs counts room =
     tested settings vendors sizes s rows attrs counts (λ why. outcome (Refused why) room)
     (listed rows (counts .rows) (λ i. reachEnd (settings .endian) s rows attrs (counts .rows) i) room)
-
--- the result and the room are those of an outcome
-pub record Given (o : Outcome) (r : Listing) (room : List ℕ) : Type 0 where
-  pub answer-is : r ≡ o .answer
-  pub room-is : room ≡ o .room

@@ -56,7 +56,7 @@ fn fault_at(s: &[u8], e: Endian, rows: &[u32], attrs: &[u32], n: usize, i: usize
 }
 
 // The first row at fault, or n.
-pub fn first_fault(s: &[u8], e: Endian, rows: &[u32], attrs: &[u32], n: usize) -> usize
+pub(crate) fn first_fault(s: &[u8], e: Endian, rows: &[u32], attrs: &[u32], n: usize) -> usize
     requires { ⌜ Rising (now rows) n ⌝ }
     ensures { λ r. ⌜ r ≡ faultFrom n (λ c. reachEnd e (now (s .entry)) (now (rows .entry)) (now (attrs .entry)) n c) 0 n ⌝ }
 {

@@ -11,13 +11,14 @@ use tables::row::Counts;
 use tables::row::is_erased;
 use tables::row::row_at;
 ghost use mathlib.Core.Path.{_≡_};
+ghost use Rattle.lent.specs.Outcome.{Given};
 ghost use Rattle.links.specs.Inside.Links.{Rows};
 ghost use Rattle.tables.specs.Row.{rowAt};
 ghost use Rattle.tables.specs.Check.{refusedAt};
 ghost use Rattle.tree.specs.Reach.{reachEnd};
 ghost use Rattle.tree.specs.Pick.{firstFrom};
 ghost use Rattle.tree.specs.Inside.Passing.{openDeep};
-ghost use Rattle.tree.specs.Tree.{firstErased, listed, treeOf, Given};
+ghost use Rattle.tree.specs.Tree.{firstErased, listed, treeOf};
 
 pub enum Listing {
     Listed(usize),

@@ -52,7 +52,7 @@ fn put_place(room: &mut [u32], i: usize, depth: u32, parent: u32)
 }
 
 // Depth and parent of each row into the room, as far as they fit; the first row that lies too deep, or n.
-pub fn list_rows(
+pub(crate) fn list_rows(
     s: &[u8],
     e: Endian,
     rows: &[u32],

@@ -24,7 +24,7 @@ fn later_row(rows: &[u32], n: usize, i: usize, key: u32) -> usize
 }
 
 // The end of row i's reach, or 0: its reference is bad.
-pub fn end_of(s: &[u8], e: Endian, rows: &[u32], attrs: &[u32], n: usize, i: usize) -> usize
+pub(crate) fn end_of(s: &[u8], e: Endian, rows: &[u32], attrs: &[u32], n: usize, i: usize) -> usize
     requires { ⌜ AtRow (now rows) n i ⌝ }
     ensures { λ r. ⌜ r ≡ reachEnd e (now (s .entry)) (now (rows .entry)) (now (attrs .entry)) n i ⌝ }
 {

@@ -8,10 +8,11 @@ use lib.ListN.{length, take, drop}
 use lib.Seq.{sets, sets-eq, take-at, drop-at}
 use lib.Dec.{eqb, leb}
 use borrow.Author.Tests.{leb-true}
+use Rattle.lent.specs.Outcome.{Outcome, Given}
 use Rattle.numbers.proofs.Laws.Tests.{cond-all}
 use Rattle.numbers.specs.declared.Endian.{Endian}
 use Rattle.blocks.specs.Subscript.{subscriptOf}
-use Rattle.blocks.specs.Subscripts.{dimensionWords, Dimensions, elementOr, before, step, subscriptsFrom, wholeBlock, countSubscripts, Outcome, intoRoom, readSubscripts, SubscriptsRead}
+use Rattle.blocks.specs.Subscripts.{dimensionWords, Dimensions, elementOr, before, step, subscriptsFrom, wholeBlock, countSubscripts, intoRoom, readSubscripts}
 use Rattle.blocks.specs.declared.types.Type.{«Type»}
 use Rattle.blocks.specs.declared.subscript.Subscript.{Subscript}
 use Rattle.blocks.specs.declared.subscript.Subscript.the-variants as subscript
@@ -95,13 +96,13 @@ into-fills : (words room : List ℕ) (r : Counted) → ((t : «Type») (n : ℕ)
     → Told words room (intoRoom words room r .room) (intoRoom words room r .answer)
 unfolding intoRoom
 into-fills words room (counted.Are t n) p =
-    cond-all (λ (o : Outcome). Told words room (o .room) (o .answer)) (leb n (length room / 2))
+    cond-all (λ (o : Outcome Subscripts ℕ). Told words room (o .room) (o .answer)) (leb n (length room / 2))
     (λ h. let half : n ≤ length room / 2 = leb-true n (length room / 2) h in stored-fill words room n (p t n refl) (omega arith)) (λ h. tt)
 into-fills words room (counted.Refused why) p = tt
 
 -- the theorem of `subscripts::process_array_subscript_data`
 pub room-filled : (e : Endian) (block room : List ℕ) {t : «Type»} {n : ℕ} {room′ : List ℕ}
-    → SubscriptsRead (readSubscripts e block room) (subscripts.Read t n) room′ → Filled (wholeBlock e block .words) n room room′
+    → Given (readSubscripts e block room) (subscripts.Read t n) room′ → Filled (wholeBlock e block .words) n room room′
 unfolding readSubscripts
 room-filled e block room {room′ = room′} p =
     subst (λ (o : Subscripts). Told (wholeBlock e block .words) room room′ o) (sym (p .answer-is))

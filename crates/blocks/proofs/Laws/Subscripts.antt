@@ -10,6 +10,7 @@ use lib.ListN.{length, take, drop, set, length-drop}
 use lib.Seq.{set-out, sets, length-sets, take-all}
 use lib.Dec.{eqb}
 use borrow.Author.Tests.{eq-eqb, ne-eqb, le-leb, lt-leb}
+use Rattle.lent.specs.Outcome.{Outcome, Given}
 use Rattle.numbers.specs.declared.Endian.{Endian}
 use Rattle.format.specs.declared.refusal.Refusal.{Refusal}
 use Rattle.format.specs.declared.refusal.Reason.the-variants as reason
@@ -17,7 +18,7 @@ use Rattle.blocks.specs.Location.{refusedBlock}
 use Rattle.blocks.specs.Subscript.{subscriptOf}
 use Rattle.blocks.specs.Subscript.{Takes}
 use Rattle.blocks.proofs.Laws.Subscript.{used-inside}
-use Rattle.blocks.specs.Subscripts.{dimensionWords, Dimensions, elementOr, before, step, subscriptsFrom, wholeBlock, countSubscripts, Outcome, intoRoom, readSubscripts, SubscriptsRead}
+use Rattle.blocks.specs.Subscripts.{dimensionWords, Dimensions, elementOr, before, step, subscriptsFrom, wholeBlock, countSubscripts, intoRoom, readSubscripts}
 use Rattle.blocks.specs.Inside.Subscripts.{Walked}
 use Rattle.blocks.specs.declared.types.Type.{«Type»}
 use Rattle.blocks.specs.declared.subscript.Subscript.{Subscript}
@@ -27,6 +28,7 @@ use Rattle.blocks.specs.declared.subscripts.Element.the-variants as elem
 use Rattle.blocks.specs.declared.subscripts.Counted.{Counted}
 use Rattle.blocks.specs.declared.subscripts.Counted.the-variants as counted
 use Rattle.blocks.specs.declared.subscripts.Subscripts.the-variants as subscripts
+use Rattle.blocks.specs.declared.subscripts.Subscripts.{Subscripts}
 
 -- ---- a dimension's words
 
@@ -193,21 +195,21 @@ module _ (e : Endian) (block room : List ℕ) {told : Counted} (is : told ≡ co
   into p = ap (intoRoom (wholeBlock e block .words) room) (sym p ∙ is)
 
   -- an outcome that is known is the one that is told
-  outcome : {o : Outcome} {t : Counted} → told ≡ t → o ≡ intoRoom (wholeBlock e block .words) room t
-      → SubscriptsRead (readSubscripts e block room) (o .answer) (o .room)
+  outcome : {o : Outcome Subscripts ℕ} {t : Counted} → told ≡ t → o ≡ intoRoom (wholeBlock e block .words) room t
+      → Given (readSubscripts e block room) (o .answer) (o .room)
   outcome p q =
-      record { answer-is = ap (λ (x : Outcome). x .answer) (q ∙ into p); room-is = ap (λ (x : Outcome). x .room) (q ∙ into p) }
+      record { answer-is = ap (λ (x : Outcome Subscripts ℕ). x .answer) (q ∙ into p); room-is = ap (λ (x : Outcome Subscripts ℕ). x .room) (q ∙ into p) }
 
   pub all-read : {t : «Type»} {n : ℕ} {r : Counted} {room′ : List ℕ} → told ≡ counted.Are t n → n ≤ length room / 2 → Walked e block r room room′
-      → SubscriptsRead (readSubscripts e block room) (subscripts.Read t n) room′
+      → Given (readSubscripts e block room) (subscripts.Read t n) room′
   unfolding intoRoom
   all-read {t} {n} {room′ = room′} p h w =
       outcome {o = record { answer = subscripts.Read t n; room = room′ }} p (rw (le-leb n (length room / 2) h, w .room-is))
 
-  pub no-room : {t : «Type»} {n : ℕ} → told ≡ counted.Are t n → length room / 2 < n → SubscriptsRead (readSubscripts e block room) (subscripts.Room n) room
+  pub no-room : {t : «Type»} {n : ℕ} → told ≡ counted.Are t n → length room / 2 < n → Given (readSubscripts e block room) (subscripts.Room n) room
   unfolding intoRoom
   no-room {n = n} p h = outcome {o = record { answer = subscripts.Room n; room = room }} p (rw (lt-leb n (length room / 2) h))
 
-  pub read-refused : {why : Refusal} → told ≡ counted.Refused why → SubscriptsRead (readSubscripts e block room) (subscripts.Refused why) room
+  pub read-refused : {why : Refusal} → told ≡ counted.Refused why → Given (readSubscripts e block room) (subscripts.Refused why) room
   unfolding intoRoom
   read-refused {why} p = outcome {o = record { answer = subscripts.Refused why; room = room }} p refl

@@ -10,6 +10,7 @@ use lib.ListN.{length, length-append}
 use lib.Seq.{length-sets}
 use lib.Dec.{ltb}
 use borrow.Author.Tests.{eq-eqb}
+use Rattle.lent.specs.Outcome.{Outcomes, outcomes}
 use Rattle.numbers.proofs.Laws.Tests.{cond-all}
 use Rattle.numbers.specs.declared.Endian.{Endian}
 use Rattle.format.specs.Limits.{sectionLimit, erasedLimit}
@@ -26,11 +27,12 @@ use Rattle.tables.specs.declared.row.Row.{Row}
 use Rattle.tables.specs.declared.row.Attr.{Attr}
 use Rattle.tables.specs.declared.row.Counts.{Counts}
 use Rattle.entries.specs.Walk.{Walk, walked, refused, walkAt}
-use Rattle.entries.specs.Section.{wholeWalk, refusal, counts, Outcome, untouched, stored, readSection}
+use Rattle.entries.specs.Section.{wholeWalk, refusal, counts, stored, readSection}
 use Rattle.entries.proofs.Laws.KnownRun.{AllKnown, none-known, more-known}
 use Rattle.entries.proofs.Laws.RowsRead.{RowRead, RowsRead, no-rows, more-rows, WalkRows, walk-rows}
 use Rattle.entries.specs.declared.section.Section.the-variants.{Read, Room}
 use Rattle.entries.specs.Filled.{KeysRise, Filled}
+use Rattle.entries.specs.declared.section.Section.{Section}
 
 -- ---- keys
 
@@ -119,14 +121,14 @@ module _ (s vendors rows attrs : List ℕ) where
 
 module _ (settings : Settings) (vendors s rows attrs : List ℕ) (c : Counts) where
   -- an outcome that answers with these counts filled the tables
-  abbrev Fills : Outcome → Type 0
+  abbrev Fills : Outcomes Section ℕ ℕ → Type 0
   Fills o = o .answer ≡ Read c → Filled settings vendors s rows attrs c o
 
   -- a refusal answers no counts, nor does 8
-  refused-fills : (why : Reason) (at : ℕ) → Fills (untouched (refusal why at) rows attrs)
+  refused-fills : (why : Reason) (at : ℕ) → Fills (outcomes (refusal why at) rows attrs)
   refused-fills why at p = let z : _≡_ {A = ℕ} 0 1 = cc in absurd (omega arith)
 
-  room-fills : (n m : ℕ) → Fills (untouched (Room (counts n m)) rows attrs)
+  room-fills : (n m : ℕ) → Fills (outcomes (Room (counts n m)) rows attrs)
   room-fills n m p = let z : _≡_ {A = ℕ} 0 1 = cc in absurd (omega arith)
 
   -- what the walk gave, where it fits
@@ -154,7 +156,7 @@ module _ (settings : Settings) (vendors s rows attrs : List ℕ) (c : Counts) wh
 
 -- ---- the theorems
 
-module _ {settings : Settings} {vendors s rows attrs : List ℕ} {c : Counts} {o : Outcome} (filled : Filled settings vendors s rows attrs c o) where
+module _ {settings : Settings} {vendors s rows attrs : List ℕ} {c : Counts} {o : Outcomes Section ℕ ℕ} (filled : Filled settings vendors s rows attrs c o) where
   filled-few : c .rows * 4 ≤ length s
   filled-few =
       let few : 0 + length (filled .rs) * 4 ≤ length s =
@@ -163,23 +165,23 @@ module _ {settings : Settings} {vendors s rows attrs : List ℕ} {c : Counts} {o
       let count : c .rows ≡ length (filled .rs) = ap (λ (d : Counts). d .rows) (filled .counted) in
       omega arith
 
-  filled-passes : tableHolds s vendors (o .rows) (o .attrs) c ≡ true
+  filled-passes : tableHolds s vendors (o .first) (o .second) c ≡ true
   filled-passes =
       let room : Fits c (length rows) (length attrs) = fits-all c (length rows) (length attrs) (filled .fits) in
-      let rows-long : length (o .rows) ≡ length rows = ap length (filled .rows-stored) ∙ length-sets rows 0 (rowsWords (filled .rs)) in
-      let attrs-long : length (o .attrs) ≡ length attrs = ap length (filled .attrs-stored) ∙ length-sets attrs 0 (attrsWords (filled .xs)) in
+      let rows-long : length (o .first) ≡ length rows = ap length (filled .rows-stored) ∙ length-sets rows 0 (rowsWords (filled .rs)) in
+      let attrs-long : length (o .second) ≡ length attrs = ap length (filled .attrs-stored) ∙ length-sets attrs 0 (attrsWords (filled .xs)) in
       let rows-counted : c .rows ≡ length (filled .rs) = ap (λ (d : Counts). d .rows) (filled .counted) in
       let attrs-counted : c .attrs ≡ length (filled .xs) = ap (λ (d : Counts). d .attrs) (filled .counted) in
-      sym (table-rows s vendors (o .rows) (o .attrs) c (room .rows-few) (omega arith) (room .attrs-few) (omega arith))
+      sym (table-rows s vendors (o .first) (o .second) c (room .rows-few) (omega arith) (room .attrs-few) (omega arith))
       ∙ rw rows-counted
-      (held-rows-pass s vendors (o .rows) (o .attrs) (c .attrs) 0 (whole-rows settings vendors s (filled .whole)) (filled .rows-held) (filled .attrs-held) (omega arith))
+      (held-rows-pass s vendors (o .first) (o .second) (c .attrs) 0 (whole-rows settings vendors s (filled .whole)) (filled .rows-held) (filled .attrs-held) (omega arith))
 
 module _ (settings : Settings) (vendors sizes s rows attrs : List ℕ) (c : Counts) (answers : readSection settings vendors sizes s rows attrs .answer ≡ Read c) where
   -- an answer of counts filled the tables
   pub answer-read : Filled settings vendors s rows attrs c (readSection settings vendors sizes s rows attrs)
   unfolding readSection
   answer-read =
-      let P : Outcome → Type 0 = Fills settings vendors s rows attrs c in
+      let P : Outcomes Section ℕ ℕ → Type 0 = Fills settings vendors s rows attrs c in
       cond-all P (settingsHold settings vendors sizes)
       (λ t. cond-all P (ltb (length s) sectionLimit) (λ u. stored-fills settings vendors s rows attrs c (wholeWalk settings vendors s) refl)
       (λ u. refused-fills settings vendors s rows attrs c reason.Long 0)) (λ t. refused-fills settings vendors s rows attrs c reason.Settings 0) answers
@@ -189,5 +191,5 @@ module _ (settings : Settings) (vendors sizes s rows attrs : List ℕ) (c : Coun
   rows-at-most-quarter = filled-few answer-read
 
   -- and the table passes the test, with the same section and vendor list
-  pub filled-holds : tableHolds s vendors (readSection settings vendors sizes s rows attrs .rows) (readSection settings vendors sizes s rows attrs .attrs) c ≡ true
+  pub filled-holds : tableHolds s vendors (readSection settings vendors sizes s rows attrs .first) (readSection settings vendors sizes s rows attrs .second) c ≡ true
   filled-holds = filled-passes answer-read

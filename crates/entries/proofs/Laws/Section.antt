@@ -8,6 +8,7 @@ use mathlib.Core.List.{List}
 use lib.ListN.{length}
 use lib.Dec.{leb, ltb}
 use borrow.Author.Tests.{le-leb, lt-leb, lt-ltb, le-ltb, ltb-true}
+use Rattle.lent.specs.Outcome.{Outcomes, BothGiven, outcomes}
 use Rattle.format.specs.Limits.{sectionLimit, entryLimit, attributeLimit}
 use Rattle.format.specs.Settings.{settingsHold}
 use Rattle.format.specs.declared.settings.Settings.{Settings}
@@ -22,7 +23,7 @@ use Rattle.entries.specs.Walk.{Walk, walked, refused}
 use Rattle.entries.specs.Inside.Promise.{start, Stored, walkAnswer, WalkStores, WalkRead}
 use Rattle.entries.proofs.Laws.Walk.{told-walked, told-refused}
 use Rattle.tables.specs.Test.{fitting}
-use Rattle.entries.specs.Section.{wholeWalk, counts, refusal, Outcome, untouched, stored, readSection, SectionRead, uncounted, counted, countSection}
+use Rattle.entries.specs.Section.{wholeWalk, counts, refusal, stored, readSection, uncounted, counted, countSection}
 use Rattle.entries.specs.declared.entry.State.{State}
 use Rattle.entries.specs.declared.walk.Walk.the-variants as walk
 use Rattle.entries.specs.declared.section.Count.{Count}
@@ -115,9 +116,9 @@ module _ (settings : Settings) (vendors sizes s : List ℕ) where
 
   module _ (rows attrs : List ℕ) where
     -- an outcome that is known
-    outcome : {o : Outcome} {r : Section} {rows₁ attrs₁ : List ℕ} → readSection settings vendors sizes s rows attrs ≡ o → SectionRead o r rows₁ attrs₁
-        → SectionRead (readSection settings vendors sizes s rows attrs) r rows₁ attrs₁
-    outcome {r = r} {rows₁} {attrs₁} p q = subst (λ (o : Outcome). SectionRead o r rows₁ attrs₁) (sym p) q
+    outcome : {o : Outcomes Section ℕ ℕ} {r : Section} {rows₁ attrs₁ : List ℕ} → readSection settings vendors sizes s rows attrs ≡ o → BothGiven o r rows₁ attrs₁
+        → BothGiven (readSection settings vendors sizes s rows attrs) r rows₁ attrs₁
+    outcome {r = r} {rows₁} {attrs₁} p q = subst (λ (o : Outcomes Section ℕ ℕ). BothGiven o r rows₁ attrs₁) (sym p) q
 
     walked-outcome : {c : Counts} (told : Countable c)
         → readSection settings vendors sizes s rows attrs ≡ stored (walked (told .rs) (told .xs) (told .place)) rows attrs
@@ -127,7 +128,7 @@ module _ (settings : Settings) (vendors sizes s : List ℕ) where
 
     pub read-done : {c : Counts} {r : walk.the-data} {rows₁ attrs₁ : List ℕ} → countSection settings vendors sizes s ≡ count.Counted c
         → fitting c (length rows) (length attrs) ≡ true → WalkRead start (wholeWalk settings vendors s) r rows rows₁ attrs attrs₁
-        → SectionRead (readSection settings vendors sizes s rows attrs) (Read c) rows₁ attrs₁
+        → BothGiven (readSection settings vendors sizes s rows attrs) (Read c) rows₁ attrs₁
     unfolding stored
     read-done {c} {r} {rows₁} {attrs₁} p f w =
         let told = countable p in
@@ -138,47 +139,47 @@ module _ (settings : Settings) (vendors sizes s : List ℕ) where
         subst (λ (v : Walk). WalkStores start v rows rows₁ attrs attrs₁) (told .is) (w .stores)
         in
         outcome (walked-outcome told ∙ rw fit)
-        (record { answer-is = ap Read (told .counts-are); rows-are = all .row-words; attrs-are = all .attr-words })
+        (record { answer-is = ap Read (told .counts-are); first-is = all .row-words; second-is = all .attr-words })
 
     pub read-room : {c : Counts} → countSection settings vendors sizes s ≡ count.Counted c → fitting c (length rows) (length attrs) ≡ false
-        → SectionRead (readSection settings vendors sizes s rows attrs) (Room c) rows attrs
+        → BothGiven (readSection settings vendors sizes s rows attrs) (Room c) rows attrs
     unfolding stored
     read-room {c} p f =
         let told = countable p in
         let fit : fitting (counts (length (told .rs)) (length (told .xs))) (length rows) (length attrs) ≡ false =
         ap (λ (x : Counts). fitting x (length rows) (length attrs)) (sym (told .counts-are)) ∙ f
         in
-        outcome (walked-outcome told ∙ rw fit) (record { answer-is = ap Room (told .counts-are); rows-are = refl; attrs-are = refl })
+        outcome (walked-outcome told ∙ rw fit) (record { answer-is = ap Room (told .counts-are); first-is = refl; second-is = refl })
 
     refused-as : (why : Refusal) → countSection settings vendors sizes s ≡ count.Refused why
-        → readSection settings vendors sizes s rows attrs ≡ untouched (Refused why) rows attrs
+        → readSection settings vendors sizes s rows attrs ≡ outcomes (Refused why) rows attrs
     unfolding countSection counted readSection stored
     refused-as why p = by-settings (settingsHold settings vendors sizes) p
       where
-        by-walk : (v : Walk) → counted v ≡ count.Refused why → stored v rows attrs ≡ untouched (Refused why) rows attrs
+        by-walk : (v : Walk) → counted v ≡ count.Refused why → stored v rows attrs ≡ outcomes (Refused why) rows attrs
         by-walk (walked rs xs at) q = let z : _≡_ {A = ℕ} 0 1 = cc in absurd (omega arith)
         by-walk (refused reason at) q =
             let same : record { reason = reason; place = at } ≡ why = cc in
-            ap (λ (x : Refusal). untouched (Refused x) rows attrs) same
+            ap (λ (x : Refusal). outcomes (Refused x) rows attrs) same
 
         by-length : (b : Bool) → cond b (counted (wholeWalk settings vendors s)) (uncounted reason.Long 0) ≡ count.Refused why
-            → cond b (stored (wholeWalk settings vendors s) rows attrs) (untouched (refusal reason.Long 0) rows attrs) ≡ untouched (Refused why) rows attrs
+            → cond b (stored (wholeWalk settings vendors s) rows attrs) (outcomes (refusal reason.Long 0) rows attrs) ≡ outcomes (Refused why) rows attrs
         by-length true q = by-walk (wholeWalk settings vendors s) q
         by-length false q =
             let same : record { reason = reason.Long; place = 0 } ≡ why = cc in
-            ap (λ (x : Refusal). untouched (Refused x) rows attrs) same
+            ap (λ (x : Refusal). outcomes (Refused x) rows attrs) same
 
         by-settings : (b : Bool)
             → cond b (cond (ltb (length s) sectionLimit) (counted (wholeWalk settings vendors s)) (uncounted reason.Long 0)) (uncounted reason.Settings 0)
             ≡ count.Refused why
-            → cond b (cond (ltb (length s) sectionLimit) (stored (wholeWalk settings vendors s) rows attrs) (untouched (refusal reason.Long 0) rows attrs))
-            (untouched (refusal reason.Settings 0) rows attrs)
-            ≡ untouched (Refused why) rows attrs
+            → cond b (cond (ltb (length s) sectionLimit) (stored (wholeWalk settings vendors s) rows attrs) (outcomes (refusal reason.Long 0) rows attrs))
+            (outcomes (refusal reason.Settings 0) rows attrs)
+            ≡ outcomes (Refused why) rows attrs
         by-settings true q = by-length (ltb (length s) sectionLimit) q
         by-settings false q =
             let same : record { reason = reason.Settings; place = 0 } ≡ why = cc in
-            ap (λ (x : Refusal). untouched (Refused x) rows attrs) same
+            ap (λ (x : Refusal). outcomes (Refused x) rows attrs) same
 
     pub read-refused : {why : Refusal} → countSection settings vendors sizes s ≡ count.Refused why
-        → SectionRead (readSection settings vendors sizes s rows attrs) (Refused why) rows attrs
-    read-refused {why} p = outcome (refused-as why p) (record { answer-is = refl; rows-are = refl; attrs-are = refl })
+        → BothGiven (readSection settings vendors sizes s rows attrs) (Refused why) rows attrs
+    read-refused {why} p = outcome (refused-as why p) (record { answer-is = refl; first-is = refl; second-is = refl })

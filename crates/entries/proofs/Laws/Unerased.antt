@@ -6,6 +6,7 @@ use mathlib.Core.Bool.{true, false}
 use mathlib.Core.List.{List, [], _∷_, _++_}
 use lib.ListN.{length}
 use lib.Dec.{ltb, eqb}
+use Rattle.lent.specs.Outcome.{Outcomes, outcomes}
 use Rattle.numbers.proofs.Laws.Tests.{cond-all}
 use Rattle.numbers.specs.Value.{valueOf}
 use Rattle.numbers.proofs.Laws.Value.{read-all}
@@ -27,12 +28,13 @@ use Rattle.entries.specs.Head.{tagHead, sizeHead, headAt}
 use Rattle.entries.specs.Run.{Run, ran, failed}
 use Rattle.entries.specs.Entry.{Entry, next, inside, stop, flagOf, flagsOf, littleFlag, ordinary, attributes, entryFrom, entryAt}
 use Rattle.entries.specs.Walk.{Walk, walked, refused, join, andThen, onward, walkFrom, walkAt}
-use Rattle.entries.specs.Section.{wholeWalk, readSection, Outcome, untouched, refusal}
+use Rattle.entries.specs.Section.{wholeWalk, readSection, refusal}
 use Rattle.entries.proofs.Laws.Filled.{answer-read}
 use Rattle.entries.proofs.Laws.KnownRun.{by-test}
 use Rattle.entries.specs.declared.head.Head.{Head}
 use Rattle.entries.specs.declared.head.Head.the-variants.{Null, Skipped, Root, Ordinary, Refused}
 use Rattle.entries.specs.declared.section.Section.the-variants.{Read}
+use Rattle.entries.specs.declared.section.Section.{Section}
 
 -- none of the rows is erased
 abbrev Plain : List Row → Type 0
@@ -149,22 +151,22 @@ plain-row t i (r ∷ rs) p q (suc j) h =
 -- read with erased entries left out, no row of the table is erased
 pub none-erased : (settings : Settings) (vendors sizes s rows attrs : List ℕ) (c : Counts) → settings .erased ≡ false
     → readSection settings vendors sizes s rows attrs .answer ≡ Read c → (j : ℕ) → j < c .rows
-    → erasedRow (rowAt (readSection settings vendors sizes s rows attrs .rows) j .flags) ≡ false
+    → erasedRow (rowAt (readSection settings vendors sizes s rows attrs .first) j .flags) ≡ false
 none-erased settings vendors sizes s rows attrs c off answers j h =
     let filled = answer-read settings vendors sizes s rows attrs c answers in
     let counted : c .rows ≡ length (filled .rs) = ap (λ (d : Counts). d .rows) (filled .counted) in
     let place : j ≡ 0 + j = omega arith in
-    ap (λ (k : ℕ). erasedRow (rowAt (readSection settings vendors sizes s rows attrs .rows) k .flags)) place
-    ∙ plain-row (readSection settings vendors sizes s rows attrs .rows) 0 (filled .rs) (subst WalkPlain (filled .whole) (whole-plain settings vendors s off))
+    ap (λ (k : ℕ). erasedRow (rowAt (readSection settings vendors sizes s rows attrs .first) k .flags)) place
+    ∙ plain-row (readSection settings vendors sizes s rows attrs .first) 0 (filled .rs) (subst WalkPlain (filled .whole) (whole-plain settings vendors s off))
     (filled .rows-held) j (omega arith)
 
 -- ---- an answer passed the tests of settings and length
 
 module _ (settings : Settings) (vendors sizes s rows attrs : List ℕ) (c : Counts) where
-  abbrev Passing : Outcome → Type 0
+  abbrev Passing : Outcomes Section ℕ ℕ → Type 0
   Passing o = o .answer ≡ Read c → (settingsHold settings vendors sizes ≡ true) × (ltb (length s) sectionLimit ≡ true)
 
-  refused-passes : (why : Reason) (at : ℕ) → Passing (untouched (refusal why at) rows attrs)
+  refused-passes : (why : Reason) (at : ℕ) → Passing (outcomes (refusal why at) rows attrs)
   refused-passes why at p = let z : _≡_ {A = ℕ} 0 1 = cc in absurd (omega arith)
 
   pub answer-tested : readSection settings vendors sizes s rows attrs .answer ≡ Read c

@@ -2,21 +2,22 @@
 use Prim.Native.Nat.{ℕ}
 use mathlib.Core.Path.{_≡_, ap, _∙_, subst}
 use mathlib.Core.List.{List}
+use Rattle.lent.specs.Outcome.{Given, BothGiven}
 use Rattle.numbers.specs.declared.Endian.{Endian}
 use Rattle.format.specs.declared.settings.Settings.{Settings}
 use Rattle.tables.specs.declared.row.Counts.{Counts}
-use Rattle.entries.specs.Section.{countSection, readSection, SectionRead}
+use Rattle.entries.specs.Section.{countSection, readSection}
 use Rattle.entries.specs.declared.section.Count.{Count}
 use Rattle.entries.specs.declared.section.Section.{Section}
 use Rattle.sizes.specs.Size.{sizeOfKey}
-use Rattle.sizes.specs.All.{allOf, AllGiven}
+use Rattle.sizes.specs.All.{allOf}
 use Rattle.sizes.specs.declared.all.AllLayouts.{AllLayouts}
-use Rattle.sizes.specs.Layout.{layoutOf, LayoutGiven}
+use Rattle.sizes.specs.Layout.{layoutOf}
 use Rattle.sizes.specs.declared.sized.Sized.{Sized}
 use Rattle.sizes.specs.declared.layout.LayoutRead.{LayoutRead}
 use Rattle.blocks.specs.Location.{offsetOf}
 use Rattle.blocks.specs.declared.location.Located.{Located}
-use Rattle.tree.specs.Tree.{treeOf, Given}
+use Rattle.tree.specs.Tree.{treeOf}
 use Rattle.tree.specs.declared.listing.Listing.{Listing}
 use Rattle.exports.specs.Crossing.{countTold, sectionTold, sizeTold, offsetTold, treeTold, layoutTold, layoutsTold, SaysOne, SaysTwo, SaysThree, CountCrosses, SectionCrosses, SizeCrosses, OffsetCrosses, TreeCrosses, LayoutCrosses, LayoutsCross}
 use Rattle.exports.specs.declared.told.Told.{Told}
@@ -43,11 +44,11 @@ module _ {settings settings′ : Settings} (same : settings ≡ settings′) (ve
 
   module _ (rows attrs : List ℕ) where
     pub read-crosses : {answer : Section} {t : Told} {rows₁ attrs₁ : List ℕ}
-        → SectionRead (readSection settings vendors sizes s rows attrs) answer rows₁ attrs₁ → t ≡ sectionTold answer
+        → BothGiven (readSection settings vendors sizes s rows attrs) answer rows₁ attrs₁ → t ≡ sectionTold answer
         → SectionCrosses (readSection settings′ vendors sizes s rows attrs) (t .number) (t .place) (t .first) (t .second) rows₁ attrs₁
     read-crosses {answer} {t} {rows₁} {attrs₁} p q =
         subst (λ (x : Settings). SectionCrosses (readSection x vendors sizes s rows attrs) (t .number) (t .place) (t .first) (t .second) rows₁ attrs₁) same
-        (record { says = said-two _ (q ∙ ap sectionTold (p .answer-is)); row-table = p .rows-are; attr-table = p .attrs-are })
+        (record { says = said-two _ (q ∙ ap sectionTold (p .answer-is)); row-table = p .first-is; attr-table = p .second-is })
 
     module _ {counts counts′ : Counts} (many : counts ≡ counts′) where
       pub size-crosses : (key : ℕ) {answer : Sized} {t : Told} → answer ≡ sizeOfKey settings vendors sizes s rows attrs counts key → t ≡ sizeTold answer
@@ -67,7 +68,7 @@ module _ {settings settings′ : Settings} (same : settings ≡ settings′) (ve
           (record { says = said-one _ (q ∙ ap treeTold (p .answer-is)); room-is = p .room-is }))
 
       pub layout-crosses : (key : ℕ) (room : List ℕ) {answer : LayoutRead} {t : Told} {room₁ : List ℕ}
-          → LayoutGiven (layoutOf settings vendors sizes s rows attrs counts key room) answer room₁ → t ≡ layoutTold answer
+          → Given (layoutOf settings vendors sizes s rows attrs counts key room) answer room₁ → t ≡ layoutTold answer
           → LayoutCrosses (layoutOf settings′ vendors sizes s rows attrs counts′ key room) (t .number) (t .place) (t .first) (t .second) (t .third) room₁
       layout-crosses key room {answer} {t} {room₁} p q =
           subst (λ (n : Counts). LayoutCrosses (layoutOf settings′ vendors sizes s rows attrs n key room) (t .number) (t .place) (t .first) (t .second) (t .third) room₁) many
@@ -75,12 +76,12 @@ module _ {settings settings′ : Settings} (same : settings ≡ settings′) (ve
           (record { says = said-three _ (q ∙ ap layoutTold (p .answer-is)); room-is = p .room-is }))
 
       pub layouts-cross : (structures room : List ℕ) {answer : AllLayouts} {t : Told} {structures₁ room₁ : List ℕ}
-          → AllGiven (allOf settings vendors sizes s rows attrs counts structures room) answer structures₁ room₁ → t ≡ layoutsTold answer
+          → BothGiven (allOf settings vendors sizes s rows attrs counts structures room) answer structures₁ room₁ → t ≡ layoutsTold answer
           → LayoutsCross (allOf settings′ vendors sizes s rows attrs counts′ structures room) (t .number) (t .place) (t .first) (t .second) structures₁ room₁
       layouts-cross structures room {answer} {t} {structures₁} {room₁} p q =
           subst (λ (n : Counts). LayoutsCross (allOf settings′ vendors sizes s rows attrs n structures room) (t .number) (t .place) (t .first) (t .second) structures₁ room₁) many
           (subst (λ (x : Settings). LayoutsCross (allOf x vendors sizes s rows attrs counts structures room) (t .number) (t .place) (t .first) (t .second) structures₁ room₁) same
-          (record { says = said-two _ (q ∙ ap layoutsTold (p .answer-is)); structure-room = p .structures-are; member-room = p .members-are }))
+          (record { says = said-two _ (q ∙ ap layoutsTold (p .answer-is)); structure-room = p .first-is; member-room = p .second-is }))
 
 pub offset-crosses : {e e′ : Endian} → e ≡ e′ → (block : List ℕ) {answer : Located} {t : Told} → answer ≡ offsetOf e block → t ≡ offsetTold answer
     → OffsetCrosses (offsetOf e′ block) (t .number) (t .place) (t .first)

@@ -8,6 +8,7 @@ use mathlib.Core.List.{List, [], _∷_}
 use lib.ListN.{length, set, length-set}
 use lib.Dec.{leb, eqb}
 use borrow.Author.Tests.{le-leb, lt-leb, eq-eqb, ne-eqb}
+use Rattle.lent.specs.Outcome.{Outcome, outcome, Given}
 use Rattle.numbers.proofs.Laws.Tests.{cond-all}
 use Rattle.links.specs.Walk.{Walk, ends, endless, meets, stops, walkFrom}
 use Rattle.format.specs.Limits.{entryLimit}
@@ -31,7 +32,7 @@ use Rattle.format.specs.declared.refusal.Reason.the-variants as reason
 use Rattle.numbers.specs.declared.Endian.{Endian}
 use Rattle.links.specs.Links.{nullRow, nonNull, nextRow, siblingRow, childWalk}
 use Rattle.links.specs.Inside.Links.{Rows}
-use Rattle.links.specs.Children.{Outcome, outcome, given, childrenBy, childrenOf, Given}
+use Rattle.links.specs.Children.{given, childrenBy, childrenOf}
 use Rattle.links.specs.declared.children.ChildRows.{ChildRows}
 use Rattle.links.specs.declared.children.ChildRows.the-variants.{Listed, Refused, Room}
 use Rattle.links.specs.Inside.Children.{Filled, filled, Gathers, Takes, Small, Asked}
@@ -259,9 +260,9 @@ module _ (settings : Settings) (vendors sizes s rows attrs : List ℕ) (counts :
       → Given (childrenOf settings vendors sizes s rows attrs counts key room) r room′
   unfolding childrenOf
   children-passed p {r} {room′} g =
-      subst (λ (o : Outcome). Given o r room′) (passed-answer (λ why. outcome (Refused why) room) _ is p) g
+      subst (λ (o : Outcome ChildRows ℕ). Given o r room′) (passed-answer (λ why. outcome (Refused why) room) _ is p) g
 
   pub children-refused : {why : Refusal} → told ≡ check.Refused why → Given (childrenOf settings vendors sizes s rows attrs counts key room) (Refused why) room
   unfolding childrenOf
   children-refused {why} p =
-      subst (λ (o : Outcome). Given o (Refused why) room) (refused-answer (λ w. outcome (Refused w) room) _ is p) (record { answer-is = refl; room-is = refl })
+      subst (λ (o : Outcome ChildRows ℕ). Given o (Refused why) room) (refused-answer (λ w. outcome (Refused w) room) _ is p) (record { answer-is = refl; room-is = refl })

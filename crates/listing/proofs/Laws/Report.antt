@@ -6,6 +6,7 @@ use mathlib.Core.List.{List, []}
 use lib.ListN.{length}
 use lib.Dec.{leb, ltb}
 use native.Mathlib.Omega.{arith}
+use Rattle.lent.specs.Outcome.{Outcome, Given, BothGiven}
 use Rattle.numbers.proofs.Laws.Tests.{cond-all}
 use Rattle.format.specs.Limits.{sectionLimit}
 use Rattle.format.specs.Settings.{settingsHold}
@@ -13,7 +14,6 @@ use Rattle.tables.specs.Test.{tableHolds}
 use Rattle.tables.specs.Check.{tested, afterTests}
 use Rattle.tables.specs.Row.{rowWidth}
 use Rattle.tables.proofs.Laws.Test.{fits-all}
-use Rattle.entries.specs.Section.{SectionRead}
 use Rattle.entries.proofs.Laws.Filled.{answer-read}
 use Rattle.format.specs.Refusal.{numberOf}
 use Rattle.format.specs.declared.refusal.Refusal.{Refusal}
@@ -22,7 +22,7 @@ use Rattle.entries.specs.declared.section.Section.{Section}
 use Rattle.entries.specs.declared.section.Section.the-variants.{Read, Refused, Room}
 use Rattle.tree.specs.Reach.{reachEnd}
 use Rattle.tree.specs.Nest.{firstFault, firstDeep}
-use Rattle.tree.specs.Tree.{placeWidth, firstErased, listed, treeOf, Given, Outcome as TreeOutcome}
+use Rattle.tree.specs.Tree.{placeWidth, firstErased, listed, treeOf}
 use Rattle.tree.specs.declared.listing.Listing.{Listing}
 use Rattle.tree.specs.declared.listing.Listing.the-variants as listing
 use Rattle.listing.specs.Text.{refusalText, listingText}
@@ -80,10 +80,10 @@ module _ (s rows attrs : List ℕ) (answer : Section) {r : ℕ} {a b : List ℕ}
   unfolding answerText
   room-reported counts e f = rw e f
 
-pub section-reported : (s : List ℕ) {answer : Section} {rows attrs : List ℕ} {r : ℕ} {a b : List ℕ} → SectionRead (listingRead s rowRoom attrRoom) answer rows attrs
+pub section-reported : (s : List ℕ) {answer : Section} {rows attrs : List ℕ} {r : ℕ} {a b : List ℕ} → BothGiven (listingRead s rowRoom attrRoom) answer rows attrs
     → Printed (answerText s rows attrs answer) r a b → Printed (reportText s) r a b
 unfolding reportText
-section-reported s g f = rw (← g .rows-are, ← g .attrs-are, ← g .answer-is) f
+section-reported s g f = rw (← g .first-is, ← g .second-is, ← g .answer-is) f
 
 module _ (longer : Bool) (s : List ℕ) {r : ℕ} {a b : List ℕ} where
   pub longer-reported : longer ≡ true → Printed roomText r a b → Printed (inputText longer s) r a b
@@ -103,14 +103,14 @@ read-few s rows attrs c long h =
     in
     omega arith
 
-pub few-read : (s rows attrs rows′ attrs′ : List ℕ) {answer : Section} → length rows ≡ 5120 → SectionRead (listingRead s rows attrs) answer rows′ attrs′ → FewRead answer
+pub few-read : (s rows attrs rows′ attrs′ : List ℕ) {answer : Section} → length rows ≡ 5120 → BothGiven (listingRead s rows attrs) answer rows′ attrs′ → FewRead answer
 few-read s rows attrs rows′ attrs′ long g = record { few = λ c e. read-few s rows attrs c long (sym (g .answer-is) ∙ e) }
 
 -- ---- and no more are listed than were read
 
 module _ (counts : Counts) where
   -- an outcome that lists rows lists all that were counted
-  abbrev ListsAll : TreeOutcome → Type 0
+  abbrev ListsAll : Outcome Listing ℕ → Type 0
   ListsAll o = (n : ℕ) → o .answer ≡ listing.Listed n → n ≡ counts .rows
 
   refused-lists : (why : Refusal) (room : List ℕ) → ListsAll (record { answer = listing.Refused why; room = room })

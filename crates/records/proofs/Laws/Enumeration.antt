@@ -9,6 +9,7 @@ use lib.ListN.{length, take, drop, length-drop, length-append}
 use lib.Seq.{length-take-le, sets}
 use lib.Dec.{leb}
 use lib.IntN.{ℤ}
+use Rattle.lent.specs.Outcome.{Outcomes, BothGiven, outcomes}
 use Rattle.numbers.proofs.Laws.Tests.{cond-all}
 use Rattle.numbers.specs.Value.{valueOf, there}
 use Rattle.numbers.proofs.Laws.Value.{there-inside, read-all}
@@ -40,7 +41,7 @@ use Rattle.records.proofs.Laws.Record.{fields-clear}
 use Rattle.records.specs.Elements.{Listed, Elements, are, missing, listWidth, elementsIn, valuesOf, namesOf}
 use Rattle.records.specs.Inside.Elements.{valueWords, nameWords, storeAll, Addable, asLists, before, countFrom, storeValues, storeNames, StoredFrom}
 use Rattle.records.proofs.Laws.Elements.{width-few, elements-few, store-append, store-length, values-forwards, names-forwards, values-backwards, names-backwards}
-use Rattle.records.specs.Enumeration.{Lists, listed, refused, joined, sizeBefore, listAt, listsFrom, enumerationIs, sizedBy, rowLists, enumerationEnd, listedBy, enumerationAt, isGcc, reversed, inOrder, Outcome, listInto, intoRooms, enumerationBy, EnumerationGiven}
+use Rattle.records.specs.Enumeration.{Lists, listed, refused, joined, sizeBefore, listAt, listsFrom, enumerationIs, sizedBy, rowLists, enumerationEnd, listedBy, enumerationAt, isGcc, reversed, inOrder, listInto, intoRooms, enumerationBy}
 use Rattle.records.specs.Inside.Enumeration.{Countable, Stepping, AskedShort, oneList, restFrom, Advanced, Steps, WholeStored}
 use Rattle.records.specs.declared.taken.Record.the-variants as record′
 use Rattle.records.specs.declared.scan.Run.{Run}
@@ -516,9 +517,6 @@ module _ (settings : Settings) (s rows attrs : List ℕ) (n i : ℕ) where
 
   -- ---- into the rooms
 
-  abbrev outcome : EnumerationRead → List ℤ → List ℕ → Outcome
-  outcome answer values names = record { answer = answer; values = values; names = names }
-
   -- an enumeration has as many members as elements are listed
   abbrev Members : Lists → EnumerationWhole → Type 0
   Members l (whole.Is e) = (xs : List Listed) × (l ≡ listed xs) × (e .members ≡ length xs)
@@ -546,47 +544,47 @@ module _ (settings : Settings) (s rows attrs : List ℕ) (n i : ℕ) where
 
   module _ {told : EnumerationWhole} (is : told ≡ enumerationAt settings s rows attrs n i) (values : List ℤ) (names : List ℕ) where
     pub given-refused : {why : Refusal} → told ≡ whole.Refused why
-        → EnumerationGiven (intoRooms (settings .producer) values names (rowLists settings s rows attrs n i) (enumerationAt settings s rows attrs n i)) (read.Refused why) values names
+        → BothGiven (intoRooms (settings .producer) values names (rowLists settings s rows attrs n i) (enumerationAt settings s rows attrs n i)) (read.Refused why) values names
     unfolding intoRooms
     given-refused {why} p =
-        subst (λ (x : EnumerationWhole). EnumerationGiven (intoRooms (settings .producer) values names lists x) (read.Refused why) values names) (sym p ∙ is)
-        (record { answer-is = refl; values-are = refl; names-are = refl })
+        subst (λ (x : EnumerationWhole). BothGiven (intoRooms (settings .producer) values names lists x) (read.Refused why) values names) (sym p ∙ is)
+        (record { answer-is = refl; first-is = refl; second-is = refl })
 
     module _ {e : Enumeration} (p : told ≡ whole.Is e) where
       pub given-room : leb (e .members) (length values) && leb (e .members) (length names / 2) ≡ false
-          → EnumerationGiven (intoRooms (settings .producer) values names (rowLists settings s rows attrs n i) (enumerationAt settings s rows attrs n i)) (read.Room (e .members)) values names
+          → BothGiven (intoRooms (settings .producer) values names (rowLists settings s rows attrs n i) (enumerationAt settings s rows attrs n i)) (read.Room (e .members)) values names
       unfolding intoRooms
       given-room t =
-          subst (λ (x : EnumerationWhole). EnumerationGiven (intoRooms (settings .producer) values names lists x) (read.Room (e .members)) values names) (sym p ∙ is)
-          (subst (λ (b : Bool). EnumerationGiven (cond b (listInto (settings .producer) values names lists (read.Is e)) (outcome (read.Room (e .members)) values names)) (read.Room (e .members)) values names)
-          (sym t) (record { answer-is = refl; values-are = refl; names-are = refl }))
+          subst (λ (x : EnumerationWhole). BothGiven (intoRooms (settings .producer) values names lists x) (read.Room (e .members)) values names) (sym p ∙ is)
+          (subst (λ (b : Bool). BothGiven (cond b (listInto (settings .producer) values names lists (read.Is e)) (outcomes (read.Room (e .members)) values names)) (read.Room (e .members)) values names)
+          (sym t) (record { answer-is = refl; first-is = refl; second-is = refl }))
 
       pub given-members : leb (e .members) (length values) && leb (e .members) (length names / 2) ≡ true → {gcc : Bool} → gcc ≡ isGcc (settings .producer)
           → {r : EnumerationWhole} {values′ : List ℤ} {names′ : List ℕ}
           → WholeStored (enumerationAt settings s rows attrs n i) (rowLists settings s rows attrs n i) (record { reversed = gcc; total = e .members }) r values values′ names names′
-          → EnumerationGiven (intoRooms (settings .producer) values names (rowLists settings s rows attrs n i) (enumerationAt settings s rows attrs n i)) (read.Is e) values′ names′
+          → BothGiven (intoRooms (settings .producer) values names (rowLists settings s rows attrs n i) (enumerationAt settings s rows attrs n i)) (read.Is e) values′ names′
       unfolding intoRooms listInto
       given-members t {gcc} g {r} {values′} {names′} stored =
           let found : (xs : List Listed) × (lists ≡ listed xs) × (e .members ≡ length xs) = members-listed (sym is ∙ p) in
           let xs : List Listed = found .0 in
-          subst (λ (x : EnumerationWhole). EnumerationGiven (intoRooms (settings .producer) values names lists x) (read.Is e) values′ names′) (sym p ∙ is)
-          (subst (λ (b : Bool). EnumerationGiven (cond b (listInto (settings .producer) values names lists (read.Is e)) (outcome (read.Room (e .members)) values names)) (read.Is e) values′ names′) (sym t)
-          (subst (λ (l : Lists). EnumerationGiven (listInto (settings .producer) values names l (read.Is e)) (read.Is e) values′ names′) (sym (found .1))
+          subst (λ (x : EnumerationWhole). BothGiven (intoRooms (settings .producer) values names lists x) (read.Is e) values′ names′) (sym p ∙ is)
+          (subst (λ (b : Bool). BothGiven (cond b (listInto (settings .producer) values names lists (read.Is e)) (outcomes (read.Room (e .members)) values names)) (read.Is e) values′ names′) (sym t)
+          (subst (λ (l : Lists). BothGiven (listInto (settings .producer) values names l (read.Is e)) (read.Is e) values′ names′) (sym (found .1))
           (record {
             answer-is = refl;
-            values-are = stored .values-are e (sym is ∙ p) xs (found .1) ∙ values-ordered (settings .producer) xs g (found .2) values;
-            names-are = stored .names-are e (sym is ∙ p) xs (found .1) ∙ names-ordered (settings .producer) xs g (found .2) names;
+            first-is = stored .values-are e (sym is ∙ p) xs (found .1) ∙ values-ordered (settings .producer) xs g (found .2) values;
+            second-is = stored .names-are e (sym is ∙ p) xs (found .1) ∙ names-ordered (settings .producer) xs g (found .2) names;
           })))
 
 -- ---- the enumeration of a key
 
 module _ (settings : Settings) (vendors sizes s rows attrs : List ℕ) (counts : Counts) (key : ℕ) {told : Keyed}
     (is : told ≡ inRow settings vendors sizes s rows attrs counts key keyed.Refused keyed.Row) (values : List ℤ) (names : List ℕ) where
-  abbrev inRooms : ℕ → Outcome
+  abbrev inRooms : ℕ → Outcomes EnumerationRead ℤ ℕ
   inRooms i = intoRooms (settings .producer) values names (rowLists settings s rows attrs (counts .rows) i) (enumerationAt settings s rows attrs (counts .rows) i)
 
-  abbrev nothing : Refusal → Outcome
-  nothing why = record { answer = read.Refused why; values = values; names = names }
+  abbrev nothing : Refusal → Outcomes EnumerationRead ℤ ℕ
+  nothing why = record { answer = read.Refused why; first = values; second = names }
 
   pub tag-asked : {i : ℕ} → told ≡ keyed.Row i → AskedShort s rows (counts .rows) i
   tag-asked p =
@@ -596,15 +594,15 @@ module _ (settings : Settings) (vendors sizes s rows attrs : List ℕ) (counts :
       }
 
   pub tag-there : {i : ℕ} {r : EnumerationRead} {values′ : List ℤ} {names′ : List ℕ} → told ≡ keyed.Row i
-      → EnumerationGiven (intoRooms (settings .producer) values names (rowLists settings s rows attrs (counts .rows) i) (enumerationAt settings s rows attrs (counts .rows) i)) r values′ names′
-      → EnumerationGiven (enumerationBy settings vendors sizes s rows attrs counts key values names) r values′ names′
+      → BothGiven (intoRooms (settings .producer) values names (rowLists settings s rows attrs (counts .rows) i) (enumerationAt settings s rows attrs (counts .rows) i)) r values′ names′
+      → BothGiven (enumerationBy settings vendors sizes s rows attrs counts key values names) r values′ names′
   unfolding enumerationBy
   tag-there {r = r} {values′ = values′} {names′ = names′} p =
-      subst (λ (o : Outcome). EnumerationGiven o r values′ names′) (in-row settings vendors sizes s rows attrs counts key is nothing inRooms p)
+      subst (λ (o : Outcomes EnumerationRead ℤ ℕ). BothGiven o r values′ names′) (in-row settings vendors sizes s rows attrs counts key is nothing inRooms p)
 
   pub tag-refused : {why : Refusal} → told ≡ keyed.Refused why
-      → EnumerationGiven (enumerationBy settings vendors sizes s rows attrs counts key values names) (read.Refused why) values names
+      → BothGiven (enumerationBy settings vendors sizes s rows attrs counts key values names) (read.Refused why) values names
   unfolding enumerationBy
   tag-refused {why} p =
-      subst (λ (o : Outcome). EnumerationGiven o (read.Refused why) values names) (no-row settings vendors sizes s rows attrs counts key is nothing inRooms p)
-      (record { answer-is = refl; values-are = refl; names-are = refl })
+      subst (λ (o : Outcomes EnumerationRead ℤ ℕ). BothGiven o (read.Refused why) values names) (no-row settings vendors sizes s rows attrs counts key is nothing inRooms p)
+      (record { answer-is = refl; first-is = refl; second-is = refl })

@@ -10,6 +10,7 @@ use lib.Seq.{sets, sets-eq, take-append-seam, drop-append-seam}
 use lib.Dec.{leb}
 use lib.IntN.{ℤ}
 use borrow.Author.Tests.{leb-true}
+use Rattle.lent.specs.Outcome.{Outcomes, BothGiven}
 use Rattle.format.specs.declared.settings.Settings.{Settings}
 use Rattle.format.specs.declared.settings.Producer.{Producer}
 use Rattle.format.specs.declared.refusal.Refusal.{Refusal}
@@ -20,13 +21,14 @@ use Rattle.links.specs.declared.typed.Keyed.{Keyed}
 use Rattle.links.specs.declared.typed.Keyed.the-variants as keyed
 use Rattle.records.specs.Elements.{Listed, valuesOf, namesOf}
 use Rattle.records.proofs.Laws.Elements.{reversed-length}
-use Rattle.records.specs.Enumeration.{Lists, listed, isGcc, reversed, inOrder, rowLists, enumerationAt, Outcome, listInto, intoRooms, enumerationBy, EnumerationGiven}
+use Rattle.records.specs.Enumeration.{Lists, listed, isGcc, reversed, inOrder, rowLists, enumerationAt, listInto, intoRooms, enumerationBy}
 use Rattle.records.proofs.Laws.Enumeration.{members-listed}
 use Rattle.records.specs.declared.enumeration.Enumeration.{Enumeration}
 use Rattle.records.specs.declared.enumeration.EnumerationWhole.{EnumerationWhole}
 use Rattle.records.specs.declared.enumeration.EnumerationWhole.the-variants as whole
 use Rattle.records.specs.declared.enumeration.EnumerationRead.the-variants as read
 use Rattle.records.specs.EnumerationFilled.{Filled}
+use Rattle.records.specs.declared.enumeration.EnumerationRead.{EnumerationRead}
 
 -- ---- a run of stores from the beginning on
 
@@ -74,8 +76,8 @@ both false b p = (p, absurd-false p)
 
 module _ (settings : Settings) (vendors sizes s rows attrs : List ℕ) (counts : Counts) (key : ℕ) (values : List ℤ) (names : List ℕ) where
   module _ (e : Enumeration) (values′ : List ℤ) (names′ : List ℕ) where
-    abbrev Says : Outcome → Type 0
-    Says o = EnumerationGiven o (read.Is e) values′ names′
+    abbrev Says : Outcomes EnumerationRead ℤ ℕ → Type 0
+    Says o = BothGiven o (read.Is e) values′ names′
 
     module _ (i : ℕ) (row : inRow settings vendors sizes s rows attrs counts key keyed.Refused keyed.Row ≡ keyed.Row i) where
       abbrev Result : Type 0
@@ -110,13 +112,13 @@ module _ (settings : Settings) (vendors sizes s rows attrs : List ℕ) (counts :
             },
           )
 
-      abbrev rooms : EnumerationWhole → Outcome
+      abbrev rooms : EnumerationWhole → Outcomes EnumerationRead ℤ ℕ
       rooms w = intoRooms (settings .producer) values names (rowLists settings s rows attrs (counts .rows) i) w
 
       by-fit : (e′ : Enumeration) → enumerationAt settings s rows attrs (counts .rows) i ≡ whole.Is e′ → (b : Bool)
           → (leb (e′ .members) (length values) && leb (e′ .members) (length names / 2)) ≡ b
           → Says (cond b (listInto (settings .producer) values names (rowLists settings s rows attrs (counts .rows) i) (read.Is e′))
-          (record { answer = read.Room (e′ .members); values = values; names = names })) → Result
+          (record { answer = read.Room (e′ .members); first = values; second = names })) → Result
       unfolding listInto
       by-fit e′ p true t g =
           let found : (xs : List Listed) × (rowLists settings s rows attrs (counts .rows) i ≡ listed xs) × (e′ .members ≡ length xs) =
@@ -128,7 +130,7 @@ module _ (settings : Settings) (vendors sizes s rows attrs : List ℕ) (counts :
           let same : read.Is e ≡ read.Is e′ = g′ .answer-is in
           let one : e ≡ e′ = cc in
           with-members (found .0) (found .1) (ap (λ (x : Enumeration). x .members) one ∙ found .2)
-          (ap (λ (x : Enumeration). leb (x .members) (length values) && leb (x .members) (length names / 2)) one ∙ t) (g′ .values-are) (g′ .names-are)
+          (ap (λ (x : Enumeration). leb (x .members) (length values) && leb (x .members) (length names / 2)) one ∙ t) (g′ .first-is) (g′ .second-is)
       by-fit e′ p false t g =
           let other : read.Is e ≡ read.Room (e′ .members) = g .answer-is in
           let z : _≡_ {A = ℕ} 0 1 = cc in
@@ -142,10 +144,10 @@ module _ (settings : Settings) (vendors sizes s rows attrs : List ℕ) (counts :
           let z : _≡_ {A = ℕ} 0 1 = cc in
           absurd (omega arith)
 
-    abbrev nothing : Refusal → Outcome
-    nothing why = record { answer = read.Refused why; values = values; names = names }
+    abbrev nothing : Refusal → Outcomes EnumerationRead ℤ ℕ
+    nothing why = record { answer = read.Refused why; first = values; second = names }
 
-    abbrev inRooms : ℕ → Outcome
+    abbrev inRooms : ℕ → Outcomes EnumerationRead ℤ ℕ
     inRooms i = intoRooms (settings .producer) values names (rowLists settings s rows attrs (counts .rows) i) (enumerationAt settings s rows attrs (counts .rows) i)
 
     by-row : (told : Keyed) → told ≡ inRow settings vendors sizes s rows attrs counts key keyed.Refused keyed.Row
@@ -160,7 +162,7 @@ module _ (settings : Settings) (vendors sizes s rows attrs : List ℕ) (counts :
         let z : _≡_ {A = ℕ} 0 1 = cc in
         absurd (omega arith)
 
-    pub enumeration-filled : EnumerationGiven (enumerationBy settings vendors sizes s rows attrs counts key values names) (read.Is e) values′ names′
+    pub enumeration-filled : BothGiven (enumerationBy settings vendors sizes s rows attrs counts key values names) (read.Is e) values′ names′
         → (i : ℕ) × (xs : List Listed) × Filled settings vendors sizes s rows attrs counts key values names e values′ names′ i xs
     unfolding enumerationBy
     enumeration-filled g = by-row (inRow settings vendors sizes s rows attrs counts key keyed.Refused keyed.Row) refl g

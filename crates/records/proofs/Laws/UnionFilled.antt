@@ -8,6 +8,7 @@ use lib.ListN.{length, take, drop, length-append}
 use lib.Seq.{sets-eq, take-at, drop-at}
 use lib.Dec.{leb}
 use borrow.Author.Tests.{leb-true, le-leb}
+use Rattle.lent.specs.Outcome.{Outcome, Given}
 use Rattle.format.specs.declared.settings.Settings.{Settings}
 use Rattle.tables.specs.declared.row.Counts.{Counts}
 use Rattle.links.specs.Typed.{inRow}
@@ -16,7 +17,7 @@ use Rattle.links.specs.declared.typed.Keyed.{Keyed}
 use Rattle.links.specs.declared.typed.Keyed.the-variants as keyed
 use Rattle.records.specs.MemberWords.{memberWidth, memberWords}
 use Rattle.records.proofs.Laws.MemberWords.{words-wide}
-use Rattle.records.specs.Unions.{Placed, Members, members, refused, rowMembers, unionAt, membersWords, Outcome, membersInto, intoRoom, unionBy, UnionGiven}
+use Rattle.records.specs.Unions.{Placed, Members, members, refused, rowMembers, unionAt, membersWords, membersInto, intoRoom, unionBy}
 use Rattle.records.proofs.Laws.Unions.{AsMany, union-counts}
 use Rattle.records.specs.declared.unions.Union.{Union}
 use Rattle.records.specs.declared.unions.UnionWhole.{UnionWhole}
@@ -89,7 +90,7 @@ module _ (room : List ℕ) {all : Members} {w : UnionWhole} {u : Union} (f : Fit
 -- ---- the theorem
 
 module _ (settings : Settings) (vendors sizes s rows attrs : List ℕ) (counts : Counts) (key : ℕ) (room : List ℕ) {r : UnionRead} {room′ : List ℕ} {u : Union}
-    (g : UnionGiven (unionBy settings vendors sizes s rows attrs counts key room) r room′) (p : r ≡ Is u) where
+    (g : Given (unionBy settings vendors sizes s rows attrs counts key room) r room′) (p : r ≡ Is u) where
   abbrev all : ℕ → Members
   all i = rowMembers settings s rows attrs (counts .rows) i
 
@@ -109,11 +110,11 @@ module _ (settings : Settings) (vendors sizes s rows attrs : List ℕ) (counts :
       in
       let f : Fits room (all i) (union i) u =
       fits room (all i) (union i)
-      (ap (λ (o : Outcome). o .answer) same ∙ sym (g .answer-is) ∙ p)
+      (ap (λ (o : Outcome UnionRead ℕ). o .answer) same ∙ sym (g .answer-is) ∙ p)
       in
       let these : AsMany (all i) u = union-counts settings s rows attrs (counts .rows) i (f .read) in
       let after : room′ ≡ membersWords (these .list) ++ drop end room =
-      g .room-is ∙ sym (ap (λ (o : Outcome). o .room) same) ∙ filled-room room f these
+      g .room-is ∙ sym (ap (λ (o : Outcome UnionRead ℕ). o .room) same) ∙ filled-room room f these
       in
       record {
         row = i;
@@ -131,7 +132,7 @@ module _ (settings : Settings) (vendors sizes s rows attrs : List ℕ) (counts :
       no-row settings vendors sizes s rows attrs counts key is (λ w. record { answer = Refused w; room = room })
       (λ j. intoRoom room (all j) (union j)) refl
       in
-      absurd (subst (isUnion u) (sym p ∙ g .answer-is ∙ sym (ap (λ (o : Outcome). o .answer) same)) refl)
+      absurd (subst (isUnion u) (sym p ∙ g .answer-is ∙ sym (ap (λ (o : Outcome UnionRead ℕ). o .answer) same)) refl)
 
   pub union-filled : Filled settings s rows attrs (counts .rows) key u room room′
   union-filled = by-key (inRow settings vendors sizes s rows attrs counts key keyed.Refused keyed.Row) refl

@@ -9,6 +9,7 @@ use lib.ListN.{length}
 use lib.Seq.{sets, length-sets}
 use lib.Dec.{eqb, leb}
 use borrow.Author.Tests.{eq-eqb, ne-eqb, le-leb, lt-leb}
+use Rattle.lent.specs.Outcome.{Outcome, Given, outcome}
 use Rattle.numbers.specs.declared.Endian.{Endian}
 use Rattle.format.specs.TagKind as tag
 use Rattle.format.specs.Limits.{entryLimit}
@@ -40,7 +41,7 @@ use Rattle.records.specs.Member.{memberAt}
 use Rattle.records.specs.MemberWords.{memberWidth, memberWords}
 use Rattle.records.proofs.Laws.MemberWords.{words-wide}
 use Rattle.records.proofs.Laws.Fields.{byte-sized-all}
-use Rattle.records.specs.Unions.{ignored, Placed, Members, members, refused, andMember, memberThen, childThen, membersFrom, membersBy, rowMembers, unionIs, sizedBy, membersTaken, unionAt, membersWords, Outcome, membersInto, intoRoom, unionBy, UnionGiven}
+use Rattle.records.specs.Unions.{ignored, Placed, Members, members, refused, andMember, memberThen, childThen, membersFrom, membersBy, rowMembers, unionIs, sizedBy, membersTaken, unionAt, membersWords, membersInto, intoRoom, unionBy}
 use Rattle.records.specs.Inside.Unions.{TakeAsked, EndsAt, countOf, Stored, stored, storedOn, Takes, MembersStored, WholeStored}
 use Rattle.records.specs.declared.taken.Record.the-variants as record′
 use Rattle.records.specs.declared.scan.Run.{Run}
@@ -367,11 +368,8 @@ module _ (settings : Settings) (s rows attrs : List ℕ) (n i : ℕ) where
 
 -- ---- into lent room
 
-abbrev outcome : UnionRead → List ℕ → Outcome
-outcome answer room = record { answer = answer; room = room }
-
-given-as : {o : Outcome} {r : UnionRead} {room : List ℕ} → outcome r room ≡ o → UnionGiven o r room
-given-as p = record { answer-is = ap (λ (x : Outcome). x .answer) p; room-is = ap (λ (x : Outcome). x .room) p }
+given-as : {o : Outcome UnionRead ℕ} {r : UnionRead} {room : List ℕ} → outcome r room ≡ o → Given o r room
+given-as p = record { answer-is = ap (λ (x : Outcome UnionRead ℕ). x .answer) p; room-is = ap (λ (x : Outcome UnionRead ℕ). x .room) p }
 
 module _ (settings : Settings) (s rows attrs : List ℕ) (n i : ℕ) (room : List ℕ) {told : UnionWhole} (is : told ≡ unionAt settings s rows attrs n i) where
   module _ {u : Union} (p : told ≡ whole.Is u) where
@@ -382,7 +380,7 @@ module _ (settings : Settings) (s rows attrs : List ℕ) (n i : ℕ) (room : Lis
 
     pub give-filled : {r : UnionWhole} {room′ : List ℕ} → u .members ≤ length room / memberWidth
         → WholeStored (unionAt settings s rows attrs n i) (rowMembers settings s rows attrs n i) r room room′
-        → UnionGiven (intoRoom room (rowMembers settings s rows attrs n i) (unionAt settings s rows attrs n i)) (Is u) room′
+        → Given (intoRoom room (rowMembers settings s rows attrs n i) (unionAt settings s rows attrs n i)) (Is u) room′
     unfolding membersInto
     give-filled {room′ = room′} h g =
         let these : AsMany (rowMembers settings s rows attrs n i) u = union-counts settings s rows attrs n i (sym is ∙ p) in
@@ -393,27 +391,27 @@ module _ (settings : Settings) (s rows attrs : List ℕ) (n i : ℕ) (room : Lis
         ∙ into-is)
 
     pub give-unfit : length room / memberWidth < u .members
-        → UnionGiven (intoRoom room (rowMembers settings s rows attrs n i) (unionAt settings s rows attrs n i)) (Room (u .members)) room
+        → Given (intoRoom room (rowMembers settings s rows attrs n i) (unionAt settings s rows attrs n i)) (Room (u .members)) room
     give-unfit h = given-as (test-failed refl _ (lt-leb (u .members) (length room / memberWidth) h) refl ∙ into-is)
 
   pub give-refused : {why : Refusal} → told ≡ whole.Refused why
-      → UnionGiven (intoRoom room (rowMembers settings s rows attrs n i) (unionAt settings s rows attrs n i)) (Refused why) room
+      → Given (intoRoom room (rowMembers settings s rows attrs n i) (unionAt settings s rows attrs n i)) (Refused why) room
   unfolding intoRoom
   give-refused p = given-as (ap (intoRoom room (rowMembers settings s rows attrs n i)) (sym p ∙ is))
 
 module _ (settings : Settings) (vendors sizes s rows attrs : List ℕ) (counts : Counts) (key : ℕ) (room : List ℕ) {told : Keyed}
     (is : told ≡ inRow settings vendors sizes s rows attrs counts key keyed.Refused keyed.Row) where
   pub union-there : {i : ℕ} {r : UnionRead} {room′ : List ℕ} → told ≡ keyed.Row i
-      → UnionGiven (intoRoom room (rowMembers settings s rows attrs (counts .rows) i) (unionAt settings s rows attrs (counts .rows) i)) r room′
-      → UnionGiven (unionBy settings vendors sizes s rows attrs counts key room) r room′
+      → Given (intoRoom room (rowMembers settings s rows attrs (counts .rows) i) (unionAt settings s rows attrs (counts .rows) i)) r room′
+      → Given (unionBy settings vendors sizes s rows attrs counts key room) r room′
   unfolding unionBy
   union-there {r = r} {room′ = room′} p g =
-      subst (λ (o : Outcome). UnionGiven o r room′)
+      subst (λ (o : Outcome UnionRead ℕ). Given o r room′)
       (in-row settings vendors sizes s rows attrs counts key is (λ why. outcome (Refused why) room)
       (λ i. intoRoom room (rowMembers settings s rows attrs (counts .rows) i) (unionAt settings s rows attrs (counts .rows) i)) p)
       g
 
-  pub union-nowhere : {why : Refusal} → told ≡ keyed.Refused why → UnionGiven (unionBy settings vendors sizes s rows attrs counts key room) (Refused why) room
+  pub union-nowhere : {why : Refusal} → told ≡ keyed.Refused why → Given (unionBy settings vendors sizes s rows attrs counts key room) (Refused why) room
   unfolding unionBy
   union-nowhere p =
       given-as

@@ -10,6 +10,7 @@ use lib.ListN.{length, take, drop, set, length-append}
 use lib.Seq.{sets, length-sets}
 use lib.Dec.{leb, eqb}
 use borrow.Author.Tests.{le-leb, lt-leb}
+use Rattle.lent.specs.Outcome.{Outcomes, outcomes, BothGiven}
 use Rattle.numbers.proofs.Laws.Tests.{cond-all}
 use Rattle.format.specs.Limits.{entryLimit}
 use Rattle.format.specs.Refusal.{numberOf}
@@ -49,7 +50,7 @@ use Rattle.sizes.specs.Layout.{Laid, Lay, laid, unlaid, laidMember, andL
 use Rattle.sizes.specs.Inside.Layout.{WholeLaid}
 use Rattle.sizes.proofs.Laws.Kept.{structure-test}
 use Rattle.sizes.proofs.Laws.Layout.{words-long, AllLaid, answer-laid, isNone}
-use Rattle.sizes.specs.All.{Structure, laidOf, alsoIf, structureAt, structuresFrom, answerWords, structureWidth, structureWords, memberWords, memberCount, countsOf, Outcome, outcome, intoRooms, allOf, AllGiven}
+use Rattle.sizes.specs.All.{Structure, laidOf, alsoIf, structureAt, structuresFrom, answerWords, structureWidth, structureWords, memberWords, memberCount, countsOf, intoRooms, allOf}
 use Rattle.sizes.specs.Inside.All.{rowStructures, eightWords, countedOn, countedWith, OneMore, CountAsked, sizeTold, Told, RowCounted, PutAsked, Puts, PutsAsked, PutAll}
 use Rattle.sizes.specs.declared.prepare.Shape.{Shape}
 use Rattle.sizes.specs.declared.prepare.Shape.the-variants as shape
@@ -637,12 +638,12 @@ module _ {settings : Settings} {s rows attrs : List ℕ} {n : ℕ} {sizeOf : «T
 
 -- ---- into lent rooms
 
-given-as : {o : Outcome} {r : AllLayouts} {structures room : List ℕ} → outcome r structures room ≡ o → AllGiven o r structures room
+given-as : {o : Outcomes AllLayouts ℕ ℕ} {r : AllLayouts} {structures room : List ℕ} → outcomes r structures room ≡ o → BothGiven o r structures room
 given-as p =
     record {
-      answer-is = ap (λ (x : Outcome). x .answer) p;
-      structures-are = ap (λ (x : Outcome). x .structures) p;
-      members-are = ap (λ (x : Outcome). x .members) p;
+      answer-is = ap (λ (x : Outcomes AllLayouts ℕ ℕ). x .answer) p;
+      first-is = ap (λ (x : Outcomes AllLayouts ℕ ℕ). x .first) p;
+      second-is = ap (λ (x : Outcomes AllLayouts ℕ ℕ). x .second) p;
     }
 
 module _ (xs : List Structure) {needed : LayoutCounts} (is : needed ≡ countsOf xs) where
@@ -660,12 +661,12 @@ module _ (xs : List Structure) {needed : LayoutCounts} (is : needed ≡ countsOf
       record { ready = w; fits = omega arith }
 
   module _ (structures room : List ℕ) where
-    pub rooms-unlisted : length structures / structureWidth < needed .structures → AllGiven (intoRooms structures room xs) (all.Room needed) structures room
+    pub rooms-unlisted : length structures / structureWidth < needed .structures → BothGiven (intoRooms structures room xs) (all.Room needed) structures room
     unfolding intoRooms
     rooms-unlisted h =
         let many : needed .structures ≡ length xs = needed-structures in
         let test : leb (length xs) (length structures / structureWidth) ≡ false = lt-leb (length xs) (length structures / structureWidth) (omega arith) in
-        given-as (ap (λ (c : LayoutCounts). outcome (all.Room c) structures room) is ∙ sym (rw test))
+        given-as (ap (λ (c : LayoutCounts). outcomes (all.Room c) structures room) is ∙ sym (rw test))
 
     module _ (h : needed .structures ≤ length structures / structureWidth) where
       listed : leb (length xs) (length structures / structureWidth) ≡ true
@@ -673,47 +674,47 @@ module _ (xs : List Structure) {needed : LayoutCounts} (is : needed ≡ countsOf
           let many : needed .structures ≡ length xs = needed-structures in
           le-leb (length xs) (length structures / structureWidth) (omega arith)
 
-      pub rooms-unfit : length room / laidWidth < needed .members → AllGiven (intoRooms structures room xs) (all.Room needed) structures room
+      pub rooms-unfit : length room / laidWidth < needed .members → BothGiven (intoRooms structures room xs) (all.Room needed) structures room
       unfolding intoRooms
       rooms-unfit l =
           let many : needed .members ≡ memberCount xs = needed-members in
           let test : leb (memberCount xs) (length room / laidWidth) ≡ false = lt-leb (memberCount xs) (length room / laidWidth) (omega arith) in
-          given-as (ap (λ (c : LayoutCounts). outcome (all.Room c) structures room) is ∙ sym (rw (listed, test)))
+          given-as (ap (λ (c : LayoutCounts). outcomes (all.Room c) structures room) is ∙ sym (rw (listed, test)))
 
       pub rooms-filled : needed .members ≤ length room / laidWidth → {structures′ room′ : List ℕ} → PutAll xs structures structures′ room room′
-          → AllGiven (intoRooms structures room xs) (all.Are needed) structures′ room′
+          → BothGiven (intoRooms structures room xs) (all.Are needed) structures′ room′
       unfolding intoRooms
       rooms-filled l {structures′} {room′} g =
           let many : needed .members ≡ memberCount xs = needed-members in
           let test : leb (memberCount xs) (length room / laidWidth) ≡ true = le-leb (memberCount xs) (length room / laidWidth) (omega arith) in
           given-as
-          (ap (λ (c : LayoutCounts). outcome (all.Are c) structures′ room′) is
-          ∙ ap₂ (outcome (all.Are (countsOf xs))) (g .structures-are) (g .members-are)
+          (ap (λ (c : LayoutCounts). outcomes (all.Are c) structures′ room′) is
+          ∙ ap₂ (outcomes (all.Are (countsOf xs))) (g .structures-are) (g .members-are)
           ∙ sym (rw (listed, test)))
 
 -- ---- the sizes of all rows are known
 
 pub all-known : (settings : Settings) (sizes s rows attrs : List ℕ) (n : ℕ) → Ready s rows n → (known : List ℕ)
     → Filled (sizeLeft settings sizes s rows attrs n deepest) n n known → 0 < length known → (structures room : List ℕ) {structures′ room′ : List ℕ} {r : AllLayouts}
-    → AllGiven (intoRooms structures room (structuresFrom settings s rows attrs n (typeFrom settings sizes s rows attrs n known 0) 0 n)) r structures′ room′
-    → AllGiven (intoRooms structures room (structuresFrom settings s rows attrs n (typeSize settings sizes s rows attrs n deepest) 0 n)) r structures′ room′
+    → BothGiven (intoRooms structures room (structuresFrom settings s rows attrs n (typeFrom settings sizes s rows attrs n known 0) 0 n)) r structures′ room′
+    → BothGiven (intoRooms structures room (structuresFrom settings s rows attrs n (typeSize settings sizes s rows attrs n deepest) 0 n)) r structures′ room′
 all-known settings sizes s rows attrs n ready known w some structures room {structures′} {room′} {r} g =
-    subst (λ (sizeOf : «Type» → Sized). AllGiven (intoRooms structures room (structuresFrom settings s rows attrs n sizeOf 0 n)) r structures′ room′)
+    subst (λ (sizeOf : «Type» → Sized). BothGiven (intoRooms structures room (structuresFrom settings s rows attrs n sizeOf 0 n)) r structures′ room′)
     (known-types settings sizes s rows attrs n ready deepest w some 0) g
 
 module _ {settings : Settings} {vendors sizes s rows attrs : List ℕ} {counts : Counts} {told : Check} (is : Tells settings vendors sizes s rows attrs counts told)
     (structures room : List ℕ) where
   pub all-passed : told ≡ check.Passed → {structures′ room′ : List ℕ} {r : AllLayouts}
-      → AllGiven (intoRooms structures room (structuresFrom settings s rows attrs (counts .rows) (typeSize settings sizes s rows attrs (counts .rows) deepest) 0 (counts .rows)))
+      → BothGiven (intoRooms structures room (structuresFrom settings s rows attrs (counts .rows) (typeSize settings sizes s rows attrs (counts .rows) deepest) 0 (counts .rows)))
       r structures′ room′
-      → AllGiven (allOf settings vendors sizes s rows attrs counts structures room) r structures′ room′
+      → BothGiven (allOf settings vendors sizes s rows attrs counts structures room) r structures′ room′
   unfolding allOf
-  all-passed p {structures′} {room′} {r} g = subst (λ (o : Outcome). AllGiven o r structures′ room′) (passed-answer _ _ is p) g
+  all-passed p {structures′} {room′} {r} g = subst (λ (o : Outcomes AllLayouts ℕ ℕ). BothGiven o r structures′ room′) (passed-answer _ _ is p) g
 
   pub all-refused : {why : Refusal} → told ≡ check.Refused why
-      → AllGiven (allOf settings vendors sizes s rows attrs counts structures room) (all.Refused why) structures room
+      → BothGiven (allOf settings vendors sizes s rows attrs counts structures room) (all.Refused why) structures room
   unfolding allOf
-  all-refused p = given-as (refused-answer (λ why. outcome (all.Refused why) structures room) _ is p)
+  all-refused p = given-as (refused-answer (λ why. outcomes (all.Refused why) structures room) _ is p)
 
 -- ---- the words of a structure
 

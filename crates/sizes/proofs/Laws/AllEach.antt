@@ -4,6 +4,7 @@ use Prim.Native.Nat.{ℕ, zero, suc, _-_, _<_}
 use mathlib.Core.Path.{_≡_, refl, sym, ap, _∙_}
 use mathlib.Core.Bool.{Bool, true, false, cond}
 use mathlib.Core.List.{List, [], _∷_, map}
+use Rattle.lent.specs.Outcome.{Outcome}
 use Rattle.format.specs.declared.settings.Settings.{Settings}
 use Rattle.blocks.specs.declared.types.Type.{«Type»}
 use Rattle.tables.specs.Row.{rowAt}
@@ -18,11 +19,12 @@ use Rattle.links.specs.Typed.{inRow}
 use Rattle.links.proofs.Laws.Typed.{key-found, row-passed, in-row}
 use Rattle.links.specs.declared.typed.Keyed.the-variants as keyed
 use Rattle.sizes.specs.Size.{innerSize, shapeOf}
-use Rattle.sizes.specs.Layout.{isStructure, rowLay, layoutAt, Outcome, intoRoom, layoutOf}
+use Rattle.sizes.specs.Layout.{isStructure, rowLay, layoutAt, intoRoom, layoutOf}
 use Rattle.sizes.specs.All.{Structure, alsoIf, structureAt, structuresFrom}
 use Rattle.sizes.specs.declared.sized.Sized.{Sized}
 use Rattle.sizes.specs.declared.layout.LayoutRead.the-variants as layout
 use Rattle.sizes.specs.AllEach.{rowsFrom, onlyStructures}
+use Rattle.sizes.specs.declared.layout.LayoutRead.{LayoutRead}
 
 -- ---- every structure and class once, in file order
 
@@ -56,7 +58,7 @@ module _ (settings : Settings) (s rows attrs : List ℕ) (n : ℕ) (sizeOf : «T
 
 module _ {settings : Settings} {vendors sizes s rows attrs : List ℕ} {counts : Counts} {told : Check} (is : Tells settings vendors sizes s rows attrs counts told)
     (p : told ≡ check.Passed) where
-  abbrev there : List ℕ → ℕ → Outcome
+  abbrev there : List ℕ → ℕ → Outcome LayoutRead ℕ
   there room i = intoRoom room (rowLay settings s rows attrs (counts .rows) (innerSize settings sizes s rows attrs counts) i) (layoutAt settings s rows attrs (counts .rows) (innerSize settings sizes s rows attrs counts) i)
 
   own-row : (i : ℕ) → i < counts .rows → keyed.Row i ≡ inRow settings vendors sizes s rows attrs counts (rowAt rows i .key) keyed.Refused keyed.Row

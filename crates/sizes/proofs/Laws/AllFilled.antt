@@ -11,6 +11,7 @@ use lib.ListN.{length, getD, take, drop, take-append-drop, List·getD-append}
 use lib.Seq.{sets, sets-eq, take-at, drop-at, getD-append-add}
 use lib.Dec.{leb, ltb}
 use borrow.Author.Tests.{leb-true}
+use Rattle.lent.specs.Outcome.{Outcomes, outcomes, BothGiven}
 use Rattle.format.specs.Limits.{sectionLimit}
 use Rattle.format.specs.Settings.{settingsHold}
 use Rattle.format.specs.declared.settings.Settings.{Settings}
@@ -21,7 +22,7 @@ use Rattle.tables.specs.declared.row.Counts.{Counts}
 use Rattle.sizes.specs.Size.{innerSize}
 use Rattle.sizes.specs.Layout.{laidWords, laidWidth}
 use Rattle.sizes.proofs.Laws.Layout.{words-long}
-use Rattle.sizes.specs.All.{Structure, structuresFrom, answerWords, structureWidth, structureWords, memberWords, memberCount, countsOf, Outcome, outcome, intoRooms, allOf, AllGiven}
+use Rattle.sizes.specs.All.{Structure, structuresFrom, answerWords, structureWidth, structureWords, memberWords, memberCount, countsOf, intoRooms, allOf}
 use Rattle.sizes.proofs.Laws.All.{structure-append, structure-long, answer-long, member-append, member-long, rooms-filled}
 use Rattle.sizes.specs.declared.all.LayoutCounts.{LayoutCounts}
 use Rattle.sizes.specs.declared.all.AllLayouts.{AllLayouts}
@@ -71,11 +72,11 @@ areThese many (all.Refused why) = ⊥
 areThese many (all.Room c) = ⊥
 
 module _ (structures room : List ℕ) where
-  abbrev kept : Refusal → Outcome
-  kept why = outcome (all.Refused why) structures room
+  abbrev kept : Refusal → Outcomes AllLayouts ℕ ℕ
+  kept why = outcomes (all.Refused why) structures room
 
   -- the tests passed
-  tests-are : (a b c : Bool) (o : Outcome) {many : LayoutCounts} → afterTests a b c kept o .answer ≡ all.Are many → afterTests a b c kept o ≡ o
+  tests-are : (a b c : Bool) (o : Outcomes AllLayouts ℕ ℕ) {many : LayoutCounts} → afterTests a b c kept o .answer ≡ all.Are many → afterTests a b c kept o ≡ o
   unfolding afterTests
   tests-are true true true o p = refl
   tests-are true true false o {many} p = absurd (subst (areThese many) (sym p) refl)
@@ -90,7 +91,7 @@ module _ (structures room : List ℕ) where
 
   fit-by : (xs : List Structure) {many : LayoutCounts} (b c : Bool) (x y : List ℕ) → leb (length xs) (length structures / structureWidth) ≡ b
       → leb (memberCount xs) (length room / laidWidth) ≡ c
-      → cond (b && c) (outcome (all.Are (countsOf xs)) x y) (outcome (all.Room (countsOf xs)) structures room) .answer ≡ all.Are many → BothFit xs many
+      → cond (b && c) (outcomes (all.Are (countsOf xs)) x y) (outcomes (all.Room (countsOf xs)) structures room) .answer ≡ all.Are many → BothFit xs many
   fit-by xs {many} true true x y h k p =
       record {
         counts-are = sym (subst (areThese many) (sym p) refl);
@@ -124,7 +125,7 @@ rooms-are : (structures room : List ℕ) (xs : List Structure) {many : LayoutCou
     → structures′ ≡ intoRooms structures room xs .structures → room′ ≡ intoRooms structures room xs .members → AllFilled xs many structures structures′ room room′
 unfolding countsOf
 rooms-are structures room xs {many} {structures′} {room′} w p q =
-    let g : AllGiven (intoRooms structures room xs) (all.Are (countsOf xs)) (sets structures 0 (structureWords 0 xs)) (sets room 0 (memberWords xs)) =
+    let g : BothGiven (intoRooms structures room xs) (all.Are (countsOf xs)) (sets structures 0 (structureWords 0 xs)) (sets room 0 (memberWords xs)) =
     rooms-filled xs refl structures room (w .structures-fit) (w .members-fit) (record { structures-are = refl; members-are = refl }) in
     let structures-there : structures′ ≡ sets structures 0 (structureWords 0 xs) = p ∙ sym (g .structures-are) in
     let members-there : room′ ≡ sets room 0 (memberWords xs) = q ∙ sym (g .members-are) in
@@ -143,7 +144,7 @@ rooms-are structures room xs {many} {structures′} {room′} w p q =
 -- ---- the theorem
 
 module _ (settings : Settings) (vendors sizes s rows attrs : List ℕ) (counts : Counts) (structures room : List ℕ) {r : AllLayouts} {structures′ room′ : List ℕ}
-    {many : LayoutCounts} (g : AllGiven (allOf settings vendors sizes s rows attrs counts structures room) r structures′ room′) (p : r ≡ all.Are many) where
+    {many : LayoutCounts} (g : BothGiven (allOf settings vendors sizes s rows attrs counts structures room) r structures′ room′) (p : r ≡ all.Are many) where
   passed : allOf settings vendors sizes s rows attrs counts structures room ≡ intoRooms structures room (structuresFrom settings s rows attrs (counts .rows) (innerSize settings sizes s rows attrs counts) 0 (counts .rows))
   unfolding allOf tested
   passed =
@@ -152,5 +153,5 @@ module _ (settings : Settings) (vendors sizes s rows attrs : List ℕ) (counts :
 
   pub all-filled : AllFilled (structuresFrom settings s rows attrs (counts .rows) (innerSize settings sizes s rows attrs counts) 0 (counts .rows)) many structures structures′ room room′
   all-filled =
-      rooms-are structures room (structuresFrom settings s rows attrs (counts .rows) (innerSize settings sizes s rows attrs counts) 0 (counts .rows)) (both-fit structures room (structuresFrom settings s rows attrs (counts .rows) (innerSize settings sizes s rows attrs counts) 0 (counts .rows)) (ap (λ (o : Outcome). o .answer) (sym passed) ∙ sym (g .answer-is) ∙ p))
-      (g .structures-are ∙ ap (λ (o : Outcome). o .structures) passed) (g .members-are ∙ ap (λ (o : Outcome). o .members) passed)
+      rooms-are structures room (structuresFrom settings s rows attrs (counts .rows) (innerSize settings sizes s rows attrs counts) 0 (counts .rows)) (both-fit structures room (structuresFrom settings s rows attrs (counts .rows) (innerSize settings sizes s rows attrs counts) 0 (counts .rows)) (ap (λ (o : Outcomes AllLayouts ℕ ℕ). o .answer) (sym passed) ∙ sym (g .answer-is) ∙ p))
+      (g .first-is ∙ ap (λ (o : Outcomes AllLayouts ℕ ℕ). o .first) passed) (g .second-is ∙ ap (λ (o : Outcomes AllLayouts ℕ ℕ). o .second) passed)

@@ -9,6 +9,7 @@ use lib.ListN.{length, set, length-append}
 use lib.Seq.{sets, length-sets}
 use lib.Dec.{eqb, leb}
 use borrow.Author.Tests.{eq-eqb, ne-eqb, le-leb, lt-leb}
+use Rattle.lent.specs.Outcome.{Outcome, Given, outcome}
 use Rattle.numbers.proofs.Laws.Tests.{cond-all}
 use Rattle.numbers.specs.declared.Endian.{Endian}
 use Rattle.format.specs.Limits.{entryLimit, sectionLimit, depthLimit}
@@ -57,7 +58,7 @@ use Rattle.sizes.specs.Size.{shapeOf, childThen, membersFrom, membersOf,
 use Rattle.sizes.specs.Inside.Prepare.{structureFault}
 use Rattle.sizes.specs.Inside.Size.{EndsShort, withSize, readAdded, grown, memberAdded, entryFrom, typeFrom}
 use Rattle.sizes.specs.Inside.Kept.{AllKept, LayoutAsked}
-use Rattle.sizes.specs.Layout.{Laid, Lay, laid, unlaid, laidMember, andLaid, layThen, endOr, laidFrom, isStructure, isBounded, sizeOrLargest, ownSize, membersLaid, shapeLaid, rowLay, layoutBy, layoutAt, laidWords, laidWidth, Outcome, layInto, intoRoom, layoutOf, LayoutGiven}
+use Rattle.sizes.specs.Layout.{Laid, Lay, laid, unlaid, laidMember, andLaid, layThen, endOr, laidFrom, isStructure, isBounded, sizeOrLargest, ownSize, membersLaid, shapeLaid, rowLay, layoutBy, layoutAt, laidWords, laidWidth, layInto, intoRoom, layoutOf}
 use Rattle.sizes.specs.Inside.Layout.{laidAt, sizedLaid, addedLaid, LayAsked, layBefore, layOn, readLaid, childLaid, childrenLaid, faultLaid, structureLaid, layingOf, Lays, WholeLaid}
 use Rattle.sizes.proofs.Laws.Walking.{Walking, walking-begins, walking-ends, walking-stops, walking-asked, walking-less, walking-on}
 use Rattle.sizes.proofs.Laws.Prepare.{AllRead, fault-members, refused-members}
@@ -634,11 +635,8 @@ module _ (settings : Settings) (s rows attrs : List ℕ) (n i : ℕ) where
 
 -- ---- into lent room
 
-abbrev outcome : LayoutRead → List ℕ → Outcome
-outcome answer room = record { answer = answer; room = room }
-
-given-as : {o : Outcome} {r : LayoutRead} {room : List ℕ} → outcome r room ≡ o → LayoutGiven o r room
-given-as p = record { answer-is = ap (λ (x : Outcome). x .answer) p; room-is = ap (λ (x : Outcome). x .room) p }
+given-as : {o : Outcome LayoutRead ℕ} {r : LayoutRead} {room : List ℕ} → outcome r room ≡ o → Given o r room
+given-as p = record { answer-is = ap (λ (x : Outcome LayoutRead ℕ). x .answer) p; room-is = ap (λ (x : Outcome LayoutRead ℕ). x .room) p }
 
 abbrev pub isNone : LayoutWhole → Type 0
 isNone (whole.Is x) = ⊥
@@ -658,7 +656,7 @@ module _ (settings : Settings) (s rows attrs : List ℕ) (n : ℕ) (sizeOf : «T
 
   module _ (room : List ℕ) {told : LayoutWhole} (is : told ≡ layoutAt settings s rows attrs n sizeOf i) where
     abbrev given : LayoutRead → List ℕ → Type 0
-    given r room′ = LayoutGiven (intoRoom room (rowLay settings s rows attrs n sizeOf i) (layoutAt settings s rows attrs n sizeOf i)) r room′
+    given r room′ = Given (intoRoom room (rowLay settings s rows attrs n sizeOf i) (layoutAt settings s rows attrs n sizeOf i)) r room′
 
     module _ {x : Layout} (p : told ≡ whole.Is x) where
       into-is : cond (leb (x .members) (length room / laidWidth)) (layInto room (rowLay settings s rows attrs n sizeOf i) (layout.Is x)) (outcome (layout.Room (x .members)) room)
@@ -689,22 +687,22 @@ module _ (settings : Settings) (s rows attrs : List ℕ) (n : ℕ) (sizeOf : «T
 
 module _ (settings : Settings) (vendors sizes s rows attrs : List ℕ) (counts : Counts) (key : ℕ) (room : List ℕ) {told : Keyed}
     (is : told ≡ inRow settings vendors sizes s rows attrs counts key keyed.Refused keyed.Row) where
-  abbrev kept : Refusal → Outcome
+  abbrev kept : Refusal → Outcome LayoutRead ℕ
   kept why = outcome (layout.Refused why) room
 
-  abbrev there : ℕ → Outcome
+  abbrev there : ℕ → Outcome LayoutRead ℕ
   there i =
       intoRoom room (rowLay settings s rows attrs (counts .rows) (typeSize settings sizes s rows attrs (counts .rows) (depthLimit - 1)) i)
       (layoutAt settings s rows attrs (counts .rows) (typeSize settings sizes s rows attrs (counts .rows) (depthLimit - 1)) i)
 
   pub layout-there : {i : ℕ} {r : LayoutRead} {room′ : List ℕ} → told ≡ keyed.Row i
-      → LayoutGiven (intoRoom room (rowLay settings s rows attrs (counts .rows) (typeFrom settings sizes s rows attrs (counts .rows) [] (depthLimit - 1)) i)
+      → Given (intoRoom room (rowLay settings s rows attrs (counts .rows) (typeFrom settings sizes s rows attrs (counts .rows) [] (depthLimit - 1)) i)
       (layoutAt settings s rows attrs (counts .rows) (typeFrom settings sizes s rows attrs (counts .rows) [] (depthLimit - 1)) i)) r room′
-      → LayoutGiven (layoutOf settings vendors sizes s rows attrs counts key room) r room′
+      → Given (layoutOf settings vendors sizes s rows attrs counts key room) r room′
   unfolding layoutOf typeFrom typeSize entryFrom
   layout-there {r = r} {room′ = room′} p g =
-      subst (λ (o : Outcome). LayoutGiven o r room′) (in-row settings vendors sizes s rows attrs counts key is kept there p) g
+      subst (λ (o : Outcome LayoutRead ℕ). Given o r room′) (in-row settings vendors sizes s rows attrs counts key is kept there p) g
 
-  pub layout-unlaid : {why : Refusal} → told ≡ keyed.Refused why → LayoutGiven (layoutOf settings vendors sizes s rows attrs counts key room) (layout.Refused why) room
+  pub layout-unlaid : {why : Refusal} → told ≡ keyed.Refused why → Given (layoutOf settings vendors sizes s rows attrs counts key room) (layout.Refused why) room
   unfolding layoutOf
   layout-unlaid p = given-as (no-row settings vendors sizes s rows attrs counts key is kept there p)

@@ -9,6 +9,7 @@ use lib.ListN.{length, getD}
 use lib.Seq.{getD-take}
 use lib.Dec.{leb}
 use borrow.Author.Tests.{leb-true, leb-false}
+use Rattle.lent.specs.Outcome.{Given}
 use Rattle.numbers.proofs.Laws.Tests.{cond-all}
 use Rattle.format.specs.declared.settings.Settings.{Settings}
 use Rattle.format.specs.declared.refusal.Reason.the-variants as reason
@@ -20,7 +21,7 @@ use Rattle.records.specs.Unions.{Placed, Members, members, refused}
 use Rattle.records.specs.declared.fields.Word.{Word}
 use Rattle.records.specs.declared.fields.Word.the-variants as word
 use Rattle.sizes.specs.Size.{innerSize, sizeLimit, membersOf, memberSize, larger, endThen, shapeOf}
-use Rattle.sizes.specs.Layout.{Laid, Lay, laid, unlaid, laidMember, andLaid, layThen, endOr, laidFrom, isStructure, isBounded, sizeOrLargest, ownSize, membersLaid, shapeLaid, rowLay, layoutAt, laidWords, laidWidth, layoutOf, LayoutGiven}
+use Rattle.sizes.specs.Layout.{Laid, Lay, laid, unlaid, laidMember, andLaid, layThen, endOr, laidFrom, isStructure, isBounded, sizeOrLargest, ownSize, membersLaid, shapeLaid, rowLay, layoutAt, laidWords, laidWidth, layoutOf}
 use Rattle.sizes.specs.LayoutFilled.{Filled}
 use Rattle.sizes.proofs.Laws.LayoutFilled.{LaidAs, laid-as, layout-filled}
 use Rattle.sizes.specs.declared.prepare.Shape.{Shape}
@@ -134,7 +135,7 @@ words-inside size (x ∷ xs) h (suc k) l =
     rw (at, next) (words-inside size xs (h .1) k less)
 
 module _ (settings : Settings) (vendors sizes s rows attrs : List ℕ) (counts : Counts) (key : ℕ) (room : List ℕ) {r : LayoutRead} {room′ : List ℕ} {x : Layout}
-    (g : LayoutGiven (layoutOf settings vendors sizes s rows attrs counts key room) r room′) (p : r ≡ layout.Is x) where
+    (g : Given (layoutOf settings vendors sizes s rows attrs counts key room) r room′) (p : r ≡ layout.Is x) where
   -- member k of the room: offset and size come to the layout's size at most
   pub given-inside : isBounded (ownSize settings s rows attrs (counts .rows) (innerSize settings sizes s rows attrs counts) (x .row)) ≡ false
       → (k : ℕ) → k < x .members → getD room′ (k * laidWidth) 0 + getD room′ (k * laidWidth + 1) 0 ≤ x .size

@@ -9,6 +9,7 @@ use lib.ListN.{length, take, drop}
 use lib.Seq.{sets-eq, take-at, drop-at}
 use lib.Dec.{leb}
 use borrow.Author.Tests.{leb-true, le-leb}
+use Rattle.lent.specs.Outcome.{Outcome, Given, outcome}
 use Rattle.format.specs.declared.settings.Settings.{Settings}
 use Rattle.blocks.specs.declared.types.Type.{«Type»}
 use Rattle.tables.specs.Row.{rowAt}
@@ -18,7 +19,7 @@ use Rattle.links.proofs.Laws.Typed.{in-row, no-row, keyed-asked, keyed-key}
 use Rattle.links.specs.declared.typed.Keyed.{Keyed}
 use Rattle.links.specs.declared.typed.Keyed.the-variants as keyed
 use Rattle.sizes.specs.Size.{innerSize}
-use Rattle.sizes.specs.Layout.{Laid, Lay, laid, unlaid, sizeOrLargest, ownSize, rowLay, layoutBy, layoutAt, laidWords, laidWidth, Outcome, layInto, intoRoom, layoutOf, LayoutGiven}
+use Rattle.sizes.specs.Layout.{Laid, Lay, laid, unlaid, sizeOrLargest, ownSize, rowLay, layoutBy, layoutAt, laidWords, laidWidth, layInto, intoRoom, layoutOf}
 use Rattle.sizes.proofs.Laws.Layout.{words-long}
 use Rattle.sizes.specs.declared.sized.Sized.{Sized}
 use Rattle.sizes.specs.declared.layout.Layout.{Layout}
@@ -69,9 +70,6 @@ isLayout x (layout.Is y) = y ≡ x
 isLayout x (layout.Refused why) = ⊥
 isLayout x (layout.Room k) = ⊥
 
-abbrev outcome : LayoutRead → List ℕ → Outcome
-outcome answer room = record { answer = answer; room = room }
-
 pub into-answer : (room : List ℕ) (lay : Lay) (answer : LayoutRead) → layInto room lay answer .answer ≡ answer
 unfolding layInto
 into-answer room (laid xs l) answer = refl
@@ -119,7 +117,7 @@ module _ (room : List ℕ) {lay : Lay} {w : LayoutWhole} {x : Layout} (f : Fits 
 -- ---- the theorem
 
 module _ (settings : Settings) (vendors sizes s rows attrs : List ℕ) (counts : Counts) (key : ℕ) (room : List ℕ) {r : LayoutRead} {room′ : List ℕ} {x : Layout}
-    (g : LayoutGiven (layoutOf settings vendors sizes s rows attrs counts key room) r room′) (p : r ≡ layout.Is x) where
+    (g : Given (layoutOf settings vendors sizes s rows attrs counts key room) r room′) (p : r ≡ layout.Is x) where
   abbrev lay : ℕ → Lay
   lay i = rowLay settings s rows attrs (counts .rows) (innerSize settings sizes s rows attrs counts) i
 
@@ -129,7 +127,7 @@ module _ (settings : Settings) (vendors sizes s rows attrs : List ℕ) (counts :
   abbrev end : ℕ
   end = x .members * laidWidth
 
-  abbrev pub there : ℕ → Outcome
+  abbrev pub there : ℕ → Outcome LayoutRead ℕ
   there i = intoRoom room (lay i) (one i)
 
   row-filled : (i : ℕ) → keyed.Row i ≡ inRow settings vendors sizes s rows attrs counts key keyed.Refused keyed.Row → Fits room (lay i) (one i) x
@@ -154,12 +152,12 @@ module _ (settings : Settings) (vendors sizes s rows attrs : List ℕ) (counts :
   by-key (keyed.Row i) is =
       let same : there i ≡ layoutOf settings vendors sizes s rows attrs counts key room =
       in-row settings vendors sizes s rows attrs counts key is (λ why. outcome (layout.Refused why) room) there refl in
-      let f : Fits room (lay i) (one i) x = fits room (lay i) (one i) (ap (λ (o : Outcome). o .answer) same ∙ sym (g .answer-is) ∙ p) in
-      row-filled i is f (laid-as settings s rows attrs (counts .rows) (innerSize settings sizes s rows attrs counts) i (f .read)) (g .room-is ∙ sym (ap (λ (o : Outcome). o .room) same))
+      let f : Fits room (lay i) (one i) x = fits room (lay i) (one i) (ap (λ (o : Outcome LayoutRead ℕ). o .answer) same ∙ sym (g .answer-is) ∙ p) in
+      row-filled i is f (laid-as settings s rows attrs (counts .rows) (innerSize settings sizes s rows attrs counts) i (f .read)) (g .room-is ∙ sym (ap (λ (o : Outcome LayoutRead ℕ). o .room) same))
   by-key (keyed.Refused why) is =
       let same : outcome (layout.Refused why) room ≡ layoutOf settings vendors sizes s rows attrs counts key room =
       no-row settings vendors sizes s rows attrs counts key is (λ w. outcome (layout.Refused w) room) there refl in
-      absurd (subst (isLayout x) (sym p ∙ g .answer-is ∙ sym (ap (λ (o : Outcome). o .answer) same)) refl)
+      absurd (subst (isLayout x) (sym p ∙ g .answer-is ∙ sym (ap (λ (o : Outcome LayoutRead ℕ). o .answer) same)) refl)
 
   pub layout-filled : Filled settings s rows attrs (counts .rows) (innerSize settings sizes s rows attrs counts) key x room room′
   layout-filled = by-key (inRow settings vendors sizes s rows attrs counts key keyed.Refused keyed.Row) refl

@@ -6,6 +6,7 @@ use mathlib.Core.Bool.{Bool, true, false, cond, true≢false}
 use mathlib.Core.List.{List, [], _∷_}
 use lib.ListN.{length}
 use lib.Dec.{leb, ltb}
+use Rattle.lent.specs.Outcome.{Outcome}
 use Rattle.format.specs.Limits.{sectionLimit, depthLimit}
 use Rattle.format.specs.Settings.{settingsHold}
 use Rattle.format.specs.declared.settings.Settings.{Settings}
@@ -25,7 +26,7 @@ use Rattle.records.specs.declared.fields.Word.{Word}
 use Rattle.records.specs.declared.fields.Word.the-variants as word
 use Rattle.sizes.specs.Size.{innerSize, sizeLimit, sizeThen, membersOf, memberSize, larger, endThen, endsFrom, sizeOrEnds, membersSize, shapeOf, shapeSize, rowSize, foundSize, entrySize, sizeOfKey}
 use Rattle.sizes.proofs.Laws.Size.{entry-more}
-use Rattle.sizes.specs.Layout.{Laid, Lay, laid, unlaid, laidMember, andLaid, layThen, endOr, laidFrom, isStructure, isBounded, sizeOrLargest, ownSize, membersLaid, shapeLaid, rowLay, layoutBy, layoutAt, laidWidth, Outcome, layInto, intoRoom, layoutOf}
+use Rattle.sizes.specs.Layout.{Laid, Lay, laid, unlaid, laidMember, andLaid, layThen, endOr, laidFrom, isStructure, isBounded, sizeOrLargest, ownSize, membersLaid, shapeLaid, rowLay, layoutBy, layoutAt, laidWidth, layInto, intoRoom, layoutOf}
 use Rattle.sizes.proofs.Laws.Layout.{isNowhere}
 use Rattle.sizes.proofs.Laws.LayoutFilled.{LaidAs, laid-as, into-answer, fits}
 use Rattle.sizes.specs.declared.prepare.Shape.{Shape}
@@ -201,11 +202,11 @@ module _ (settings : Settings) (s rows attrs : List ℕ) (n : ℕ) (sizeOf : «T
 -- ---- a key
 
 module _ (room : List ℕ) where
-  abbrev kept : Refusal → Outcome
+  abbrev kept : Refusal → Outcome LayoutRead ℕ
   kept why = record { answer = layout.Refused why; room = room }
 
   -- what holds after the tests
-  tests-size : (a b c : Bool) (o : Outcome) (z : Sized) {x : Layout} → (o .answer ≡ layout.Is x → z ≡ Is (x .size))
+  tests-size : (a b c : Bool) (o : Outcome LayoutRead ℕ) (z : Sized) {x : Layout} → (o .answer ≡ layout.Is x → z ≡ Is (x .size))
       → afterTests a b c kept o .answer ≡ layout.Is x → afterTests a b c Refused z ≡ Is (x .size)
   unfolding afterTests
   tests-size true true true o z h p = h p
@@ -213,7 +214,7 @@ module _ (room : List ℕ) where
   tests-size true false c o z h p = absurd (subst isGiven (sym p) tt)
   tests-size false b c o z h p = absurd (subst isGiven (sym p) tt)
 
-  tests-layout-refused : (a b c : Bool) (o : Outcome) (z : Sized) {why : Refusal} → (o .answer ≡ layout.Refused why → z ≡ Refused why)
+  tests-layout-refused : (a b c : Bool) (o : Outcome LayoutRead ℕ) (z : Sized) {why : Refusal} → (o .answer ≡ layout.Refused why → z ≡ Refused why)
       → afterTests a b c kept o .answer ≡ layout.Refused why → afterTests a b c Refused z ≡ Refused why
   unfolding afterTests
   tests-layout-refused true true true o z h p = h p
@@ -221,7 +222,7 @@ module _ (room : List ℕ) where
   tests-layout-refused true false c o z {why} h p = ap Refused (subst (isKept why) (sym p) refl)
   tests-layout-refused false b c o z {why} h p = ap Refused (subst (isKept why) (sym p) refl)
 
-  tests-size-refused : (a b c : Bool) (o : Outcome) (z : Sized) {why : Refusal} → (z ≡ Refused why → o .answer ≡ layout.Refused why)
+  tests-size-refused : (a b c : Bool) (o : Outcome LayoutRead ℕ) (z : Sized) {why : Refusal} → (z ≡ Refused why → o .answer ≡ layout.Refused why)
       → afterTests a b c Refused z ≡ Refused why → afterTests a b c kept o .answer ≡ layout.Refused why
   unfolding afterTests
   tests-size-refused true true true o z h p = h p
@@ -241,14 +242,14 @@ module _ (room : List ℕ) where
   whole-kept lay (whole.Refused w) {why} p = ap whole.Refused (subst (isKept why) (sym p) refl)
 
 module _ (settings : Settings) (vendors sizes s rows attrs : List ℕ) (counts : Counts) (key : ℕ) (room : List ℕ) where
-  abbrev there : ℕ → Outcome
+  abbrev there : ℕ → Outcome LayoutRead ℕ
   there i =
       intoRoom room (rowLay settings s rows attrs (counts .rows) (innerSize settings sizes s rows attrs counts) i) (layoutAt settings s rows attrs (counts .rows) (innerSize settings sizes s rows attrs counts) i)
 
   abbrev sizeThere : Found → Sized
   sizeThere f = foundSize (rowSize settings s rows attrs (counts .rows) (innerSize settings sizes s rows attrs counts)) key f
 
-  abbrev layoutThere : Found → Outcome
+  abbrev layoutThere : Found → Outcome LayoutRead ℕ
   layoutThere f = rowBy key (kept room) there f
 
   -- the entry that is asked for is one level above its members' types

@@ -8,6 +8,7 @@ use mathlib.Core.List.{List, [], _∷_, _++_}
 use lib.ListN.{length, getD, drop}
 use lib.Seq.{sets, sets-eq}
 use borrow.Author.Tests.{le-leb, lt-ltb}
+use Rattle.lent.specs.Outcome.{Outcome, outcome, Given, Outcomes, BothGiven, outcomes}
 use Rattle.numbers.specs.Value.{valueOf, there, readAt}
 use Rattle.numbers.specs.declared.Endian.the-variants.{Big}
 use Rattle.format.specs.Lookup.{member, indexOf, lookup}
@@ -37,7 +38,7 @@ use Rattle.entries.specs.Run.{attr, first, runEnds, readOn, runFrom}
 use Rattle.entries.specs.Entry.{littleFlag, flagOf, flagsOf, kindOf, ordinary, attributes, entryFrom, entryAt}
 use Rattle.entries.specs.Walk.{walked, join, andThen, onward, walkFrom, walkAt}
 use Rattle.tables.specs.Test.{fitting}
-use Rattle.entries.specs.Section.{Outcome, counts, stored, wholeWalk, readSection, SectionRead}
+use Rattle.entries.specs.Section.{counts, stored, wholeWalk, readSection}
 use Rattle.entries.proofs.Laws.Section.{attrs-decide}
 use Rattle.entries.specs.declared.section.Section.{Section}
 use Rattle.entries.specs.declared.section.Section.the-variants.{Read, Refused, Room}
@@ -45,7 +46,7 @@ use Rattle.links.specs.Attribute.{wants, attrFrom, attributeOf, asReference, re
 use Rattle.tree.specs.Pick.{countBelow, nearestBelow, firstFrom}
 use Rattle.tree.specs.Reach.{reachBy, reachEnd}
 use Rattle.tree.specs.Nest.{lies, depth, parent, crosses, faulty, deep, firstFault, firstDeep}
-use Rattle.tree.specs.Tree.{placeWidth, placesFrom, firstErased, Outcome as TreeOutcome, outcome, listed, treeOf, Given}
+use Rattle.tree.specs.Tree.{placeWidth, placesFrom, firstErased, listed, treeOf}
 use Rattle.tree.proofs.Laws.TreeTheorem.{tree-listed}
 use Rattle.tree.specs.declared.listing.Listing.{Listing}
 use Rattle.tree.specs.declared.listing.Listing.the-variants as listing
@@ -57,9 +58,9 @@ unfolding sizes fundTypes vendorsHold roleHolds roleForm rolesDiffer rolesHold s
 settings-hold = refl
 
 -- what a walk gives is stored in tables that are long enough
-abbrev storing : List Row → List Attr → List ℕ → List ℕ → Outcome
+abbrev storing : List Row → List Attr → List ℕ → List ℕ → Outcomes Section ℕ ℕ
 storing rs xs rows attrs =
-    record { answer = Read (counts (length rs) (length xs)); rows = sets rows 0 (rowsWords rs); attrs = sets attrs 0 (attrsWords xs) }
+    outcomes (Read (counts (length rs) (length xs))) (sets rows 0 (rowsWords rs)) (sets attrs 0 (attrsWords xs))
 
 walk-stored : (s : List ℕ) (rs : List Row) (xs : List Attr) (place : ℕ) → wholeWalk settings [] s ≡ walked rs xs place → length s < sectionLimit
     → length rs ≤ entryLimit → length xs ≤ attributeLimit → (rows attrs : List ℕ) → length rs * rowWidth ≤ length rows → length xs * attrWidth ≤ length attrs
@@ -108,27 +109,27 @@ module _ (rows attrs : List ℕ) (enough : 5 ≤ length rows) where
   null-stored : reading nullSection rows attrs ≡ storing (nullRow ∷ []) [] rows attrs
   null-stored = walk-stored nullSection (nullRow ∷ []) [] 4 (walks .0) (omega arith) (omega arith) (omega arith) rows attrs enough (omega arith)
 
-  null-answer : {r : Section} {rows′ attrs′ : List ℕ} → SectionRead (reading nullSection rows attrs) r rows′ attrs′ → r ≡ Read (counts 1 0)
-  null-answer p = p .answer-is ∙ ap (λ (o : Outcome). o .answer) null-stored
+  null-answer : {r : Section} {rows′ attrs′ : List ℕ} → BothGiven (reading nullSection rows attrs) r rows′ attrs′ → r ≡ Read (counts 1 0)
+  null-answer p = p .answer-is ∙ ap (λ (o : Outcomes Section ℕ ℕ). o .answer) null-stored
 
   -- a reader that refuses all
-  pub refuses-all : (why : Refusal) {rows′ attrs′ : List ℕ} → SectionRead (reading nullSection rows attrs) (Refused why) rows′ attrs′ → ⊥
+  pub refuses-all : (why : Refusal) {rows′ attrs′ : List ℕ} → BothGiven (reading nullSection rows attrs) (Refused why) rows′ attrs′ → ⊥
   refuses-all why p = subst isRead (sym (null-answer p)) tt
 
   -- or that finds no room enough
-  pub refuses-room : (needed : Counts) {rows′ attrs′ : List ℕ} → SectionRead (reading nullSection rows attrs) (Room needed) rows′ attrs′ → ⊥
+  pub refuses-room : (needed : Counts) {rows′ attrs′ : List ℕ} → BothGiven (reading nullSection rows attrs) (Room needed) rows′ attrs′ → ⊥
   refuses-room needed p = subst isRead (sym (null-answer p)) tt
 
   -- one that answers no rows for everything
-  pub no-rows : (n : ℕ) {rows′ attrs′ : List ℕ} → SectionRead (reading nullSection rows attrs) (Read (counts 0 n)) rows′ attrs′ → ⊥
+  pub no-rows : (n : ℕ) {rows′ attrs′ : List ℕ} → BothGiven (reading nullSection rows attrs) (Read (counts 0 n)) rows′ attrs′ → ⊥
   no-rows n p = let none : _≡_ {A = ℕ} 0 1 = ap (λ (r : Section). countsOf r .rows) (null-answer p) in absurd (omega arith)
 
   -- one that writes nothing, where the row does not stand in the table already
-  pub writes-nothing : (rowAt rows 0 ≡ nullRow → ⊥) → {r : Section} {attrs′ : List ℕ} → SectionRead (reading nullSection rows attrs) r rows attrs′ → ⊥
+  pub writes-nothing : (rowAt rows 0 ≡ nullRow → ⊥) → {r : Section} {attrs′ : List ℕ} → BothGiven (reading nullSection rows attrs) r rows attrs′ → ⊥
   unfolding rowsFrom
   writes-nothing other p =
       let held : rowsFrom rows 0 1 ≡ nullRow ∷ [] =
-      ap (λ (t : List ℕ). rowsFrom t 0 1) (p .rows-are ∙ ap (λ (o : Outcome). o .rows) null-stored) ∙ rows-back rows (nullRow ∷ []) enough
+      ap (λ (t : List ℕ). rowsFrom t 0 1) (p .first-is ∙ ap (λ (o : Outcomes Section ℕ ℕ). o .first) null-stored) ∙ rows-back rows (nullRow ∷ []) enough
       in
       other cc
 
@@ -136,12 +137,12 @@ module _ (rows attrs : List ℕ) (enough : 5 ≤ length rows) where
 
 -- one that reads the first entry and pads the rest
 pub first-and-padding : (rows attrs : List ℕ) → 10 ≤ length rows → 4 ≤ length attrs → {r : Section} {rows′ attrs′ : List ℕ} → rowAt rows′ 1 .kind ≡ tag.Padding
-    → SectionRead (reading twoSection rows attrs) r rows′ attrs′ → ⊥
+    → BothGiven (reading twoSection rows attrs) r rows′ attrs′ → ⊥
 unfolding rowsFrom
 first-and-padding rows attrs h k {r} {rows′} padded p =
     let whole = walk-stored twoSection twoRows twoAttrs 18 (walks .1) (omega arith) (omega arith) (omega arith) rows attrs h k in
     let held : rowsFrom rows′ 0 2 ≡ twoRows =
-    ap (λ (t : List ℕ). rowsFrom t 0 2) (p .rows-are ∙ ap (λ (o : Outcome). o .rows) whole) ∙ rows-back rows twoRows h
+    ap (λ (t : List ℕ). rowsFrom t 0 2) (p .first-is ∙ ap (λ (o : Outcomes Section ℕ ℕ). o .first) whole) ∙ rows-back rows twoRows h
     in
     let second : rowAt rows′ 1 ≡ rowOf 9 tag.Subroutine 1 1 = cc in
     let kind : rowAt rows′ 1 .kind ≡ tag.Subroutine = ap (λ (r : Row). r .kind) second in
@@ -151,13 +152,13 @@ first-and-padding rows attrs h k {r} {rows′} padded p =
 
 module _ (settings : Settings) (vendors sizes s rows attrs : List ℕ) {c c′ : Counts} {rows₁ rows₁′ attrs₁ attrs₁′ : List ℕ} where
   -- invented row counts: two answers that both meet the contract have the same counts
-  pub invented-counts : SectionRead (readSection settings vendors sizes s rows attrs) (Read c) rows₁ attrs₁
-      → SectionRead (readSection settings vendors sizes s rows attrs) (Read c′) rows₁′ attrs₁′ → c ≡ c′
+  pub invented-counts : BothGiven (readSection settings vendors sizes s rows attrs) (Read c) rows₁ attrs₁
+      → BothGiven (readSection settings vendors sizes s rows attrs) (Read c′) rows₁′ attrs₁′ → c ≡ c′
   invented-counts p q = ap countsOf (p .answer-is ∙ sym (q .answer-is))
 
   -- invented needed counts: so have two that tell what room is needed
-  pub invented-needed : SectionRead (readSection settings vendors sizes s rows attrs) (Room c) rows₁ attrs₁
-      → SectionRead (readSection settings vendors sizes s rows attrs) (Room c′) rows₁′ attrs₁′ → c ≡ c′
+  pub invented-needed : BothGiven (readSection settings vendors sizes s rows attrs) (Room c) rows₁ attrs₁
+      → BothGiven (readSection settings vendors sizes s rows attrs) (Room c′) rows₁′ attrs₁′ → c ≡ c′
   invented-needed p q = ap countsOf (p .answer-is ∙ sym (q .answer-is))
 
 -- ---- the listing of input A
@@ -173,20 +174,20 @@ unfolding valueOf there readAt rowWords attrWords rowsWords attrsWords rowAt att
 A-listed rows attrs room h = ap (λ (b : Bool). cond b (outcome (Listed 3) (sets room 0 placesA)) (outcome (listing.Room 3) room)) (le-leb 6 (length room) h)
 
 module _ (rows₀ attrs₀ : List ℕ) (rows-enough : 15 ≤ length rows₀) (attrs-enough : 8 ≤ length attrs₀) {c : Counts} {rows attrs : List ℕ}
-    (read : SectionRead (reading inputA rows₀ attrs₀) (Read c) rows attrs) where
+    (read : BothGiven (reading inputA rows₀ attrs₀) (Read c) rows attrs) where
   A-stored : reading inputA rows₀ attrs₀ ≡ storing rowsA attrsA rows₀ attrs₀
   A-stored = walk-stored inputA rowsA attrsA 42 (walks .2) (omega arith) (omega arith) (omega arith) rows₀ attrs₀ rows-enough attrs-enough
 
   A-counts : c ≡ counts 3 4
-  A-counts = ap countsOf (read .answer-is ∙ ap (λ (o : Outcome). o .answer) A-stored)
+  A-counts = ap countsOf (read .answer-is ∙ ap (λ (o : Outcomes Section ℕ ℕ). o .answer) A-stored)
 
   A-rows : rows ≡ rowsWords rowsA ++ drop 15 rows₀
   unfolding rowWords rowsWords
-  A-rows = read .rows-are ∙ ap (λ (o : Outcome). o .rows) A-stored ∙ sets-eq (rowsWords rowsA) rows₀ 0 rows-enough
+  A-rows = read .first-is ∙ ap (λ (o : Outcomes Section ℕ ℕ). o .first) A-stored ∙ sets-eq (rowsWords rowsA) rows₀ 0 rows-enough
 
   A-attrs : attrs ≡ attrsWords attrsA ++ drop 8 attrs₀
   unfolding attrWords attrsWords
-  A-attrs = read .attrs-are ∙ ap (λ (o : Outcome). o .attrs) A-stored ∙ sets-eq (attrsWords attrsA) attrs₀ 0 attrs-enough
+  A-attrs = read .second-is ∙ ap (λ (o : Outcomes Section ℕ ℕ). o .second) A-stored ∙ sets-eq (attrsWords attrsA) attrs₀ 0 attrs-enough
 
   -- a listing of file order with depth 0 everywhere
   pub depth-zero : (room : List ℕ) → 6 ≤ length room → {r : Listing} {room′ : List ℕ} → ((j : ℕ) → j < 3 → getD room′ (j * placeWidth) 0 ≡ 0)
@@ -196,7 +197,7 @@ module _ (rows₀ attrs₀ : List ℕ) (rows-enough : 15 ≤ length rows₀) (at
       tree-listed settings [] sizes inputA rows₀ attrs₀ c refl read room ∙ rw (A-counts, A-rows, A-attrs) (A-listed (drop 15 rows₀) (drop 8 attrs₀) room h)
       in
       let inside : getD room′ 2 0 ≡ 1 =
-      ap (λ (t : List ℕ). getD t 2 0) (given .room-is ∙ ap (λ (o : TreeOutcome). o .room) tree) ∙ sets-back room 0 placesA 2 h (omega arith)
+      ap (λ (t : List ℕ). getD t 2 0) (given .room-is ∙ ap (λ (o : Outcome Listing ℕ). o .room) tree) ∙ sets-back room 0 placesA 2 h (omega arith)
       in
       let zero : getD room′ 2 0 ≡ 0 = zeros 1 (omega arith) in
       absurd (omega arith)

@@ -9,6 +9,7 @@ use lib.ListN.{length}
 use lib.Seq.{sets}
 use lib.Dec.{leb, ltb}
 use borrow.Author.Tests.{lt-ltb, le-ltb, le-leb, lt-leb}
+use Rattle.lent.specs.Outcome.{Outcome, outcome, Given}
 use Rattle.format.specs.Limits.{depthLimit}
 use Rattle.format.specs.declared.settings.Settings.{Settings}
 use Rattle.format.specs.declared.refusal.Refusal.{Refusal}
@@ -31,7 +32,7 @@ use Rattle.tree.proofs.Laws.Nested.{Nested}
 use Rattle.tree.specs.Inside.Passing.{faultFrom, openDeep, openWords, OpenListed}
 use Rattle.tree.proofs.Laws.Fault.{first-fault, fault-none}
 use Rattle.tree.proofs.Laws.Open.{open-depth, open-parent}
-use Rattle.tree.specs.Tree.{placeWidth, placesFrom, firstErased, Outcome, outcome, listed, treeOf, Given}
+use Rattle.tree.specs.Tree.{placeWidth, placesFrom, firstErased, listed, treeOf}
 use Rattle.tree.specs.declared.listing.Listing.{Listing}
 use Rattle.tree.specs.declared.listing.Listing.the-variants.{Listed, Refused, Room}
 
@@ -158,9 +159,9 @@ module _ (settings : Settings) (vendors sizes s rows attrs : List ℕ) (counts :
       → Given (listed rows (counts .rows) (λ i. reachEnd (settings .endian) s rows attrs (counts .rows) i) room) r room′
       → Given (treeOf settings vendors sizes s rows attrs counts room) r room′
   unfolding treeOf
-  tree-passed p {r} {room′} g = subst (λ (o : Outcome). Given o r room′) (passed-answer (λ why. outcome (Refused why) room) _ is p) g
+  tree-passed p {r} {room′} g = subst (λ (o : Outcome Listing ℕ). Given o r room′) (passed-answer (λ why. outcome (Refused why) room) _ is p) g
 
   pub tree-refused : {why : Refusal} → told ≡ check.Refused why → Given (treeOf settings vendors sizes s rows attrs counts room) (Refused why) room
   unfolding treeOf
   tree-refused {why} p =
-      subst (λ (o : Outcome). Given o (Refused why) room) (refused-answer (λ w. outcome (Refused w) room) _ is p) (record { answer-is = refl; room-is = refl })
+      subst (λ (o : Outcome Listing ℕ). Given o (Refused why) room) (refused-answer (λ w. outcome (Refused w) room) _ is p) (record { answer-is = refl; room-is = refl })

@@ -12,6 +12,7 @@ use lib.ListN.{length, getD}
 use lib.Seq.{sets}
 use lib.Dec.{leb, ltb}
 use borrow.Author.Tests.{le-ltb, le-leb, leb-true, ltb-false}
+use Rattle.lent.specs.Outcome.{Outcome, outcome, Given, BothGiven}
 use Rattle.numbers.proofs.Laws.Tests.{cond-all}
 use Rattle.format.specs.Limits.{depthLimit, sectionLimit}
 use Rattle.format.specs.Settings.{settingsHold}
@@ -22,7 +23,7 @@ use Rattle.tables.proofs.Laws.Checked.{checked-rising, checked-inside}
 use Rattle.lent.proofs.Laws.Stores.{sets-back}
 use Rattle.tables.specs.Check.{afterTests, tested}
 use Rattle.tables.specs.declared.row.Counts.{Counts}
-use Rattle.entries.specs.Section.{readSection, SectionRead}
+use Rattle.entries.specs.Section.{readSection}
 use Rattle.entries.proofs.Laws.Filled.{filled-holds}
 use Rattle.entries.proofs.Laws.Unerased.{none-erased, answer-tested}
 use Rattle.entries.specs.declared.section.Section.the-variants.{Read}
@@ -39,7 +40,7 @@ use Rattle.tree.proofs.Laws.Nested.{Nested}
 use Rattle.tree.specs.Demand.{Reaching}
 use Rattle.tree.proofs.Laws.Fault.{fault-none}
 use Rattle.tree.proofs.Laws.Reach.{reaching}
-use Rattle.tree.specs.Tree.{placeWidth, placesFrom, firstErased, Outcome, outcome, listed, treeOf, Given}
+use Rattle.tree.specs.Tree.{placeWidth, placesFrom, firstErased, listed, treeOf}
 use Rattle.tree.proofs.Laws.WalkTree.{Plain, children-given}
 use Rattle.tree.specs.Demand.{childrenIn}
 use Rattle.tree.specs.declared.listing.Listing.{Listing}
@@ -55,7 +56,7 @@ isListed (Room n) = ⊥
 
 module _ (rows : List ℕ) (n : ℕ) (reach : ℕ → ℕ) (room : List ℕ) where
   -- all four tests pass
-  abbrev Passes : Outcome → Type 0
+  abbrev Passes : Outcome Listing ℕ → Type 0
   Passes o = o .answer ≡ Listed n
       → (ltb (firstFault n reach) n ≡ false) × (ltb (firstDeep n reach) n ≡ false) × (leb (n * placeWidth) (length room) ≡ true)
       × (o .room ≡ sets room 0 (placesFrom n reach 0 n))
@@ -107,9 +108,9 @@ places-length n reach i (suc k) = let rest : length (placesFrom n reach (suc i) 
 -- ---- the theorem
 
 module _ (settings : Settings) (vendors sizes s rows₀ attrs₀ : List ℕ) (c : Counts) {rows attrs : List ℕ} (off : settings .erased ≡ false)
-    (read : SectionRead (readSection settings vendors sizes s rows₀ attrs₀) (Read c) rows attrs) where
+    (read : BothGiven (readSection settings vendors sizes s rows₀ attrs₀) (Read c) rows attrs) where
   table-holds : tableHolds s vendors rows attrs c ≡ true
-  table-holds = rw (read .rows-are, read .attrs-are) (filled-holds settings vendors sizes s rows₀ attrs₀ c (sym (read .answer-is)))
+  table-holds = rw (read .first-is, read .second-is) (filled-holds settings vendors sizes s rows₀ attrs₀ c (sym (read .answer-is)))
 
   checked : Checked s vendors rows attrs c
   checked = record { holds = table-holds }
@@ -118,7 +119,7 @@ module _ (settings : Settings) (vendors sizes s rows₀ attrs₀ : List ℕ) (c 
   tests-pass = answer-tested settings vendors sizes s rows₀ attrs₀ c (sym (read .answer-is))
 
   unerased : (j : ℕ) → j < c .rows → erasedRow (rowAt rows j .flags) ≡ false
-  unerased = rw (read .rows-are) (none-erased settings vendors sizes s rows₀ attrs₀ c off (sym (read .answer-is)))
+  unerased = rw (read .first-is) (none-erased settings vendors sizes s rows₀ attrs₀ c off (sym (read .answer-is)))
 
   plain : Plain s rows (c .rows)
   plain = record { rising = checked-rising checked; inside = λ j h. checked-inside checked j h; unerased = unerased }
@@ -138,7 +139,7 @@ module _ (settings : Settings) (vendors sizes s rows₀ attrs₀ : List ℕ) (c 
   unfolding firstFault firstDeep deep
   listed-exactly room given =
       let n : ℕ = c .rows in
-      let answer = given .answer-is ∙ ap (λ (o : Outcome). o .answer) (tree-listed room) in (
+      let answer = given .answer-is ∙ ap (λ (o : Outcome Listing ℕ). o .answer) (tree-listed room) in (
         λ p. (let all = passes rows n (reachIn settings s rows attrs c) room (sym answer ∙ p) in
             let nests = nests-exactly n (reachIn settings s rows attrs c) (reaching (settings .endian) s rows attrs n) .0 (first-beyond _ n (all .0)) in
             let none = first-none (deep n (reachIn settings s rows attrs c)) n .0 (first-beyond (deep n (reachIn settings s rows attrs c)) n (all .1)) in
@@ -149,7 +150,7 @@ module _ (settings : Settings) (vendors sizes s rows₀ attrs₀ : List ℕ) (c 
               enough = leb-true (n * placeWidth) (length room) (all .2);
             }),
         λ l. (let sound : firstFault n (reachIn settings s rows attrs c) ≡ n = nests-exactly n (reachIn settings s rows attrs c) (reaching (settings .endian) s rows attrs n) .1 (l .good, l .nest) in
-            answer ∙ ap (λ (o : Outcome). o .answer) (gives rows n (reachIn settings s rows attrs c) room no-erased (le-ltb (firstFault n (reachIn settings s rows attrs c)) n (omega arith))
+            answer ∙ ap (λ (o : Outcome Listing ℕ). o .answer) (gives rows n (reachIn settings s rows attrs c) room no-erased (le-ltb (firstFault n (reachIn settings s rows attrs c)) n (omega arith))
             (none-first (deep n (reachIn settings s rows attrs c)) n (λ j h. le-ltb depthLimit (depth n (reachIn settings s rows attrs c) j) (l .shallow j h))) (le-leb (n * placeWidth) (length room) (l .enough)))),
       )
 
@@ -157,8 +158,8 @@ module _ (settings : Settings) (vendors sizes s rows₀ attrs₀ : List ℕ) (c 
   pub listing-holds : (room : List ℕ) {r : Listing} {room′ : List ℕ} → Given (treeOf settings vendors sizes s rows attrs c room) r room′
       → r ≡ Listed (c .rows) → room′ ≡ sets room 0 (placesFrom (c .rows) (reachIn settings s rows attrs c) 0 (c .rows))
   listing-holds room given p =
-      let answer = given .answer-is ∙ ap (λ (o : Outcome). o .answer) (tree-listed room) in
-      given .room-is ∙ ap (λ (o : Outcome). o .room) (tree-listed room) ∙ passes rows (c .rows) (reachIn settings s rows attrs c) room (sym answer ∙ p) .3
+      let answer = given .answer-is ∙ ap (λ (o : Outcome Listing ℕ). o .answer) (tree-listed room) in
+      given .room-is ∙ ap (λ (o : Outcome Listing ℕ). o .room) (tree-listed room) ∙ passes rows (c .rows) (reachIn settings s rows attrs c) room (sym answer ∙ p) .3
 
   -- row j's two words
   pub listing-places : (room : List ℕ) {r : Listing} {room′ : List ℕ} → Given (treeOf settings vendors sizes s rows attrs c room) r room′
@@ -184,7 +185,7 @@ module _ (settings : Settings) (vendors sizes s rows₀ attrs₀ : List ℕ) (c 
   -- the child walk of any row, with room enough, gives exactly the non-null rows with that parent, in order
   pub walk-holds : Good (c .rows) (reachIn settings s rows attrs c) → NoneCross (c .rows) (reachIn settings s rows attrs c) → (i : ℕ) → i < c .rows → (kids : List ℕ)
       → length (childrenIn rows (c .rows) (reachIn settings s rows attrs c) i) ≤ length kids → {q : ChildRows} {kids′ : List ℕ}
-      → children.Given (children.childrenOf settings vendors sizes s rows attrs c (rowAt rows i .key) kids) q kids′
+      → Given (children.childrenOf settings vendors sizes s rows attrs c (rowAt rows i .key) kids) q kids′
       → (q ≡ child.Listed (length (childrenIn rows (c .rows) (reachIn settings s rows attrs c) i))) × (kids′ ≡ sets kids 0 (childrenIn rows (c .rows) (reachIn settings s rows attrs c) i))
   unfolding children.childrenOf tested afterTests
   walk-holds good nest i l kids h {q} {kids′} given =
@@ -192,7 +193,7 @@ module _ (settings : Settings) (vendors sizes s rows₀ attrs₀ : List ℕ) (c 
       let all : Reaching n (reachIn settings s rows attrs c) = reaching (settings .endian) s rows attrs n in
       let nested : Nested n (reachIn settings s rows attrs c) = fault-none n (reachIn settings s rows attrs c) all (nests-exactly n (reachIn settings s rows attrs c) all .1 (good, nest)) in
       let told : children.childrenOf settings vendors sizes s rows attrs c (rowAt rows i .key) kids
-      ≡ children.outcome (child.Listed (length (childrenIn rows n (reachIn settings s rows attrs c) i))) (sets kids 0 (childrenIn rows n (reachIn settings s rows attrs c) i)) =
+      ≡ outcome (child.Listed (length (childrenIn rows n (reachIn settings s rows attrs c) i))) (sets kids 0 (childrenIn rows n (reachIn settings s rows attrs c) i)) =
       rw (tests-pass .0, tests-pass .1, table-holds) (children-given plain (settings .endian) attrs nested i l kids h)
       in
-      (given .answer-is ∙ ap (λ (o : children.Outcome). o .answer) told, given .room-is ∙ ap (λ (o : children.Outcome). o .room) told)
+      (given .answer-is ∙ ap (λ (o : Outcome ChildRows ℕ). o .answer) told, given .room-is ∙ ap (λ (o : Outcome ChildRows ℕ). o .room) told)

@@ -9,6 +9,7 @@ use lib.ListN.{length}
 use lib.Seq.{sets}
 use lib.Dec.{leb, ltb, eqb}
 use borrow.Author.Tests.{le-leb, leb-false, eqb-true}
+use Rattle.lent.specs.Outcome.{outcome}
 use Rattle.numbers.specs.declared.Endian.{Endian}
 use Rattle.tables.specs.Row.{rowAt, erasedRow}
 use Rattle.tables.specs.Find.{rowOfKey}
@@ -20,7 +21,7 @@ use Rattle.entries.proofs.Laws.KnownRun.{by-test}
 use Rattle.links.specs.Attribute.{siblingNumber, referenceOf}
 use Rattle.links.specs.Walk.{ends, stops, walkFrom}
 use Rattle.links.specs.Links.{nextFrom, nextRow, rowNumber, siblingBy, siblingRow, childWalk, nullRow, nonNull}
-use Rattle.links.specs.Children.{outcome, given, childrenBy}
+use Rattle.links.specs.Children.{given, childrenBy}
 use Rattle.links.specs.declared.children.ChildRows.the-variants.{Listed}
 use Rattle.links.specs.declared.lookup.Reference.{Reference}
 use Rattle.links.specs.declared.lookup.Reference.the-variants as reference
