@@ -21,12 +21,12 @@ use Rattle.entries.specs.declared.section.Section.{Section}
 use Rattle.entries.specs.declared.section.Section.the-variants as section
 use Rattle.sizes.specs.declared.sized.Sized.{Sized}
 use Rattle.sizes.specs.declared.sized.Sized.the-variants as sized
-use Rattle.sizes.specs.declared.layout.Layout.{Layout}
-use Rattle.sizes.specs.declared.layout.LayoutRead.{LayoutRead}
-use Rattle.sizes.specs.declared.layout.LayoutRead.the-variants as layout
-use Rattle.sizes.specs.declared.all.LayoutCounts.{LayoutCounts}
-use Rattle.sizes.specs.declared.all.AllLayouts.{AllLayouts}
-use Rattle.sizes.specs.declared.all.AllLayouts.the-variants as layouts
+use Rattle.layout.specs.declared.one.Layout.{Layout}
+use Rattle.layout.specs.declared.one.LayoutRead.{LayoutRead}
+use Rattle.layout.specs.declared.one.LayoutRead.the-variants as layout
+use Rattle.layout.specs.declared.all.LayoutCounts.{LayoutCounts}
+use Rattle.layout.specs.declared.all.AllLayouts.{AllLayouts}
+use Rattle.layout.specs.declared.all.AllLayouts.the-variants as layouts
 use Rattle.blocks.specs.declared.location.Located.{Located}
 use Rattle.blocks.specs.declared.location.Located.the-variants as located
 use Rattle.tree.specs.declared.listing.Listing.{Listing}

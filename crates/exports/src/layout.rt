@@ -6,11 +6,11 @@ use crate::told::refused_as;
 use crate::told::told_as;
 use format::refusal::Reason;
 use format::refusal::number_of;
-use sizes::layout::Layout;
-use sizes::layout::LayoutRead;
-use sizes::layout::layout_of_key;
+use layout::one::Layout;
+use layout::one::LayoutRead;
+use layout::one::layout_of_key;
 ghost use mathlib.Core.Path.{_≡_};
-ghost use Rattle.sizes.specs.Layout.{layoutOf};
+ghost use Rattle.layout.specs.Layout.{layoutOf};
 ghost use Rattle.exports.specs.Crossing.{settingsFrom, countsFrom, laidAs, layoutTold, LayoutCrosses};
 
 // A layout that is given.

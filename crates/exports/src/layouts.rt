@@ -6,11 +6,11 @@ use crate::told::refused_as;
 use crate::told::told_as;
 use format::refusal::Reason;
 use format::refusal::number_of;
-use sizes::all::AllLayouts;
-use sizes::all::LayoutCounts;
-use sizes::all::all_layouts;
+use layout::all::AllLayouts;
+use layout::all::LayoutCounts;
+use layout::all::all_layouts;
 ghost use mathlib.Core.Path.{_≡_};
-ghost use Rattle.sizes.specs.All.{allOf};
+ghost use Rattle.layout.specs.All.{allOf};
 ghost use Rattle.exports.specs.Crossing.{settingsFrom, countsFrom, layoutsAs, layoutsTold, LayoutsCross};
 
 // The counts that were given, or are needed.

@@ -32,8 +32,8 @@ use format::refusal::Reason;
 use format::refusal::Refusal;
 use format::refusal::number_of;
 use format::tag_kind::CLASS_TYPE;
-use sizes::all::AllLayouts;
-use sizes::all::all_layouts;
+use layout::all::AllLayouts;
+use layout::all::all_layouts;
 use tables::row::Counts;
 use tables::row::row_at;
 

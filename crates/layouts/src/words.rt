@@ -1,6 +1,6 @@
 // Members and structures as `sizes` has them in words. A word past the end reads as 0.
-use sizes::all::STRUCTURE_WIDTH;
-use sizes::layout::LAID_WIDTH;
+use layout::all::STRUCTURE_WIDTH;
+use layout::one::LAID_WIDTH;
 
 // A member in a layout.
 pub struct Placed {

@@ -3,7 +3,7 @@
 -- The tests in their order: 1, 2, 3; of the entry 11, 10, 12; what its row refuses, all of it read whole; what the sizes that it asks for refuse, and 20.
 -- `sizeOfKey` and `sizeOfType`, at the end, are the public calls.
 use Prim.Native.Nat.{ℕ, zero, suc, _+_, _*_, _-_}
-use mathlib.Core.Bool.{true, false, cond}
+use mathlib.Core.Bool.{Bool, true, false, cond}
 use mathlib.Core.List.{List, [], _∷_}
 use lib.ListN.{length, getD, drop}
 use lib.Dec.{eqb, leb, ltb}
@@ -230,6 +230,16 @@ shapes =
 unfoldable pub shapeOf : ℕ → Shape
 unfolding shapes
 shapeOf kind = lookup shapes shape.Other kind
+
+-- structures and classes have a layout
+unfoldable pub isStructure : Shape → Bool
+isStructure shape.Structure = true
+isStructure shape.Array = false
+isStructure shape.Enumeration = false
+isStructure shape.Union = false
+isStructure shape.PtrToMember = false
+isStructure shape.Subroutine = false
+isStructure shape.Other = false
 
 module _ (settings : Settings) (s rows attrs : List ℕ) (n : ℕ) where
   -- the size of row i, which is there and not past the limit; 12 at it where its kind has no size

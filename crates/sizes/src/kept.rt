@@ -60,7 +60,7 @@ pub(crate) fn added_kept(known: &[u64], kept: &[u64], c: usize) -> Added
 }
 
 // The sibling of row c.
-pub(crate) fn kept_sibling(
+pub fn kept_sibling(
     s: &[u8],
     e: Endian,
     rows: &[u32],

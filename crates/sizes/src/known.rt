@@ -17,7 +17,7 @@ ghost use Rattle.sizes.specs.declared.sized.Sized.the-variants.{Is, Refu
 pub const KNOWN_WIDTH: usize = 3;
 
 // The size of row i.
-pub(crate) fn known_at(known: &[u64], i: usize) -> Sized
+pub fn known_at(known: &[u64], i: usize) -> Sized
     ensures { λ r. ⌜ r ≡ knownAt (now (known .entry)) i ⌝ }
 {
     if i >= known.len() {
@@ -54,7 +54,7 @@ fn put_size(known: &mut [u64], i: usize, size: u32)
     put_three(known, i * KNOWN_WIDTH, 0, size as u64, 0);
 }
 
-pub(crate) fn put_refusal(known: &mut [u64], i: usize, why: Refusal)
+pub fn put_refusal(known: &mut [u64], i: usize, why: Refusal)
     requires { ⌜ i * knownWidth + knownWidth ≤ length (now known) ⌝ }
     ensures { λ _. ⌜ PutKnown i (Refused why) (now (known .entry)) (now (known .exit)) ⌝ }
 {
@@ -69,7 +69,7 @@ pub(crate) fn put_refusal(known: &mut [u64], i: usize, why: Refusal)
 }
 
 // Row i's size among the known ones.
-pub(crate) fn put_known(known: &mut [u64], i: usize, size: Sized)
+pub fn put_known(known: &mut [u64], i: usize, size: Sized)
     requires { ⌜ i * knownWidth + knownWidth ≤ length (now known) ⌝ }
     ensures { λ _. ⌜ PutKnown i size (now (known .entry)) (now (known .exit)) ⌝ }
 {

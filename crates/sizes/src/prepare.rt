@@ -36,7 +36,7 @@ use tables::row::row_at;
 ghost use mathlib.Core.Path.{_≡_};
 ghost use Rattle.links.specs.Inside.Children.{Asked};
 ghost use Rattle.records.specs.Inside.Enumeration.{AskedShort};
-ghost use Rattle.sizes.specs.Size.{shapeOf, subscriptBlock};
+ghost use Rattle.sizes.specs.Size.{isStructure, shapeOf, subscriptBlock};
 ghost use Rattle.links.specs.Inside.Kids.{kidsOf};
 ghost use Rattle.records.specs.Enumeration.{enumerationAt};
 ghost use Rattle.records.specs.PtrToMember.{ptrAt};
@@ -65,7 +65,7 @@ pub enum Prepared {
     Refused(Refusal),
 }
 
-pub(crate) fn shape_of(kind: u32) -> Shape
+pub fn shape_of(kind: u32) -> Shape
     ensures { λ r. ⌜ r ≡ shapeOf kind ⌝ }
 {
     match kind {
@@ -79,6 +79,20 @@ pub(crate) fn shape_of(kind: u32) -> Shape
         0x17 => Shape::Union,
         0x1f => Shape::PtrToMember,
         _ => Shape::Other,
+    }
+}
+
+pub fn is_structure(kind: u32) -> bool
+    ensures { λ r. ⌜ r ≡ isStructure (shapeOf kind) ⌝ }
+{
+    match shape_of(kind) {
+        Shape::Array => false,
+        Shape::Structure => true,
+        Shape::Enumeration => false,
+        Shape::Union => false,
+        Shape::PtrToMember => false,
+        Shape::Subroutine => false,
+        Shape::Other => false,
     }
 }
 
@@ -198,7 +212,7 @@ fn members_fault(
 }
 
 // 9 where the walk never ends.
-pub(crate) fn structure_fault(
+pub fn structure_fault(
     s: &[u8],
     settings: Settings,
     rows: &[u32],
@@ -219,7 +233,7 @@ pub(crate) fn structure_fault(
 }
 
 // The same of a structure, if it is kept.
-pub(crate) fn kept_fault(
+pub fn kept_fault(
     s: &[u8],
     settings: Settings,
     rows: &[u32],

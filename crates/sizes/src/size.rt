@@ -37,7 +37,7 @@ ghost use Rattle.sizes.specs.Inside.Kept.{AllKept, MemberAsked};
 ghost use Rattle.sizes.specs.Inside.Size.{Ready, EndsShort, memberAdded, grown, arrayProduct, childEnd, endsOver, entryFrom, typeFrom};
 
 // A fundamental type's line of the settings' table; 18 at 0 for a number that has none.
-pub(crate) fn fundamental_size(sizes: &[u32], number: u16) -> Sized
+pub fn fundamental_size(sizes: &[u32], number: u16) -> Sized
     ensures { λ r. ⌜ r ≡ fundamentalSize (now (sizes .entry)) number ⌝ }
 {
     let k = order_of(number);
@@ -49,7 +49,7 @@ pub(crate) fn fundamental_size(sizes: &[u32], number: u16) -> Sized
 }
 
 // The largest end so far and that of a member at row c: 20 past 32 bits, at the member.
-pub(crate) fn grown(rows: &[u32], c: usize, largest: u32, offset: u32, size: u32) -> Sized
+pub fn grown(rows: &[u32], c: usize, largest: u32, offset: u32, size: u32) -> Sized
     ensures { λ r. ⌜ r ≡ grown (now (rows .entry)) c largest offset size ⌝ }
 {
     let end = offset as u64 + size as u64;
@@ -152,7 +152,7 @@ pub(crate) fn entry_size(
 }
 
 // The size of row i; the entries that it names have so many levels left.
-pub(crate) fn row_size(
+pub fn row_size(
     s: &[u8],
     settings: Settings,
     sizes: &[u32],
@@ -216,7 +216,7 @@ fn read_added(
 }
 
 // The same, if it is kept as that.
-pub(crate) fn member_added(
+pub fn member_added(
     s: &[u8],
     settings: Settings,
     sizes: &[u32],

@@ -10,11 +10,11 @@ use Rattle.entries.specs.Section.{countSection, readSection}
 use Rattle.entries.specs.declared.section.Count.{Count}
 use Rattle.entries.specs.declared.section.Section.{Section}
 use Rattle.sizes.specs.Size.{sizeOfKey}
-use Rattle.sizes.specs.All.{allOf}
-use Rattle.sizes.specs.declared.all.AllLayouts.{AllLayouts}
-use Rattle.sizes.specs.Layout.{layoutOf}
+use Rattle.layout.specs.All.{allOf}
+use Rattle.layout.specs.declared.all.AllLayouts.{AllLayouts}
+use Rattle.layout.specs.Layout.{layoutOf}
 use Rattle.sizes.specs.declared.sized.Sized.{Sized}
-use Rattle.sizes.specs.declared.layout.LayoutRead.{LayoutRead}
+use Rattle.layout.specs.declared.one.LayoutRead.{LayoutRead}
 use Rattle.blocks.specs.Location.{offsetOf}
 use Rattle.blocks.specs.declared.location.Located.{Located}
 use Rattle.tree.specs.Tree.{treeOf}

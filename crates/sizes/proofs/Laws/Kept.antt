@@ -36,7 +36,7 @@ use Rattle.sizes.specs.Size.{fundamentalSize, kindSize, typeSizeBy, size
 use Rattle.sizes.specs.Inside.Known.{knownAt}
 use Rattle.sizes.specs.Inside.Prepare.{readFault, memberFault, structureFault}
 use Rattle.sizes.specs.Inside.Size.{withSize, readAdded, memberAdded, knownFound, entryFrom, typeFrom}
-use Rattle.sizes.specs.Layout.{isStructure}
+use Rattle.sizes.specs.Size.{isStructure}
 use Rattle.sizes.specs.Inside.Kept.{rowNamed, sizeNamed, firstOf, secondOf, sizeKept, addedBy, addedKept, faultSize, sizeFault, faultKept, SiblingsKept, FaultsKept, AllKept, MemberAsked, StructureAsked}
 use Rattle.sizes.specs.declared.kept.Added.{Added}
 use Rattle.sizes.specs.declared.kept.Added.the-variants as added

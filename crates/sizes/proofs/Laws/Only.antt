@@ -1,10 +1,7 @@
 -- No second answer fits: of any two results that meet a public function's contract for the same arguments, and what they leave in lent memory, the one is the
 -- other. Written and held against the source by .ci/promises.
-use denote.Ref.{now}
-use Rattle.lent.specs.OneAnswer.{OneAnswer, OneRoom}
+use Rattle.lent.specs.OneAnswer.{OneAnswer}
 use Rattle.sizes.proofs.size as size
-use Rattle.sizes.proofs.layout as layout
-use Rattle.sizes.proofs.all as all
 
 -- `size::size_of_key`
 pub only-size-of-key : OneAnswer size.size_of_key.Kinds.ps size.size_of_key.Kinds.r size.size_of_key.Reads.Post
@@ -13,20 +10,3 @@ only-size-of-key κs a z z′ e e′ p q = cc
 -- `size::size_of_type`
 pub only-size-of-type : OneAnswer size.size_of_type.Kinds.ps size.size_of_type.Kinds.r size.size_of_type.Reads.Post
 only-size-of-type κs a z z′ e e′ p q = cc
-
--- `layout::layout_of_key`
-pub only-layout-of-key : OneAnswer layout.layout_of_key.Kinds.ps layout.layout_of_key.Kinds.r layout.layout_of_key.Reads.Post
-only-layout-of-key κs a z z′ e e′ p q = cc
-
-pub only-layout-of-key-room : OneRoom layout.layout_of_key.Kinds.ps layout.layout_of_key.Kinds.r (λ κs e. now (e .1 .1 .1 .1 .1 .1 .1 .1 .0)) layout.layout_of_key.Reads.Post
-only-layout-of-key-room κs a z z′ e e′ p q = cc
-
--- `all::all_layouts`
-pub only-all-layouts : OneAnswer all.all_layouts.Kinds.ps all.all_layouts.Kinds.r all.all_layouts.Reads.Post
-only-all-layouts κs a z z′ e e′ p q = cc
-
-pub only-all-layouts-structures : OneRoom all.all_layouts.Kinds.ps all.all_layouts.Kinds.r (λ κs e. now (e .1 .1 .1 .1 .1 .1 .1 .0)) all.all_layouts.Reads.Post
-only-all-layouts-structures κs a z z′ e e′ p q = cc
-
-pub only-all-layouts-members : OneRoom all.all_layouts.Kinds.ps all.all_layouts.Kinds.r (λ κs e. now (e .1 .1 .1 .1 .1 .1 .1 .1 .0)) all.all_layouts.Reads.Post
-only-all-layouts-members κs a z z′ e e′ p q = cc

@@ -27,7 +27,7 @@ use Rattle.sizes.specs.Size.{typeSizeBy, sizeOr, foundSize, shapeOf}
 use Rattle.sizes.specs.Inside.Known.{knownAt}
 use Rattle.sizes.specs.Inside.Prepare.{structureFault}
 use Rattle.sizes.specs.Inside.Size.{withSize}
-use Rattle.sizes.specs.Layout.{isStructure}
+use Rattle.sizes.specs.Size.{isStructure}
 use Rattle.sizes.specs.declared.kept.Added.{Added}
 use Rattle.sizes.specs.declared.kept.Added.the-variants as added
 use Rattle.sizes.specs.declared.sized.Sized.{Sized}

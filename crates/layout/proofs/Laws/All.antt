@@ -1,0 +1,737 @@
+-- What follows from `All` and its ways, for each way that the code comes to an answer.
+use Prim.Native.Nat.{ℕ, suc, _+_, _-_, _*_, _/_, _≤_, _<_}
+use native.Mathlib.Nat.{add-zero, zero-add, add-assoc, le-trans}
+use native.Mathlib.Decide.{decLe}
+use native.Mathlib.Omega.{arith}
+use mathlib.Core.Path.{_≡_, refl, sym, ap, ap₂, _∙_, subst}
+use mathlib.Core.Bool.{Bool, true, false, true≢false}
+use mathlib.Core.List.{List, [], _∷_, _++_, append-nil, append-assoc}
+use lib.ListN.{length, take, drop, set, length-append}
+use lib.Seq.{sets, length-sets}
+use lib.Dec.{leb, eqb}
+use borrow.Author.Tests.{le-leb, lt-leb}
+use Rattle.lent.specs.Outcome.{Outcomes, outcomes, BothGiven}
+use Rattle.numbers.proofs.Laws.Tests.{cond-all}
+use Rattle.format.specs.Limits.{entryLimit}
+use Rattle.format.specs.Refusal.{numberOf}
+use Rattle.format.specs.TagKind as tag
+use Rattle.format.specs.AttributeKind as attribute
+use Rattle.format.specs.declared.settings.Settings.{Settings}
+use Rattle.format.specs.declared.refusal.Refusal.{Refusal}
+use Rattle.blocks.specs.declared.types.Type.{«Type»}
+use Rattle.lent.proofs.Laws.Stores.{sets-append, sets-out, sets-rest}
+use Rattle.tables.specs.Row.{rowAt}
+use Rattle.tables.specs.Check.{Tells}
+use Rattle.tables.proofs.Laws.Check.{passed-answer, refused-answer}
+use Rattle.tables.specs.declared.check.Check.{Check}
+use Rattle.tables.specs.declared.check.Check.the-variants as check
+use Rattle.tables.specs.declared.row.Counts.{Counts}
+use Rattle.tables.specs.declared.row.Row.{Row}
+use Rattle.links.specs.Walk.{Walk, ends, endless}
+use Rattle.links.specs.Links.{siblingRow, nextRow, childWalk, nonNull}
+use Rattle.links.specs.Inside.Kids.{rowsMet, walkOn, kidsFrom}
+use Rattle.links.proofs.Laws.Kids.{few-kids}
+use Rattle.records.specs.Scan.{runOf}
+use Rattle.records.specs.Fields.{nameOf}
+use Rattle.records.specs.MemberWords.{namePlace, nameLength}
+use Rattle.records.specs.declared.scan.Run.{Run}
+use Rattle.records.specs.declared.fields.Name.{Name}
+use Rattle.records.specs.Member.{memberAt}
+use Rattle.records.specs.Unions.{Placed, Members, members, refused, andMember, memberThen}
+use Rattle.records.specs.declared.member.Member.{Member}
+use Rattle.records.specs.declared.member.MemberRead.{MemberRead}
+use Rattle.records.specs.declared.member.MemberRead.the-variants as read
+use Rattle.sizes.specs.Size.{shapeOf, typeSize, memberSize, childThen, membersFrom, membersBy, membersOf}
+use Rattle.sizes.specs.Inside.Size.{Ready, typeFrom}
+use Rattle.sizes.specs.Inside.Known.{knownWidth, knownAt, PutKnown}
+use Rattle.layout.specs.Inside.Levels.{deepest, sizeLeft, Filled}
+use Rattle.layout.proofs.Laws.Levels.{known-types}
+use Rattle.layout.specs.Layout.{Laid, Lay, laid, unlaid, laidMember, andLaid, layThen, endOr, laidFrom, isBounded, ownSize, membersLaid, shapeLaid, rowLay, layoutBy, layoutAt, laidWords, laidWidth}
+use Rattle.sizes.specs.Size.{isStructure}
+use Rattle.layout.specs.Inside.Layout.{WholeLaid}
+use Rattle.sizes.proofs.Laws.Kept.{structure-test}
+use Rattle.layout.proofs.Laws.Layout.{words-long, AllLaid, answer-laid, isNone}
+use Rattle.layout.specs.All.{Structure, laidOf, alsoIf, structureAt, structuresFrom, answerWords, structureWidth, structureWords, memberWords, memberCount, countsOf, intoRooms, allOf}
+use Rattle.layout.specs.Inside.All.{rowStructures, eightWords, countedOn, countedWith, OneMore, CountAsked, sizeTold, Told, RowCounted, PutAsked, Puts, PutsAsked, PutAll}
+use Rattle.sizes.specs.declared.prepare.Shape.{Shape}
+use Rattle.sizes.specs.declared.prepare.Shape.the-variants as shape
+use Rattle.sizes.specs.declared.sized.Sized.{Sized}
+use Rattle.sizes.specs.declared.sized.Sized.the-variants.{Is, Refused}
+use Rattle.layout.specs.declared.one.Layout.{Layout}
+use Rattle.layout.specs.declared.one.LayoutWhole.{LayoutWhole}
+use Rattle.layout.specs.declared.one.LayoutWhole.the-variants as whole
+use Rattle.layout.specs.declared.all.LayoutCounts.{LayoutCounts}
+use Rattle.layout.specs.declared.all.AllLayouts.{AllLayouts}
+use Rattle.layout.specs.declared.all.AllLayouts.the-variants as all
+
+-- ---- how many members there are at most
+
+abbrev fewMembers : ℕ → Members → Type 0
+fewMembers k (members ms) = length ms ≤ k
+fewMembers k (refused why) = Unit
+
+few-and : (k c : ℕ) (m : Member) (rest : Members) → fewMembers k rest → fewMembers (suc k) (andMember c m rest)
+unfolding andMember
+few-and k c m (members ms) h = omega (arith, h)
+few-and k c m (refused why) h = tt
+
+few-more : (k : ℕ) (rest : Members) → fewMembers k rest → fewMembers (suc k) rest
+few-more k (members ms) h = omega (arith, h)
+few-more k (refused why) h = tt
+
+few-then : (k c : ℕ) (m : MemberRead) (rest : Members) → fewMembers k rest → fewMembers (suc k) (memberThen c m rest)
+unfolding memberThen
+few-then k c (read.Is m) rest h = few-and k c m rest h
+few-then k c (read.Refused why) rest h = tt
+
+module _ (settings : Settings) (s rows attrs : List ℕ) (n : ℕ) where
+  few-from : (cs : List ℕ) → fewMembers (length cs) (membersFrom settings s rows attrs n cs)
+  unfolding membersFrom childThen
+  few-from [] = omega arith
+  few-from (c ∷ cs) =
+      cond-all (fewMembers (suc (length cs))) (eqb (rowAt rows c .kind) tag.Member)
+      (λ t. few-then (length cs) c (memberAt settings s rows attrs n c) (membersFrom settings s rows attrs n cs) (few-from cs))
+      (λ t. few-more (length cs) (membersFrom settings s rows attrs n cs) (few-from cs))
+
+few-weaker : {j k : ℕ} (ms : Members) → j ≤ k → fewMembers j ms → fewMembers k ms
+few-weaker (members ms) h l = omega (arith, h, l)
+few-weaker (refused why) h l = tt
+
+module _ (settings : Settings) (s rows attrs : List ℕ) (n : ℕ) where
+  few-by : (key : ℕ) (w : Walk) → length (nonNull rows (rowsMet w)) ≤ n → fewMembers n (membersBy settings s rows attrs n key w)
+  unfolding membersBy rowsMet
+  few-by key (ends cs) h = few-weaker (membersFrom settings s rows attrs n (nonNull rows cs)) h (few-from settings s rows attrs n (nonNull rows cs))
+  few-by key endless h = tt
+
+  few-of : (i : ℕ) → fewMembers n (membersOf settings s rows attrs n i)
+  unfolding membersOf kidsFrom walkOn childWalk
+  few-of i =
+      few-by (rowAt rows i .key) (childWalk (settings .endian) s rows attrs n i)
+      (few-kids (settings .endian) s rows attrs n (siblingRow (settings .endian) s rows attrs n i) (nextRow rows n i))
+
+few-after : (f : ℕ → Laid) (g : ℕ → ℕ → Lay) (e : ℕ → Sized) (k : ℕ) → ((size next : ℕ) → length (laidOf (g size next)) ≤ k) → (s : Sized)
+    → length (laidOf (layThen (λ size. layThen (λ next. andLaid (f size) (g size next)) (e size)) s)) ≤ suc k
+unfolding layThen laidOf andLaid
+few-after f g e k h (Is size) = few-end (f size) (g size) k (h size) (e size)
+  where
+    few-one : (x : Laid) (l : Lay) (j : ℕ) → length (laidOf l) ≤ j → length (laidOf (andLaid x l)) ≤ suc j
+    few-one x (laid xs m) j p = omega (arith, p)
+    few-one x (unlaid why) j p = omega arith
+
+    few-end : (x : Laid) (r : ℕ → Lay) (j : ℕ) → ((next : ℕ) → length (laidOf (r next)) ≤ j) → (t : Sized)
+        → length (laidOf (layThen (λ next. andLaid x (r next)) t)) ≤ suc j
+    few-end x r j p (Is next) = few-one x (r next) j (p next)
+    few-end x r j p (Refused why) = omega arith
+few-after f g e k h (Refused why) = omega arith
+
+module _ (rows : List ℕ) (sizeOf : «Type» → Sized) (bounded : Bool) where
+  few-laid : (largest : ℕ) (ms : List Placed) → length (laidOf (laidFrom rows sizeOf bounded largest ms)) ≤ length ms
+  unfolding laidFrom laidOf
+  few-laid largest [] = omega arith
+  few-laid largest (m ∷ ms) =
+      few-after (laidMember m) (λ size next. laidFrom rows sizeOf bounded next ms) (λ size. endOr bounded (rowAt rows (m .row) .key) largest (m .member .offset + size))
+      (length ms) (λ size next. few-laid next ms) (memberSize sizeOf m)
+
+module _ (settings : Settings) (s rows attrs : List ℕ) (n : ℕ) (sizeOf : «Type» → Sized) (i : ℕ) where
+  few-members : (ms : Members) → fewMembers n ms → length (laidOf (membersLaid settings s rows attrs n sizeOf i ms)) ≤ n
+  unfolding membersLaid laidOf
+  few-members (members ms) h = le-trans (few-laid rows sizeOf (isBounded (ownSize settings s rows attrs n sizeOf i)) 0 ms) h
+  few-members (refused why) h = omega arith
+
+  few-shape : (x : Shape) → length (laidOf (shapeLaid settings s rows attrs n sizeOf i x)) ≤ n
+  unfolding isStructure shapeLaid laidOf
+  few-shape shape.Structure = few-members (membersOf settings s rows attrs n i) (few-of settings s rows attrs n i)
+  few-shape shape.Array = omega arith
+  few-shape shape.Enumeration = omega arith
+  few-shape shape.Union = omega arith
+  few-shape shape.PtrToMember = omega arith
+  few-shape shape.Subroutine = omega arith
+  few-shape shape.Other = omega arith
+
+  few-row : length (laidOf (rowLay settings s rows attrs n sizeOf i)) ≤ n
+  unfolding rowLay
+  few-row = few-shape (shapeOf (rowAt rows i .kind))
+
+-- ---- lists one after the other
+
+pub structure-append : (first : ℕ) (xs ys : List Structure) → structureWords first (xs ++ ys) ≡ structureWords first xs ++ structureWords (first + memberCount xs) ys
+unfolding structureWords memberCount
+structure-append first [] ys = ap (λ (k : ℕ). structureWords k ys) (sym (add-zero first))
+structure-append first (x ∷ xs) ys =
+    ap (λ (ws : List ℕ). answerWords (x .row) (x .name) first (x .answer) ++ ws)
+    (structure-append (first + length (x .members)) xs ys
+    ∙ ap (λ (k : ℕ). structureWords (first + length (x .members)) xs ++ structureWords k ys) (add-assoc first (length (x .members)) (memberCount xs)))
+    ∙ sym (append-assoc (answerWords (x .row) (x .name) first (x .answer)) (structureWords (first + length (x .members)) xs)
+    (structureWords (first + (length (x .members) + memberCount xs)) ys))
+
+pub answer-long : (row first : ℕ) (name : Name) (w : LayoutWhole) → length (answerWords row name first w) ≡ structureWidth
+unfolding answerWords
+answer-long row first name (whole.Is x) = refl
+answer-long row first name (whole.Refused why) = refl
+
+pub structure-long : (first : ℕ) (xs : List Structure) → length (structureWords first xs) ≡ length xs * structureWidth
+unfolding structureWords
+structure-long first [] = refl
+structure-long first (x ∷ xs) =
+    let rest : length (structureWords (first + length (x .members)) xs) ≡ length xs * structureWidth = structure-long (first + length (x .members)) xs in
+    let one : length (answerWords (x .row) (x .name) first (x .answer)) ≡ structureWidth = answer-long (x .row) first (x .name) (x .answer) in
+    let both : length (answerWords (x .row) (x .name) first (x .answer) ++ structureWords (first + length (x .members)) xs)
+    ≡ length (answerWords (x .row) (x .name) first (x .answer)) + length (structureWords (first + length (x .members)) xs) =
+    length-append (answerWords (x .row) (x .name) first (x .answer)) (structureWords (first + length (x .members)) xs) in
+    omega arith
+
+pub member-append : (xs ys : List Structure) → memberWords (xs ++ ys) ≡ memberWords xs ++ memberWords ys
+unfolding memberWords
+member-append [] ys = refl
+member-append (x ∷ xs) ys =
+    ap (λ (ws : List ℕ). laidWords (x .members) ++ ws) (member-append xs ys) ∙ sym (append-assoc (laidWords (x .members)) (memberWords xs) (memberWords ys))
+
+pub member-long : (xs : List Structure) → length (memberWords xs) ≡ memberCount xs * laidWidth
+unfolding memberWords memberCount
+member-long [] = refl
+member-long (x ∷ xs) =
+    let rest : length (memberWords xs) ≡ memberCount xs * laidWidth = member-long xs in
+    let one : length (laidWords (x .members)) ≡ length (x .members) * laidWidth = words-long (x .members) in
+    let both : length (laidWords (x .members) ++ memberWords xs) ≡ length (laidWords (x .members)) + length (memberWords xs) =
+    length-append (laidWords (x .members)) (memberWords xs) in
+    omega arith
+
+count-append : (xs ys : List Structure) → memberCount (xs ++ ys) ≡ memberCount xs + memberCount ys
+unfolding memberCount
+count-append [] ys = sym (zero-add (memberCount ys))
+count-append (x ∷ xs) ys =
+    let rest : memberCount (xs ++ ys) ≡ memberCount xs + memberCount ys = count-append xs ys in
+    omega arith
+
+abbrev counting : ℕ → ℕ → LayoutCounts
+counting k m = record { structures = k; members = m }
+
+pub counted-none : (counts : LayoutCounts) → counts ≡ countedWith counts []
+unfolding countedWith memberCount
+counted-none counts = ap₂ counting (sym (add-zero (counts .structures))) (sym (add-zero (counts .members)))
+
+counted-append : (counts : LayoutCounts) (xs ys : List Structure) → countedWith (countedWith counts xs) ys ≡ countedWith counts (xs ++ ys)
+unfolding countedWith
+counted-append counts xs ys =
+    let some : length (xs ++ ys) ≡ length xs + length ys = length-append xs ys in
+    let more : memberCount (xs ++ ys) ≡ memberCount xs + memberCount ys = count-append xs ys in
+    let structures-are : counts .structures + length xs + length ys ≡ counts .structures + length (xs ++ ys) = omega arith in
+    let members-are : counts .members + memberCount xs + memberCount ys ≡ counts .members + memberCount (xs ++ ys) = omega arith in
+    ap₂ counting structures-are members-are
+
+counted-all : (xs : List Structure) → countedWith (counting 0 0) xs ≡ countsOf xs
+unfolding countedWith countsOf
+counted-all xs = ap₂ counting (zero-add (length xs)) (zero-add (memberCount xs))
+
+-- ---- one row
+
+abbrev membersIn : LayoutWhole → ℕ
+membersIn (whole.Is x) = x .members
+membersIn (whole.Refused why) = 0
+
+abbrev isSize : Sized → Type 0
+isSize (Is size) = Unit
+isSize (Refused why) = ⊥
+
+abbrev reasonIn : Refusal → Sized → Refusal
+reasonIn other (Is size) = other
+reasonIn other (Refused why) = why
+
+abbrev isGiven : LayoutWhole → Type 0
+isGiven (whole.Is x) = Unit
+isGiven (whole.Refused why) = ⊥
+
+module _ (settings : Settings) (s rows attrs : List ℕ) (n : ℕ) (sizeOf : «Type» → Sized) (i : ℕ) where
+  laid-count : (lay : Lay) {x : Layout} → layoutBy settings s rows attrs n sizeOf i lay ≡ whole.Is x → length (laidOf lay) ≡ x .members
+  unfolding layoutBy laidOf
+  laid-count (laid xs l) p = ap membersIn p
+  laid-count (unlaid why) p = absurd (subst isNone p tt)
+
+  refused-none : (lay : Lay) {why : Refusal} → layoutBy settings s rows attrs n sizeOf i lay ≡ whole.Refused why → laidOf lay ≡ []
+  unfolding layoutBy laidOf
+  refused-none (laid xs l) p = absurd (subst isGiven p tt)
+  refused-none (unlaid why) p = refl
+
+  module _ {row : Row} {b : Bool} (at : row ≡ rowAt rows i) (is : b ≡ isStructure (shapeOf (row .kind))) where
+    row-other : b ≡ false → rowStructures settings s rows attrs n sizeOf i ≡ []
+    unfolding rowStructures alsoIf
+    row-other t = rw (structure-test rows i at is t)
+
+    row-one : b ≡ true → rowStructures settings s rows attrs n sizeOf i ≡ structureAt settings s rows attrs n sizeOf i ∷ []
+    unfolding rowStructures alsoIf
+    row-one t = rw (structure-test rows i at is t)
+
+    -- a row that is no structure adds nothing
+    none-counted : (counts : LayoutCounts) → b ≡ false → counts ≡ countedWith counts (rowStructures settings s rows attrs n sizeOf i)
+    none-counted counts t = counted-none counts ∙ ap (countedWith counts) (sym (row-other t))
+
+    pub count-other : (counts : LayoutCounts) {table : List ℕ} → b ≡ false → RowCounted settings s rows attrs n sizeOf i counts counts table table
+    count-other counts t =
+        record {
+          counts-are = none-counted counts t;
+          told-is = λ u. absurd (true≢false (sym u ∙ structure-test rows i at is t));
+          others = λ j h. refl;
+          same-long = refl;
+        }
+
+    pub puts-other : (counts : LayoutCounts) {structures members : List ℕ} → b ≡ false
+        → Puts (rowStructures settings s rows attrs n sizeOf i) counts counts structures structures members members
+    unfolding structureWords memberWords
+    puts-other counts {structures} {members} t =
+        record {
+          counts-are = none-counted counts t;
+          structures-are = ap (λ (xs : List Structure). sets structures (counts .structures * structureWidth) (structureWords (counts .members) xs)) (sym (row-other t));
+          members-are = ap (λ (xs : List Structure). sets members (counts .members * laidWidth) (memberWords xs)) (sym (row-other t));
+        }
+
+    module _ (t : b ≡ true) {told : LayoutWhole} (answer : told ≡ layoutAt settings s rows attrs n sizeOf i) (counts : LayoutCounts) where
+      name-is : {run : Run} {name : Name} → run ≡ runOf (settings .endian) rows i → name ≡ nameOf s attrs run attribute.Name
+          → name ≡ nameOf s attrs (runOf (settings .endian) rows i) attribute.Name
+      name-is p q = q ∙ ap (λ (r : Run). nameOf s attrs r attribute.Name) p
+
+      counted-one : {many : ℕ} {r : LayoutCounts} → length (laidOf (rowLay settings s rows attrs n sizeOf i)) ≡ many → r ≡ countedOn counts many
+          → r ≡ countedWith counts (rowStructures settings s rows attrs n sizeOf i)
+      unfolding countedOn countedWith memberCount structureAt
+      counted-one {many} p q =
+          let same : counts .members + many ≡ counts .members + (length (laidOf (rowLay settings s rows attrs n sizeOf i)) + 0) = omega arith in
+          q ∙ ap (counting (counts .structures + 1)) same ∙ ap (countedWith counts) (sym (row-one t))
+
+      -- what the layout tells is kept
+      counted-told : {size : Sized} {table table′ : List ℕ} {r : LayoutCounts} → r ≡ countedWith counts (rowStructures settings s rows attrs n sizeOf i) → size ≡ sizeTold told
+          → PutKnown i size table table′ → RowCounted settings s rows attrs n sizeOf i counts r table table′
+      counted-told q z g = record { counts-are = q; told-is = λ u. g .here ∙ z ∙ ap sizeTold answer; others = g .others; same-long = g .same-long }
+
+      put-one : (structures : List ℕ) {words structures′ : List ℕ} → words ≡ answerWords i (nameOf s attrs (runOf (settings .endian) rows i) attribute.Name) (counts .members) (layoutAt settings s rows attrs n sizeOf i)
+          → structures′ ≡ sets structures (counts .structures * structureWidth) words
+          → structures′ ≡ sets structures (counts .structures * structureWidth) (structureWords (counts .members) (rowStructures settings s rows attrs n sizeOf i))
+      unfolding structureWords structureAt
+      put-one structures p q =
+          q ∙ ap (sets structures (counts .structures * structureWidth))
+          (p ∙ sym (append-nil (answerWords i (nameOf s attrs (runOf (settings .endian) rows i) attribute.Name) (counts .members) (layoutAt settings s rows attrs n sizeOf i)))
+          ∙ ap (structureWords (counts .members)) (sym (row-one t)))
+
+      members-one : (room : List ℕ) {xs : List Laid} {room′ : List ℕ} → laidOf (rowLay settings s rows attrs n sizeOf i) ≡ xs → room′ ≡ sets room (counts .members * laidWidth) (laidWords xs)
+          → room′ ≡ sets room (counts .members * laidWidth) (memberWords (rowStructures settings s rows attrs n sizeOf i))
+      unfolding memberWords structureAt
+      members-one room p q =
+          q ∙ ap (sets room (counts .members * laidWidth))
+          (ap laidWords (sym p) ∙ sym (append-nil (laidWords (laidOf (rowLay settings s rows attrs n sizeOf i)))) ∙ ap memberWords (sym (row-one t)))
+
+      module _ {x : Layout} (p : told ≡ whole.Is x) where
+        many-given : length (laidOf (rowLay settings s rows attrs n sizeOf i)) ≡ x .members
+        unfolding layoutAt
+        many-given = laid-count (rowLay settings s rows attrs n sizeOf i) (sym answer ∙ p)
+
+        pub given-asked : CountAsked s rows n i counts → OneMore counts (x .members)
+        given-asked w =
+            let few : length (laidOf (rowLay settings s rows attrs n sizeOf i)) ≤ n = few-row settings s rows attrs n sizeOf i in
+            let many : length (laidOf (rowLay settings s rows attrs n sizeOf i)) ≡ x .members = many-given in
+            let there : i < n = w .asked .asked .there in
+            let rows-few : n ≤ entryLimit = w .asked .asked .table .few in
+            let small : counts .structures ≤ i = w .few-structures in
+            let fewer : counts .members ≤ i * entryLimit = w .few-members in
+            record { structures-small = omega arith; members-small = omega arith }
+
+        given-counted : {r : LayoutCounts} → r ≡ countedOn counts (x .members) → r ≡ countedWith counts (rowStructures settings s rows attrs n sizeOf i)
+        given-counted q = counted-one many-given q
+
+        pub count-given : {size : Sized} {table table′ : List ℕ} {r : LayoutCounts} → size ≡ sizeTold told → PutKnown i size table table′ → r ≡ countedOn counts (x .members)
+            → RowCounted settings s rows attrs n sizeOf i counts r table table′
+        count-given z g q = counted-told (given-counted q) z g
+
+        pub puts-given : {run : Run} {name : Name} {r : LayoutCounts} {structures structures′ room part′ : List ℕ} {again : LayoutWhole}
+            → run ≡ runOf (settings .endian) rows i → name ≡ nameOf s attrs run attribute.Name → WholeLaid (layoutAt settings s rows attrs n sizeOf i) (rowLay settings s rows attrs n sizeOf i) again
+            (take (length room - counts .members * laidWidth) (drop (counts .members * laidWidth) room)) part′
+            → structures′ ≡ sets structures (counts .structures * structureWidth) (eightWords i 0 (x .size) 0 (counts .members) (x .members) name)
+            → r ≡ countedOn counts (x .members)
+            → Puts (rowStructures settings s rows attrs n sizeOf i) counts r structures structures′ room
+            (take (counts .members * laidWidth) room ++ (part′ ++ drop (length room - counts .members * laidWidth) (drop (counts .members * laidWidth) room)))
+        unfolding answerWords eightWords layoutAt laidOf
+        puts-given {name = name} {structures = structures} {room = room} at′ is′ g e q =
+            let these : AllLaid (rowLay settings s rows attrs n sizeOf i) = answer-laid settings s rows attrs n sizeOf i (rowLay settings s rows attrs n sizeOf i) (sym answer ∙ p) in
+            record {
+              counts-are = given-counted q;
+              structures-are = put-one structures (ap₂ (λ (y : Name) (w : LayoutWhole). answerWords i y (counts .members) w) (name-is at′ is′) (sym p ∙ answer)) e;
+              members-are =
+                  members-one room (ap laidOf (these .are)) (sets-rest room (counts .members * laidWidth) (laidWords (these .list)) (g .room-is (these .list) (these .most) (these .are)));
+            }
+
+      module _ {why : Refusal} (p : told ≡ whole.Refused why) where
+        none-given : laidOf (rowLay settings s rows attrs n sizeOf i) ≡ []
+        unfolding layoutAt
+        none-given = refused-none (rowLay settings s rows attrs n sizeOf i) (sym answer ∙ p)
+
+        refused-counted : {r : LayoutCounts} → r ≡ countedOn counts 0 → r ≡ countedWith counts (rowStructures settings s rows attrs n sizeOf i)
+        refused-counted q = counted-one (ap length none-given) q
+
+        pub count-refused : {size : Sized} {table table′ : List ℕ} {r : LayoutCounts} → size ≡ sizeTold told → PutKnown i size table table′ → r ≡ countedOn counts 0
+            → RowCounted settings s rows attrs n sizeOf i counts r table table′
+        count-refused z g q = counted-told (refused-counted q) z g
+
+        pub puts-refused : {run : Run} {name : Name} {r : LayoutCounts} {structures structures′ room : List ℕ} {number : ℕ}
+            → run ≡ runOf (settings .endian) rows i → name ≡ nameOf s attrs run attribute.Name → number ≡ numberOf (why .reason)
+            → structures′ ≡ sets structures (counts .structures * structureWidth) (eightWords i number 0 (why .place) (counts .members) 0 name)
+            → r ≡ countedOn counts 0 → Puts (rowStructures settings s rows attrs n sizeOf i) counts r structures structures′ room room
+        unfolding answerWords eightWords laidWords
+        puts-refused {name = name} {structures = structures} {room = room} {number = number} at′ is′ m e q =
+            record {
+              counts-are = refused-counted q;
+              structures-are =
+                  put-one structures
+                  (ap (λ (k : ℕ). eightWords i k 0 (why .place) (counts .members) 0 name) m
+                  ∙ ap₂ (λ (y : Name) (w : LayoutWhole). answerWords i y (counts .members) w) (name-is at′ is′) (sym p ∙ answer)) e;
+              members-are = members-one room none-given refl;
+            }
+
+-- ---- what was told of a row
+
+module _ {answer : LayoutWhole} where
+  pub told-is : {x : Layout} → answer ≡ whole.Is x → Is (x .size) ≡ sizeTold answer
+  unfolding sizeTold
+  told-is p = ap sizeTold (sym p)
+
+  pub told-refused : {why : Refusal} → answer ≡ whole.Refused why → Refused why ≡ sizeTold answer
+  unfolding sizeTold
+  told-refused p = ap sizeTold (sym p)
+
+-- a refusal that was told is the layout's
+refusal-told : (answer : LayoutWhole) {why : Refusal} → sizeTold answer ≡ Refused why → answer ≡ whole.Refused why
+unfolding sizeTold
+refusal-told (whole.Is x) p = absurd (subst isSize p tt)
+refusal-told (whole.Refused why) p = ap (λ (x : Sized). whole.Refused (reasonIn why x)) p
+
+-- and a layout of which a size was told is not refused
+size-given : {answer : LayoutWhole} {size : ℕ} {why : Refusal} → sizeTold answer ≡ Is size → answer ≡ whole.Refused why → ⊥
+unfolding sizeTold
+size-given p q = subst isSize (sym p ∙ ap sizeTold q) tt
+
+module _ {settings : Settings} {s rows attrs : List ℕ} {n : ℕ} {sizeOf : «Type» → Sized} {table : List ℕ} (w : Told settings s rows attrs n sizeOf n table)
+    {i : ℕ} (l : i < n) {row : Row} {b : Bool} (at : row ≡ rowAt rows i) (is : b ≡ isStructure (shapeOf (row .kind))) (t : b ≡ true)
+    {told : Sized} (p : told ≡ knownAt table i) where
+  layout-told : sizeTold (layoutAt settings s rows attrs n sizeOf i) ≡ told
+  layout-told = sym (w .each i l (structure-test rows i at is t)) ∙ sym p
+
+  pub layout-refused : {why : Refusal} → told ≡ Refused why → layoutAt settings s rows attrs n sizeOf i ≡ whole.Refused why
+  layout-refused q = refusal-told (layoutAt settings s rows attrs n sizeOf i) (layout-told ∙ q)
+
+  pub layout-given : {size : ℕ} {answer : LayoutWhole} {why : Refusal} → told ≡ Is size → answer ≡ layoutAt settings s rows attrs n sizeOf i → answer ≡ whole.Refused why → ⊥
+  layout-given q a r = size-given (layout-told ∙ q) (sym a ∙ r)
+
+pub refused-asked : {s rows : List ℕ} {n i : ℕ} {counts : LayoutCounts} → CountAsked s rows n i counts → OneMore counts 0
+refused-asked {s} {rows} {n} {i} {counts} w =
+    let there : i < n = w .asked .asked .there in
+    let rows-few : n ≤ entryLimit = w .asked .asked .table .few in
+    let small : counts .structures ≤ i = w .few-structures in
+    let fewer : counts .members ≤ i * entryLimit = w .few-members in
+    record { structures-small = omega arith; members-small = omega arith }
+
+-- ---- row after row
+
+kept-append : (b : Bool) (x : Structure) (xs : List Structure) → alsoIf b x [] ++ xs ≡ alsoIf b x xs
+unfolding alsoIf
+kept-append true x xs = refl
+kept-append false x xs = refl
+
+module _ (settings : Settings) (s rows attrs : List ℕ) (n : ℕ) (sizeOf : «Type» → Sized) where
+  -- the structures from row i on
+  abbrev left : ℕ → List Structure
+  left i = structuresFrom settings s rows attrs n sizeOf i (n - i)
+
+  left-next : (i : ℕ) → i < n → rowStructures settings s rows attrs n sizeOf i ++ left (i + 1) ≡ left i
+  unfolding structuresFrom rowStructures
+  left-next i l =
+      let down : n - i ≡ suc (n - (i + 1)) = omega arith in
+      let up : i + 1 ≡ suc i = omega arith in
+      kept-append (isStructure (shapeOf (rowAt rows i .kind))) (structureAt settings s rows attrs n sizeOf i) (left (i + 1))
+      ∙ ap (λ (k : ℕ). alsoIf (isStructure (shapeOf (rowAt rows i .kind))) (structureAt settings s rows attrs n sizeOf i)
+      (structuresFrom settings s rows attrs n sizeOf k (n - (i + 1)))) up
+      ∙ ap (structuresFrom settings s rows attrs n sizeOf i) (sym down)
+
+  left-none : (i : ℕ) → n ≤ i → left i ≡ []
+  unfolding structuresFrom
+  left-none i h =
+      let down : n - i ≡ 0 = omega arith in
+      ap (structuresFrom settings s rows attrs n sizeOf i) down
+
+  left-all : left 0 ≡ structuresFrom settings s rows attrs n sizeOf 0 n
+  left-all =
+      let whole : n - 0 ≡ n = omega arith in
+      ap (structuresFrom settings s rows attrs n sizeOf 0) whole
+
+  row-few : (i : ℕ) → length (rowStructures settings s rows attrs n sizeOf i) ≤ 1
+  unfolding rowStructures alsoIf
+  row-few i = cond-all (λ (xs : List Structure). length xs ≤ 1) (isStructure (shapeOf (rowAt rows i .kind))) (λ t. omega arith) (λ t. omega arith)
+
+  row-members-few : (i : ℕ) → memberCount (rowStructures settings s rows attrs n sizeOf i) ≤ n
+  unfolding rowStructures alsoIf memberCount structureAt
+  row-members-few i =
+      let few : length (laidOf (rowLay settings s rows attrs n sizeOf i)) ≤ n = few-row settings s rows attrs n sizeOf i in
+      cond-all (λ (xs : List Structure). memberCount xs ≤ n) (isStructure (shapeOf (rowAt rows i .kind))) (λ t. omega arith) (λ t. omega arith)
+
+-- what was counted before row i, and what is left, come to the whole
+pub record Counting (settings : Settings) (s rows attrs : List ℕ) (n : ℕ) (sizeOf : «Type» → Sized) (counts : LayoutCounts) (i : ℕ) : Type 0 where
+  pub ready : Ready s rows n
+  pub within : i ≤ n
+  pub few-structures : counts .structures ≤ i
+  pub few-members : counts .members ≤ i * entryLimit
+  pub on : countedWith counts (structuresFrom settings s rows attrs n sizeOf i (n - i)) ≡ countsOf (structuresFrom settings s rows attrs n sizeOf 0 n)
+
+module _ {settings : Settings} {s rows attrs : List ℕ} {n : ℕ} (ready : Ready s rows n) (sizeOf : «Type» → Sized) where
+  pub counting-begins : Counting settings s rows attrs n sizeOf (counting 0 0) 0
+  counting-begins =
+      record {
+        ready = ready;
+        within = omega arith;
+        few-structures = omega arith;
+        few-members = omega arith;
+        on = ap (countedWith (counting 0 0)) (left-all settings s rows attrs n sizeOf) ∙ counted-all (structuresFrom settings s rows attrs n sizeOf 0 n);
+      }
+
+module _ {settings : Settings} {s rows attrs : List ℕ} {n : ℕ} {sizeOf : «Type» → Sized} {counts : LayoutCounts} {i : ℕ}
+    (w : Counting settings s rows attrs n sizeOf counts i) where
+  pub counting-asked : i < n → CountAsked s rows n i counts
+  counting-asked l =
+      record {
+        asked = record { asked = record { table = w .ready .table; there = l }; short = w .ready .short };
+        few-structures = w .few-structures;
+        few-members = w .few-members;
+      }
+
+  pub counting-on : i < n → {counts′ : LayoutCounts} → counts′ ≡ countedWith counts (rowStructures settings s rows attrs n sizeOf i)
+      → Counting settings s rows attrs n sizeOf counts′ (i + 1)
+  unfolding countedWith
+  counting-on l {counts′} q =
+      let one : length (rowStructures settings s rows attrs n sizeOf i) ≤ 1 = row-few settings s rows attrs n sizeOf i in
+      let few : memberCount (rowStructures settings s rows attrs n sizeOf i) ≤ n = row-members-few settings s rows attrs n sizeOf i in
+      let many : n ≤ entryLimit = w .ready .table .few in
+      let structures-are : counts′ .structures ≡ counts .structures + length (rowStructures settings s rows attrs n sizeOf i) = ap (λ (c : LayoutCounts). c .structures) q in
+      let members-are : counts′ .members ≡ counts .members + memberCount (rowStructures settings s rows attrs n sizeOf i) = ap (λ (c : LayoutCounts). c .members) q in
+      record {
+        ready = w .ready;
+        within = omega arith;
+        few-structures = omega (arith, w .few-structures);
+        few-members = omega (arith, w .few-members);
+        on =
+            ap (λ (c : LayoutCounts). countedWith c (structuresFrom settings s rows attrs n sizeOf (i + 1) (n - (i + 1)))) q
+            ∙ counted-append counts (rowStructures settings s rows attrs n sizeOf i) (structuresFrom settings s rows attrs n sizeOf (i + 1) (n - (i + 1)))
+            ∙ ap (countedWith counts) (left-next settings s rows attrs n sizeOf i l)
+            ∙ w .on;
+      }
+
+  pub counting-ends : n ≤ i → counts ≡ countsOf (structuresFrom settings s rows attrs n sizeOf 0 n)
+  counting-ends h = counted-none counts ∙ ap (countedWith counts) (sym (left-none settings s rows attrs n sizeOf i h)) ∙ w .on
+
+-- ---- what was told, row after row
+
+module _ (settings : Settings) (s rows attrs : List ℕ) (n : ℕ) (sizeOf : «Type» → Sized) where
+  pub told-none : {told : List ℕ} → n * knownWidth ≤ length told → Told settings s rows attrs n sizeOf 0 told
+  told-none h = record { fits = h; each = λ i l t. absurd (omega (arith, l)) }
+
+  pub told-more : {told told′ : List ℕ} {counts counts′ : LayoutCounts} {k : ℕ} → Told settings s rows attrs n sizeOf k told
+      → RowCounted settings s rows attrs n sizeOf k counts counts′ told told′ → Told settings s rows attrs n sizeOf (k + 1) told′
+  told-more {told} {told′} {k = k} w g =
+      record {
+        fits = omega (arith, w .fits, g .same-long);
+        each = λ i l. elim (decLe k i) [
+          | yes h ↦ let same : k ≡ i = omega arith in
+              subst (λ (j : ℕ). isStructure (shapeOf (rowAt rows j .kind)) ≡ true → knownAt told′ j ≡ sizeTold (layoutAt settings s rows attrs n sizeOf j)) same (g .told-is)
+          | no h ↦ λ t. g .others i (λ z. omega (arith, z)) ∙ w .each i (omega arith) t
+        ];
+      }
+
+  pub told-all : {told : List ℕ} {k : ℕ} → Told settings s rows attrs n sizeOf k told → n ≤ k → Told settings s rows attrs n sizeOf n told
+  told-all w h = record { fits = w .fits; each = λ i l. w .each i (omega arith) }
+
+-- what was given before row i, and what is left, come to the whole
+pub record Putting (settings : Settings) (s rows attrs : List ℕ) (n : ℕ) (sizeOf : «Type» → Sized) (structures₀ members₀ structures room : List ℕ)
+    (counts : LayoutCounts) (i : ℕ) : Type 0 where
+  pub counted : Counting settings s rows attrs n sizeOf counts i
+  pub fits : memberCount (structuresFrom settings s rows attrs n sizeOf 0 n) * laidWidth ≤ length members₀
+  pub same-structures : length structures ≡ length structures₀
+  pub same-members : length room ≡ length members₀
+  pub structures-on : sets structures (counts .structures * structureWidth) (structureWords (counts .members) (structuresFrom settings s rows attrs n sizeOf i (n - i)))
+      ≡ sets structures₀ 0 (structureWords 0 (structuresFrom settings s rows attrs n sizeOf 0 n))
+  pub members-on : sets room (counts .members * laidWidth) (memberWords (structuresFrom settings s rows attrs n sizeOf i (n - i)))
+      ≡ sets members₀ 0 (memberWords (structuresFrom settings s rows attrs n sizeOf 0 n))
+
+module _ {settings : Settings} {s rows attrs : List ℕ} {n : ℕ} (sizeOf : «Type» → Sized) {room : List ℕ}
+    (w : PutsAsked s rows n (structuresFrom settings s rows attrs n sizeOf 0 n) room) where
+  pub putting-begins : (structures : List ℕ) → Putting settings s rows attrs n sizeOf structures room structures room (counting 0 0) 0
+  putting-begins structures =
+      record {
+        counted = counting-begins (w .ready) sizeOf;
+        fits = w .fits;
+        same-structures = refl;
+        same-members = refl;
+        structures-on = ap (λ (xs : List Structure). sets structures 0 (structureWords 0 xs)) (left-all settings s rows attrs n sizeOf);
+        members-on = ap (λ (xs : List Structure). sets room 0 (memberWords xs)) (left-all settings s rows attrs n sizeOf);
+      }
+
+module _ {settings : Settings} {s rows attrs : List ℕ} {n : ℕ} {sizeOf : «Type» → Sized} {structures₀ members₀ structures room : List ℕ} {counts : LayoutCounts} {i : ℕ}
+    (w : Putting settings s rows attrs n sizeOf structures₀ members₀ structures room counts i) where
+  pub putting-asked : i < n → PutAsked s rows n i counts room
+  unfolding countedWith countsOf
+  putting-asked l =
+      let total : counts .members + memberCount (structuresFrom settings s rows attrs n sizeOf i (n - i)) ≡ memberCount (structuresFrom settings s rows attrs n sizeOf 0 n) =
+      ap (λ (c : LayoutCounts). c .members) (w .counted .on) in
+      record { counted = counting-asked (w .counted) l; begins = omega (arith, w .fits, w .same-members) }
+
+  module _ (l : i < n) {counts′ : LayoutCounts} {structures′ room′ : List ℕ}
+      (g : Puts (rowStructures settings s rows attrs n sizeOf i) counts counts′ structures structures′ room room′) where
+    abbrev xs : List Structure
+    xs = rowStructures settings s rows attrs n sizeOf i
+
+    abbrev rest : List Structure
+    rest = structuresFrom settings s rows attrs n sizeOf (i + 1) (n - (i + 1))
+
+    structures-next : sets structures′ (counts′ .structures * structureWidth) (structureWords (counts′ .members) rest)
+        ≡ sets structures (counts .structures * structureWidth) (structureWords (counts .members) (xs ++ rest))
+    unfolding countedWith
+    structures-next =
+        let long : length (structureWords (counts .members) xs) ≡ length xs * structureWidth = structure-long (counts .members) xs in
+        let at : (counts .structures + length xs) * structureWidth ≡ counts .structures * structureWidth + length (structureWords (counts .members) xs) = omega arith in
+        ap (λ (c : LayoutCounts). sets structures′ (c .structures * structureWidth) (structureWords (c .members) rest)) (g .counts-are)
+        ∙ ap (λ (k : ℕ). sets structures′ k (structureWords (counts .members + memberCount xs) rest)) at
+        ∙ ap (λ (t : List ℕ). sets t (counts .structures * structureWidth + length (structureWords (counts .members) xs)) (structureWords (counts .members + memberCount xs) rest))
+        (g .structures-are)
+        ∙ sym (sets-append structures (counts .structures * structureWidth) (structureWords (counts .members) xs) (structureWords (counts .members + memberCount xs) rest))
+        ∙ ap (sets structures (counts .structures * structureWidth)) (sym (structure-append (counts .members) xs rest))
+
+    members-next : sets room′ (counts′ .members * laidWidth) (memberWords rest) ≡ sets room (counts .members * laidWidth) (memberWords (xs ++ rest))
+    unfolding countedWith
+    members-next =
+        let long : length (memberWords xs) ≡ memberCount xs * laidWidth = member-long xs in
+        let at : (counts .members + memberCount xs) * laidWidth ≡ counts .members * laidWidth + length (memberWords xs) = omega arith in
+        ap (λ (c : LayoutCounts). sets room′ (c .members * laidWidth) (memberWords rest)) (g .counts-are)
+        ∙ ap (λ (k : ℕ). sets room′ k (memberWords rest)) at
+        ∙ ap (λ (t : List ℕ). sets t (counts .members * laidWidth + length (memberWords xs)) (memberWords rest)) (g .members-are)
+        ∙ sym (sets-append room (counts .members * laidWidth) (memberWords xs) (memberWords rest))
+        ∙ ap (sets room (counts .members * laidWidth)) (sym (member-append xs rest))
+
+    pub putting-on : Putting settings s rows attrs n sizeOf structures₀ members₀ structures′ room′ counts′ (i + 1)
+    putting-on =
+        record {
+          counted = counting-on (w .counted) l (g .counts-are);
+          fits = w .fits;
+          same-structures =
+              ap length (g .structures-are) ∙ length-sets structures (counts .structures * structureWidth) (structureWords (counts .members) xs) ∙ w .same-structures;
+          same-members = ap length (g .members-are) ∙ length-sets room (counts .members * laidWidth) (memberWords xs) ∙ w .same-members;
+          structures-on =
+              structures-next
+              ∙ ap (λ (ys : List Structure). sets structures (counts .structures * structureWidth) (structureWords (counts .members) ys)) (left-next settings s rows attrs n sizeOf i l)
+              ∙ w .structures-on;
+          members-on =
+              members-next
+              ∙ ap (λ (ys : List Structure). sets room (counts .members * laidWidth) (memberWords ys)) (left-next settings s rows attrs n sizeOf i l)
+              ∙ w .members-on;
+        }
+
+  pub putting-ends : n ≤ i → PutAll (structuresFrom settings s rows attrs n sizeOf 0 n) structures₀ structures members₀ room
+  unfolding structureWords memberWords
+  putting-ends h =
+      record {
+        structures-are =
+            ap (λ (ys : List Structure). sets structures (counts .structures * structureWidth) (structureWords (counts .members) ys)) (sym (left-none settings s rows attrs n sizeOf i h))
+            ∙ w .structures-on;
+        members-are =
+            ap (λ (ys : List Structure). sets room (counts .members * laidWidth) (memberWords ys)) (sym (left-none settings s rows attrs n sizeOf i h)) ∙ w .members-on;
+      }
+
+-- ---- into lent rooms
+
+given-as : {o : Outcomes AllLayouts ℕ ℕ} {r : AllLayouts} {structures room : List ℕ} → outcomes r structures room ≡ o → BothGiven o r structures room
+given-as p =
+    record {
+      answer-is = ap (λ (x : Outcomes AllLayouts ℕ ℕ). x .answer) p;
+      first-is = ap (λ (x : Outcomes AllLayouts ℕ ℕ). x .first) p;
+      second-is = ap (λ (x : Outcomes AllLayouts ℕ ℕ). x .second) p;
+    }
+
+module _ (xs : List Structure) {needed : LayoutCounts} (is : needed ≡ countsOf xs) where
+  needed-structures : needed .structures ≡ length xs
+  unfolding countsOf
+  needed-structures = ap (λ (c : LayoutCounts). c .structures) is
+
+  needed-members : needed .members ≡ memberCount xs
+  unfolding countsOf
+  needed-members = ap (λ (c : LayoutCounts). c .members) is
+
+  pub rooms-asked : (room : List ℕ) {s rows : List ℕ} {n : ℕ} → Ready s rows n → needed .members ≤ length room / laidWidth → PutsAsked s rows n xs room
+  rooms-asked room w h =
+      let many : needed .members ≡ memberCount xs = needed-members in
+      record { ready = w; fits = omega arith }
+
+  module _ (structures room : List ℕ) where
+    pub rooms-unlisted : length structures / structureWidth < needed .structures → BothGiven (intoRooms structures room xs) (all.Room needed) structures room
+    unfolding intoRooms
+    rooms-unlisted h =
+        let many : needed .structures ≡ length xs = needed-structures in
+        let test : leb (length xs) (length structures / structureWidth) ≡ false = lt-leb (length xs) (length structures / structureWidth) (omega arith) in
+        given-as (ap (λ (c : LayoutCounts). outcomes (all.Room c) structures room) is ∙ sym (rw test))
+
+    module _ (h : needed .structures ≤ length structures / structureWidth) where
+      listed : leb (length xs) (length structures / structureWidth) ≡ true
+      listed =
+          let many : needed .structures ≡ length xs = needed-structures in
+          le-leb (length xs) (length structures / structureWidth) (omega arith)
+
+      pub rooms-unfit : length room / laidWidth < needed .members → BothGiven (intoRooms structures room xs) (all.Room needed) structures room
+      unfolding intoRooms
+      rooms-unfit l =
+          let many : needed .members ≡ memberCount xs = needed-members in
+          let test : leb (memberCount xs) (length room / laidWidth) ≡ false = lt-leb (memberCount xs) (length room / laidWidth) (omega arith) in
+          given-as (ap (λ (c : LayoutCounts). outcomes (all.Room c) structures room) is ∙ sym (rw (listed, test)))
+
+      pub rooms-filled : needed .members ≤ length room / laidWidth → {structures′ room′ : List ℕ} → PutAll xs structures structures′ room room′
+          → BothGiven (intoRooms structures room xs) (all.Are needed) structures′ room′
+      unfolding intoRooms
+      rooms-filled l {structures′} {room′} g =
+          let many : needed .members ≡ memberCount xs = needed-members in
+          let test : leb (memberCount xs) (length room / laidWidth) ≡ true = le-leb (memberCount xs) (length room / laidWidth) (omega arith) in
+          given-as
+          (ap (λ (c : LayoutCounts). outcomes (all.Are c) structures′ room′) is
+          ∙ ap₂ (outcomes (all.Are (countsOf xs))) (g .structures-are) (g .members-are)
+          ∙ sym (rw (listed, test)))
+
+-- ---- the sizes of all rows are known
+
+pub all-known : (settings : Settings) (sizes s rows attrs : List ℕ) (n : ℕ) → Ready s rows n → (known : List ℕ)
+    → Filled (sizeLeft settings sizes s rows attrs n deepest) n n known → 0 < length known → (structures room : List ℕ) {structures′ room′ : List ℕ} {r : AllLayouts}
+    → BothGiven (intoRooms structures room (structuresFrom settings s rows attrs n (typeFrom settings sizes s rows attrs n known 0) 0 n)) r structures′ room′
+    → BothGiven (intoRooms structures room (structuresFrom settings s rows attrs n (typeSize settings sizes s rows attrs n deepest) 0 n)) r structures′ room′
+all-known settings sizes s rows attrs n ready known w some structures room {structures′} {room′} {r} g =
+    subst (λ (sizeOf : «Type» → Sized). BothGiven (intoRooms structures room (structuresFrom settings s rows attrs n sizeOf 0 n)) r structures′ room′)
+    (known-types settings sizes s rows attrs n ready deepest w some 0) g
+
+module _ {settings : Settings} {vendors sizes s rows attrs : List ℕ} {counts : Counts} {told : Check} (is : Tells settings vendors sizes s rows attrs counts told)
+    (structures room : List ℕ) where
+  pub all-passed : told ≡ check.Passed → {structures′ room′ : List ℕ} {r : AllLayouts}
+      → BothGiven (intoRooms structures room (structuresFrom settings s rows attrs (counts .rows) (typeSize settings sizes s rows attrs (counts .rows) deepest) 0 (counts .rows)))
+      r structures′ room′
+      → BothGiven (allOf settings vendors sizes s rows attrs counts structures room) r structures′ room′
+  unfolding allOf
+  all-passed p {structures′} {room′} {r} g = subst (λ (o : Outcomes AllLayouts ℕ ℕ). BothGiven o r structures′ room′) (passed-answer _ _ is p) g
+
+  pub all-refused : {why : Refusal} → told ≡ check.Refused why
+      → BothGiven (allOf settings vendors sizes s rows attrs counts structures room) (all.Refused why) structures room
+  unfolding allOf
+  all-refused p = given-as (refused-answer (λ why. outcomes (all.Refused why) structures room) _ is p)
+
+-- ---- the words of a structure
+
+pub eight-put : (t : List ℕ) (at a b d e f g : ℕ) (name : Name) {place long : ℕ} {t₁ t₂ t₃ t₄ t₅ t₆ t₇ t₈ : List ℕ} → t₁ ≡ set t at a → t₂ ≡ set t₁ (at + 1) b
+    → t₃ ≡ set t₂ (at + 2) d → t₄ ≡ set t₃ (at + 3) e → t₅ ≡ set t₄ (at + 4) f → t₆ ≡ set t₅ (at + 5) g → place ≡ namePlace name → t₇ ≡ set t₆ (at + 6) place
+    → long ≡ nameLength name → t₈ ≡ set t₇ (at + 7) long → t₈ ≡ sets t at (eightWords a b d e f g name)
+unfolding eightWords
+eight-put t at a b d e f g name p q r u v w x y z o =
+    let one : at + 1 ≡ suc at = omega arith in
+    let two : at + 2 ≡ suc (suc at) = omega arith in
+    let three : at + 3 ≡ suc (suc (suc at)) = omega arith in
+    let four : at + 4 ≡ suc (suc (suc (suc at))) = omega arith in
+    let five : at + 5 ≡ suc (suc (suc (suc (suc at)))) = omega arith in
+    let six : at + 6 ≡ suc (suc (suc (suc (suc (suc at))))) = omega arith in
+    let seven : at + 7 ≡ suc (suc (suc (suc (suc (suc (suc at)))))) = omega arith in
+    o ∙ rw (y, w, v, u, r, q, p, x, z, one, two, three, four, five, six, seven)
+
+pub eight-out : (t : List ℕ) (k a b d e f g : ℕ) (name : Name) → length t ≤ k → t ≡ sets t (k * structureWidth) (eightWords a b d e f g name)
+eight-out t k a b d e f g name h = sym (sets-out t (k * structureWidth) (eightWords a b d e f g name) (omega arith))

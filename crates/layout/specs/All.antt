@@ -1,0 +1,107 @@
+-- Every structure's and class's layout of a table, in file order, each as `Layout` has it for its key. One that is refused says so, and the rest go on:
+-- only 1, 2, 3 and 8 refuse the call.
+use Prim.Native.Nat.{ℕ, zero, suc, _+_, _-_, _/_}
+use mathlib.Core.Bool.{Bool, cond, _&&_}
+use mathlib.Core.List.{List, [], _∷_, _++_}
+use lib.ListN.{length}
+use lib.Seq.{sets}
+use lib.Dec.{leb}
+use Rattle.lent.specs.Outcome.{Outcomes, outcomes}
+use Rattle.format.specs.AttributeKind as attribute
+use Rattle.format.specs.Limits.{depthLimit}
+use Rattle.format.specs.Refusal.{numberOf}
+use Rattle.format.specs.declared.settings.Settings.{Settings}
+use Rattle.blocks.specs.declared.types.Type.{«Type»}
+use Rattle.tables.specs.Row.{rowAt}
+use Rattle.tables.specs.Check.{tested}
+use Rattle.tables.specs.declared.row.Counts.{Counts}
+use Rattle.records.specs.Scan.{runOf}
+use Rattle.records.specs.Fields.{nameOf}
+use Rattle.records.specs.MemberWords.{namePlace, nameLength}
+use Rattle.records.specs.declared.fields.Name.{Name}
+use Rattle.sizes.specs.Size.{shapeOf, typeSize}
+use Rattle.layout.specs.Layout.{Laid, Lay, laid, unlaid, rowLay, layoutAt, laidWords, laidWidth}
+use Rattle.sizes.specs.Size.{isStructure}
+use Rattle.sizes.specs.declared.sized.Sized.{Sized}
+use Rattle.layout.specs.declared.one.LayoutWhole.{LayoutWhole}
+use Rattle.layout.specs.declared.one.LayoutWhole.the-variants as whole
+use Rattle.layout.specs.declared.all.LayoutCounts.{LayoutCounts}
+use Rattle.layout.specs.declared.all.AllLayouts.{AllLayouts}
+use Rattle.layout.specs.declared.all.AllLayouts.the-variants as all
+
+-- a structure or class: its row and name, its layout or refusal, and its members, none where it is refused
+pub record Structure : Type 0 where
+  pub row : ℕ
+  pub name : Name
+  pub answer : LayoutWhole
+  pub members : List Laid
+
+-- the members that were laid
+unfoldable pub laidOf : Lay → List Laid
+laidOf (laid xs largest) = xs
+laidOf (unlaid why) = []
+
+-- a structure before the others, if it is to stand among them
+unfoldable pub alsoIf : Bool → Structure → List Structure → List Structure
+alsoIf kept x xs = cond kept (x ∷ xs) xs
+
+module _ (settings : Settings) (s rows attrs : List ℕ) (n : ℕ) (sizeOf : «Type» → Sized) where
+  -- what is said of row i; its name is its last, as a record's is
+  unfoldable pub structureAt : ℕ → Structure
+  structureAt i =
+      record {
+        row = i;
+        name = nameOf s attrs (runOf (settings .endian) rows i) attribute.Name;
+        answer = layoutAt settings s rows attrs n sizeOf i;
+        members = laidOf (rowLay settings s rows attrs n sizeOf i);
+      }
+
+  -- the structures and classes among so many rows from row i on
+  unfoldable pub structuresFrom : ℕ → ℕ → List Structure
+  structuresFrom i zero = []
+  structuresFrom i (suc left) = alsoIf (isStructure (shapeOf (rowAt rows i .kind))) (structureAt i) (structuresFrom (suc i) left)
+
+-- ---- into lent rooms: 8 last, with the counts
+
+-- eight words for each: its row; 0, its size and 0, or a refusal's number, 0 and its place; the first of its members, and how many; its name's bytes in the
+-- section
+unfoldable pub answerWords : ℕ → Name → ℕ → LayoutWhole → List ℕ
+answerWords row name first (whole.Is x) = row ∷ 0 ∷ x .size ∷ 0 ∷ first ∷ x .members ∷ namePlace name ∷ nameLength name ∷ []
+answerWords row name first (whole.Refused why) = row ∷ numberOf (why .reason) ∷ 0 ∷ why .place ∷ first ∷ 0 ∷ namePlace name ∷ nameLength name ∷ []
+
+-- so many words
+abbrev pub structureWidth : ℕ
+structureWidth = 8
+
+-- structures one after the other; members are numbered through all of them, those of the first structure from `first` on
+unfoldable pub structureWords : ℕ → List Structure → List ℕ
+structureWords first [] = []
+structureWords first (x ∷ xs) = answerWords (x .row) (x .name) first (x .answer) ++ structureWords (first + length (x .members)) xs
+
+-- the members of all, one after the other, in the words of a single layout
+unfoldable pub memberWords : List Structure → List ℕ
+memberWords [] = []
+memberWords (x ∷ xs) = laidWords (x .members) ++ memberWords xs
+
+-- how many members all have together
+unfoldable pub memberCount : List Structure → ℕ
+memberCount [] = 0
+memberCount (x ∷ xs) = length (x .members) + memberCount xs
+
+-- the counts of the answer: structures, those that are refused too, and members
+unfoldable pub countsOf : List Structure → LayoutCounts
+countsOf xs = record { structures = length xs; members = memberCount xs }
+
+-- 8, with both counts, where either room is too short: nothing is written in either
+unfoldable pub intoRooms : List ℕ → List ℕ → List Structure → Outcomes AllLayouts ℕ ℕ
+intoRooms structures members xs =
+    cond (leb (length xs) (length structures / structureWidth) && leb (memberCount xs) (length members / laidWidth))
+    (outcomes (all.Are (countsOf xs)) (sets structures 0 (structureWords 0 xs)) (sets members 0 (memberWords xs)))
+    (outcomes (all.Room (countsOf xs)) structures members)
+
+-- all layouts of a table; each structure is depth 1: the entries that its members name are depth 2
+unfoldable pub allOf : Settings → List ℕ → List ℕ → List ℕ → List ℕ → List ℕ → Counts → List ℕ → List ℕ → Outcomes AllLayouts ℕ ℕ
+allOf settings vendors sizes s rows attrs counts structures members =
+    tested settings vendors sizes s rows attrs counts (λ why. outcomes (all.Refused why) structures members)
+    (intoRooms structures members
+    (structuresFrom settings s rows attrs (counts .rows) (typeSize settings sizes s rows attrs (counts .rows) (depthLimit - 1)) 0 (counts .rows)))
