@@ -1,5 +1,5 @@
 -- What the blocks of a section say (document 01, 'Types, records, sizes'): `Location` (atoms and the shapes that are taken), `Modifiers`, `Types` (the
--- four type attributes), `Subscript` (one subscript), `Subscripts` (a block of them), `Producer`. `Filled` is what a room of dimensions holds;
+-- four type attributes), `Subscript` (one subscript), `Subscripts` (a block of them), `Producer`;
 -- `Standard` is how the standard writes locations.
 pub mod Location
 pub mod Modifiers
@@ -7,7 +7,6 @@ pub mod Producer
 pub mod Types
 pub mod Subscript
 pub mod Subscripts
-pub mod Filled
 pub mod Standard
 -- What functions inside promise. Nothing public rests on it.
 pub mod Inside

@@ -2,7 +2,8 @@
 use Prim.Native.Nat.{ℕ, _-_, _*_, _<_}
 use mathlib.Core.Path.{_≡_}
 use mathlib.Core.List.{List}
-use lib.ListN.{length, take, drop}
+use lib.ListN.{length}
+use Rattle.lent.specs.Filled.{Filled}
 use Rattle.format.specs.declared.settings.Settings.{Settings}
 use Rattle.blocks.specs.declared.types.Type.{«Type»}
 use Rattle.tables.specs.Row.{rowAt}
@@ -12,7 +13,7 @@ use Rattle.layout.specs.declared.one.Layout.{Layout}
 use Rattle.layout.specs.declared.one.LayoutWhole.the-variants as whole
 
 -- the layout of a key, and the room after it was given
-pub record Filled (settings : Settings) (s rows attrs : List ℕ) (n : ℕ) (sizeOf : «Type» → Sized) (key : ℕ) (x : Layout) (room room′ : List ℕ) : Type 0 where
+pub record LayoutFilled (settings : Settings) (s rows attrs : List ℕ) (n : ℕ) (sizeOf : «Type» → Sized) (key : ℕ) (x : Layout) (room room′ : List ℕ) : Type 0 where
   pub there : x .row < n
   pub key-is : rowAt rows (x .row) .key ≡ key
   pub layout-is : layoutAt settings s rows attrs n sizeOf (x .row) ≡ whole.Is x
@@ -21,5 +22,4 @@ pub record Filled (settings : Settings) (s rows attrs : List ℕ) (n : ℕ) (siz
   pub largest : ℕ
   pub are : rowLay settings s rows attrs n sizeOf (x .row) ≡ laid list largest
   pub many : length list ≡ x .members
-  pub front : take (x .members * laidWidth) room′ ≡ laidWords list
-  pub behind : drop (x .members * laidWidth) room′ ≡ drop (x .members * laidWidth) room
+  pub filled : Filled (laidWords list) (x .members * laidWidth) room room′

@@ -2,8 +2,9 @@
 use Prim.Native.Nat.{ℕ, _*_}
 use mathlib.Core.Path.{_≡_}
 use mathlib.Core.List.{List}
-use lib.ListN.{length, take, drop}
+use lib.ListN.{length}
 use lib.IntN.{ℤ}
+use Rattle.lent.specs.Filled.{Filled}
 use Rattle.format.specs.declared.settings.Settings.{Settings}
 use Rattle.tables.specs.declared.row.Counts.{Counts}
 use Rattle.links.specs.Typed.{inRow}
@@ -14,11 +15,9 @@ use Rattle.records.specs.declared.enumeration.Enumeration.{Enumeration}
 
 module _ (settings : Settings) (vendors sizes s rows attrs : List ℕ) (counts : Counts) (key : ℕ) (values : List ℤ) (names : List ℕ) where
   -- the key's row i lists xs, e's members; they stand at the beginning of the rooms, in the producer's order
-  pub record Filled (e : Enumeration) (values′ : List ℤ) (names′ : List ℕ) (i : ℕ) (xs : List Listed) : Type 0 where
+  pub record EnumerationFilled (e : Enumeration) (values′ : List ℤ) (names′ : List ℕ) (i : ℕ) (xs : List Listed) : Type 0 where
     pub row : inRow settings vendors sizes s rows attrs counts key keyed.Refused keyed.Row ≡ keyed.Row i
     pub lists : rowLists settings s rows attrs (counts .rows) i ≡ listed xs
     pub many : length xs ≡ e .members
-    pub values-front : take (e .members) values′ ≡ valuesOf (inOrder (settings .producer) xs)
-    pub values-behind : drop (e .members) values′ ≡ drop (e .members) values
-    pub names-front : take (e .members * 2) names′ ≡ namesOf (inOrder (settings .producer) xs)
-    pub names-behind : drop (e .members * 2) names′ ≡ drop (e .members * 2) names
+    pub values-filled : Filled (valuesOf (inOrder (settings .producer) xs)) (e .members) values values′
+    pub names-filled : Filled (namesOf (inOrder (settings .producer) xs)) (e .members * 2) names names′

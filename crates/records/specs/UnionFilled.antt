@@ -2,7 +2,8 @@
 use Prim.Native.Nat.{ℕ, _*_, _<_}
 use mathlib.Core.Path.{_≡_}
 use mathlib.Core.List.{List}
-use lib.ListN.{length, take, drop}
+use lib.ListN.{length}
+use Rattle.lent.specs.Filled.{Filled}
 use Rattle.format.specs.declared.settings.Settings.{Settings}
 use Rattle.tables.specs.Row.{rowAt}
 use Rattle.records.specs.MemberWords.{memberWidth}
@@ -11,7 +12,7 @@ use Rattle.records.specs.declared.unions.Union.{Union}
 use Rattle.records.specs.declared.unions.UnionWhole.the-variants as whole
 
 -- the union of a key, and the room after it was read
-pub record Filled (settings : Settings) (s rows attrs : List ℕ) (n key : ℕ) (u : Union) (room room′ : List ℕ) : Type 0 where
+pub record UnionFilled (settings : Settings) (s rows attrs : List ℕ) (n key : ℕ) (u : Union) (room room′ : List ℕ) : Type 0 where
   pub row : ℕ
   pub there : row < n
   pub key-is : rowAt rows row .key ≡ key
@@ -20,5 +21,4 @@ pub record Filled (settings : Settings) (s rows attrs : List ℕ) (n key : ℕ) 
   pub list : List Placed
   pub are : rowMembers settings s rows attrs n row ≡ members list
   pub many : length list ≡ u .members
-  pub front : take (u .members * memberWidth) room′ ≡ membersWords list
-  pub behind : drop (u .members * memberWidth) room′ ≡ drop (u .members * memberWidth) room
+  pub filled : Filled (membersWords list) (u .members * memberWidth) room room′

@@ -1,13 +1,14 @@
 -- The words of the dimensions are complete: two for each that is counted. So the room that was lent holds exactly them, and behind them what it held before.
 use Prim.Native.Nat.{ℕ, zero, suc, _+_, _*_, _/_, _≤_}
 use native.Mathlib.Omega.{arith}
-use mathlib.Core.Path.{_≡_, refl, sym, ap, subst, _∙_}
+use mathlib.Core.Path.{_≡_, refl, sym, subst}
 use mathlib.Core.Bool.{true, false}
-use mathlib.Core.List.{List, [], _∷_, _++_}
-use lib.ListN.{length, take, drop}
-use lib.Seq.{sets, sets-eq, take-at, drop-at}
+use mathlib.Core.List.{List, [], _∷_}
+use lib.ListN.{length, drop}
 use lib.Dec.{eqb, leb}
 use borrow.Author.Tests.{leb-true}
+use Rattle.lent.specs.Filled.{Filled}
+use Rattle.lent.proofs.Laws.Filled.{sets-filled}
 use Rattle.lent.specs.Outcome.{Outcome, Given}
 use Rattle.numbers.proofs.Laws.Tests.{cond-all}
 use Rattle.numbers.specs.declared.Endian.{Endian}
@@ -22,7 +23,6 @@ use Rattle.blocks.specs.declared.subscripts.Counted.{Counted}
 use Rattle.blocks.specs.declared.subscripts.Counted.the-variants as counted
 use Rattle.blocks.specs.declared.subscripts.Subscripts.{Subscripts}
 use Rattle.blocks.specs.declared.subscripts.Subscripts.the-variants as subscripts
-use Rattle.blocks.specs.Filled.{Filled}
 
 -- ---- two words for each dimension
 
@@ -75,34 +75,21 @@ words-many e block {t} {n} p =
 
 -- what is asked of an outcome: where all is read, the room is filled
 abbrev Told : List ℕ → List ℕ → List ℕ → Subscripts → Type 0
-Told words room room′ (subscripts.Read t n) = Filled words n room room′
+Told words room room′ (subscripts.Read t n) = Filled words (n * 2) room room′
 Told words room room′ (subscripts.Refused why) = Unit
 Told words room room′ (subscripts.Room n) = Unit
-
-stored-fill : (words room : List ℕ) (n : ℕ) → length words ≡ n * 2 → n * 2 ≤ length room → Filled words n room (sets room 0 words)
-stored-fill words room n p h =
-    let place : 0 + length words ≡ n * 2 = omega (arith, p) in
-    let stored : sets room 0 words ≡ words ++ drop (n * 2) room =
-    sets-eq words room 0 (omega (arith, place, h)) ∙ ap (λ (k : ℕ). words ++ drop k room) place
-    in
-    record {
-      many = p;
-      fits = h;
-      in-front = ap (take (n * 2)) stored ∙ take-at words (drop (n * 2) room) (n * 2) p;
-      behind = ap (drop (n * 2)) stored ∙ drop-at words (drop (n * 2) room) (n * 2) p;
-    }
 
 into-fills : (words room : List ℕ) (r : Counted) → ((t : «Type») (n : ℕ) → r ≡ counted.Are t n → length words ≡ n * 2)
     → Told words room (intoRoom words room r .room) (intoRoom words room r .answer)
 unfolding intoRoom
 into-fills words room (counted.Are t n) p =
     cond-all (λ (o : Outcome Subscripts ℕ). Told words room (o .room) (o .answer)) (leb n (length room / 2))
-    (λ h. let half : n ≤ length room / 2 = leb-true n (length room / 2) h in stored-fill words room n (p t n refl) (omega arith)) (λ h. tt)
+    (λ h. let half : n ≤ length room / 2 = leb-true n (length room / 2) h in sets-filled words (n * 2) room (p t n refl) (omega arith) refl) (λ h. tt)
 into-fills words room (counted.Refused why) p = tt
 
 -- the theorem of `subscripts::process_array_subscript_data`
 pub room-filled : (e : Endian) (block room : List ℕ) {t : «Type»} {n : ℕ} {room′ : List ℕ}
-    → Given (readSubscripts e block room) (subscripts.Read t n) room′ → Filled (wholeBlock e block .words) n room room′
+    → Given (readSubscripts e block room) (subscripts.Read t n) room′ → Filled (wholeBlock e block .words) (n * 2) room room′
 unfolding readSubscripts
 room-filled e block room {room′ = room′} p =
     subst (λ (o : Subscripts). Told (wholeBlock e block .words) room room′ o) (sym (p .answer-is))

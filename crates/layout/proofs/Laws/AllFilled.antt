@@ -8,9 +8,10 @@ use mathlib.Core.Path.{_≡_, refl, sym, ap, _∙_, subst}
 use mathlib.Core.Bool.{Bool, true, false, cond, _&&_}
 use mathlib.Core.List.{List, _∷_, _++_, append-assoc}
 use lib.ListN.{length, getD, take, drop, take-append-drop, List·getD-append}
-use lib.Seq.{sets, sets-eq, take-at, drop-at, getD-append-add}
+use lib.Seq.{sets, getD-append-add}
 use lib.Dec.{leb, ltb}
 use borrow.Author.Tests.{leb-true}
+use Rattle.lent.proofs.Laws.Filled.{sets-filled}
 use Rattle.lent.specs.Outcome.{Outcomes, outcomes, BothGiven}
 use Rattle.format.specs.Limits.{sectionLimit}
 use Rattle.format.specs.Settings.{settingsHold}
@@ -52,7 +53,7 @@ module _ {xs : List Structure} {many : LayoutCounts} {structures structures′ r
       let long : length (answerWords (x .row) (x .name) (memberCount before) (x .answer)) ≡ structureWidth = answer-long (x .row) (memberCount before) (x .name) (x .answer) in
       words-in structures′ (length xs * structureWidth) (structureWords 0 before) (answerWords (x .row) (x .name) (memberCount before) (x .answer))
       (structureWords (memberCount before + length (x .members)) after)
-      (f .structures-front ∙ ap (structureWords 0) these ∙ structure-append 0 before (x ∷ after)
+      (f .structures-filled .front ∙ ap (structureWords 0) these ∙ structure-append 0 before (x ∷ after)
       ∙ ap (λ (k : ℕ). structureWords 0 before ++ structureWords k (x ∷ after)) (zero-add (memberCount before)))
       (length before * structureWidth) (structure-long 0 before) j (omega arith)
 
@@ -62,7 +63,7 @@ module _ {xs : List Structure} {many : LayoutCounts} {structures structures′ r
   member-word j l =
       let long : length (laidWords (x .members)) ≡ length (x .members) * laidWidth = words-long (x .members) in
       words-in room′ (memberCount xs * laidWidth) (memberWords before) (laidWords (x .members)) (memberWords after)
-      (f .members-front ∙ ap memberWords these ∙ member-append before (x ∷ after)) (memberCount before * laidWidth) (member-long before) j (omega arith)
+      (f .members-filled .front ∙ ap memberWords these ∙ member-append before (x ∷ after)) (memberCount before * laidWidth) (member-long before) j (omega arith)
 
 -- ---- what the answer tells
 
@@ -109,18 +110,6 @@ module _ (structures room : List ℕ) where
 
 -- ---- what the rooms hold
 
-stored : (words room : List ℕ) (end : ℕ) → length words ≡ end → end ≤ length room → sets room 0 words ≡ words ++ drop end room
-stored words room end p h =
-    let at : 0 + length words ≡ end = omega arith in
-    sets-eq words room 0 (omega arith) ∙ ap (λ (k : ℕ). words ++ drop k room) at
-
-module _ (words room : List ℕ) (end : ℕ) {room′ : List ℕ} (long : length words ≡ end) (fits : end ≤ length room) (is : room′ ≡ sets room 0 words) where
-  at-front : take end room′ ≡ words
-  at-front = ap (take end) (is ∙ stored words room end long fits) ∙ take-at words (drop end room) end long
-
-  behind : drop end room′ ≡ drop end room
-  behind = ap (drop end) (is ∙ stored words room end long fits) ∙ drop-at words (drop end room) end long
-
 rooms-are : (structures room : List ℕ) (xs : List Structure) {many : LayoutCounts} {structures′ room′ : List ℕ} → BothFit structures room xs many
     → structures′ ≡ intoRooms structures room xs .first → room′ ≡ intoRooms structures room xs .second → AllFilled xs many structures structures′ room room′
 unfolding countsOf
@@ -135,10 +124,8 @@ rooms-are structures room xs {many} {structures′} {room′} w p q =
     let members-end : memberCount xs * laidWidth ≤ length room = omega arith in
     record {
       counts-are = w .counts-are;
-      structures-front = at-front (structureWords 0 xs) structures (length xs * structureWidth) (structure-long 0 xs) structures-end structures-there;
-      structures-behind = behind (structureWords 0 xs) structures (length xs * structureWidth) (structure-long 0 xs) structures-end structures-there;
-      members-front = at-front (memberWords xs) room (memberCount xs * laidWidth) (member-long xs) members-end members-there;
-      members-behind = behind (memberWords xs) room (memberCount xs * laidWidth) (member-long xs) members-end members-there;
+      structures-filled = sets-filled (structureWords 0 xs) (length xs * structureWidth) structures (structure-long 0 xs) structures-end structures-there;
+      members-filled = sets-filled (memberWords xs) (memberCount xs * laidWidth) room (member-long xs) members-end members-there;
     }
 
 -- ---- the theorem

@@ -23,7 +23,7 @@ use Rattle.records.specs.declared.fields.Word.the-variants as word
 use Rattle.sizes.specs.Size.{innerSize, sizeLimit, membersOf, memberSize, larger, endThen, shapeOf}
 use Rattle.layout.specs.Layout.{Laid, Lay, laid, unlaid, laidMember, andLaid, layThen, endOr, laidFrom, isBounded, sizeOrLargest, ownSize, membersLaid, shapeLaid, rowLay, layoutAt, laidWords, laidWidth, layoutOf}
 use Rattle.sizes.specs.Size.{isStructure}
-use Rattle.layout.specs.LayoutFilled.{Filled}
+use Rattle.layout.specs.LayoutFilled.{LayoutFilled}
 use Rattle.layout.proofs.Laws.LayoutFilled.{LaidAs, laid-as, layout-filled}
 use Rattle.sizes.specs.declared.prepare.Shape.{Shape}
 use Rattle.sizes.specs.declared.prepare.Shape.the-variants as shape
@@ -141,11 +141,11 @@ module _ (settings : Settings) (vendors sizes s rows attrs : List ℕ) (counts :
   pub given-inside : isBounded (ownSize settings s rows attrs (counts .rows) (innerSize settings sizes s rows attrs counts) (x .row)) ≡ false
       → (k : ℕ) → k < x .members → getD room′ (k * laidWidth) 0 + getD room′ (k * laidWidth + 1) 0 ≤ x .size
   given-inside unbounded k l =
-      let f : Filled settings s rows attrs (counts .rows) (innerSize settings sizes s rows attrs counts) key x room room′ = layout-filled settings vendors sizes s rows attrs counts key room g p in
+      let f : LayoutFilled settings s rows attrs (counts .rows) (innerSize settings sizes s rows attrs counts) key x room room′ = layout-filled settings vendors sizes s rows attrs counts key room g p in
       let many : length (f .list) ≡ x .members = f .many in
       let ends : Inside (x .size) (f .list) = layout-inside settings s rows attrs (counts .rows) (innerSize settings sizes s rows attrs counts) (x .row) unbounded (f .layout-is) (f .are) in
       let same : (j : ℕ) → j < x .members * laidWidth → getD (laidWords (f .list)) j 0 ≡ getD room′ j 0 =
-      λ j h. ap (λ (t : List ℕ). getD t j 0) (sym (f .front)) ∙ getD-take (x .members * laidWidth) room′ j 0 h in
+      λ j h. ap (λ (t : List ℕ). getD t j 0) (sym (f .filled .front)) ∙ getD-take (x .members * laidWidth) room′ j 0 h in
       let words : getD (laidWords (f .list)) (k * laidWidth) 0 + getD (laidWords (f .list)) (k * laidWidth + 1) 0 ≤ x .size =
       words-inside (x .size) (f .list) ends k (omega arith) in
       let first : getD (laidWords (f .list)) (k * laidWidth) 0 ≡ getD room′ (k * laidWidth) 0 = same (k * laidWidth) (omega arith) in

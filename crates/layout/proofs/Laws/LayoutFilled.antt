@@ -1,14 +1,15 @@
 -- Where a layout is given, it is that of the key's row, and its members are there: as many as it says, their words one after the other at the front of the room,
 -- and what lies behind is as it was.
-use Prim.Native.Nat.{ℕ, _+_, _-_, _*_, _/_, _≤_, _<_}
+use Prim.Native.Nat.{ℕ, _-_, _*_, _/_, _≤_, _<_}
 use native.Mathlib.Omega.{arith}
 use mathlib.Core.Path.{_≡_, refl, sym, ap, ap₂, _∙_, subst}
 use mathlib.Core.Bool.{Bool, true, false, cond}
-use mathlib.Core.List.{List, _++_}
-use lib.ListN.{length, take, drop}
-use lib.Seq.{sets-eq, take-at, drop-at}
+use mathlib.Core.List.{List}
+use lib.ListN.{length}
+use lib.Seq.{sets}
 use lib.Dec.{leb}
 use borrow.Author.Tests.{leb-true, le-leb}
+use Rattle.lent.proofs.Laws.Filled.{sets-filled}
 use Rattle.lent.specs.Outcome.{Outcome, Given, outcome}
 use Rattle.format.specs.declared.settings.Settings.{Settings}
 use Rattle.blocks.specs.declared.types.Type.{«Type»}
@@ -27,7 +28,7 @@ use Rattle.layout.specs.declared.one.LayoutWhole.{LayoutWhole}
 use Rattle.layout.specs.declared.one.LayoutWhole.the-variants as whole
 use Rattle.layout.specs.declared.one.LayoutRead.{LayoutRead}
 use Rattle.layout.specs.declared.one.LayoutRead.the-variants as layout
-use Rattle.layout.specs.LayoutFilled.{Filled}
+use Rattle.layout.specs.LayoutFilled.{LayoutFilled}
 
 -- ---- what a row's layout tells
 
@@ -103,16 +104,12 @@ module _ (room : List ℕ) {lay : Lay} {w : LayoutWhole} {x : Layout} (f : Fits 
   long : length (laidWords xs) ≡ x .members * laidWidth
   long = words-long xs ∙ ap (λ (k : ℕ). k * laidWidth) many
 
-  filled-room : intoRoom room lay w .room ≡ laidWords xs ++ drop (x .members * laidWidth) room
+  filled-room : intoRoom room lay w .room ≡ sets room 0 (laidWords xs)
   unfolding intoRoom layInto
   filled-room =
-      let much : length (laidWords xs) ≡ x .members * laidWidth = long in
       let enough : x .members ≤ length room / laidWidth = f .room-enough in
-      let at : 0 + length (laidWords xs) ≡ x .members * laidWidth = omega arith in
       ap₂ (λ (l : Lay) (y : LayoutWhole). intoRoom room l y .room) are (f .read)
       ∙ ap (λ (b : Bool). cond b (layInto room (laid xs largest) (layout.Is x)) (outcome (layout.Room (x .members)) room) .room) (le-leb (x .members) (length room / laidWidth) enough)
-      ∙ sets-eq (laidWords xs) room 0 (omega arith)
-      ∙ ap (λ (k : ℕ). laidWords xs ++ drop k room) at
 
 -- ---- the theorem
 
@@ -131,9 +128,10 @@ module _ (settings : Settings) (vendors sizes s rows attrs : List ℕ) (counts :
   there i = intoRoom room (lay i) (one i)
 
   row-filled : (i : ℕ) → keyed.Row i ≡ inRow settings vendors sizes s rows attrs counts key keyed.Refused keyed.Row → Fits room (lay i) (one i) x
-      → LaidAs settings s rows attrs (counts .rows) (innerSize settings sizes s rows attrs counts) i (lay i) x → room′ ≡ there i .room → Filled settings s rows attrs (counts .rows) (innerSize settings sizes s rows attrs counts) key x room room′
+      → LaidAs settings s rows attrs (counts .rows) (innerSize settings sizes s rows attrs counts) i (lay i) x → room′ ≡ there i .room → LayoutFilled settings s rows attrs (counts .rows) (innerSize settings sizes s rows attrs counts) key x room room′
   row-filled i is f these h =
-      let after : room′ ≡ laidWords (these .list) ++ drop end room = h ∙ filled-room room f (these .list) (these .are) (these .many) in
+      let fits : x .members ≤ length room / laidWidth = f .room-enough in
+      let enough : end ≤ length room = omega arith in
       record {
         there = subst (λ (j : ℕ). j < counts .rows) (these .row-is) (keyed-asked settings vendors sizes s rows attrs counts key is refl .there);
         key-is = ap (λ (j : ℕ). rowAt rows j .key) (sym (these .row-is)) ∙ keyed-key settings vendors sizes s rows attrs counts key is refl;
@@ -142,12 +140,11 @@ module _ (settings : Settings) (vendors sizes s rows attrs : List ℕ) (counts :
         largest = these .largest;
         are = ap lay (sym (these .row-is)) ∙ these .are;
         many = these .many;
-        front = ap (take end) after ∙ take-at (laidWords (these .list)) (drop end room) end (long room f (these .list) (these .are) (these .many));
-        behind = ap (drop end) after ∙ drop-at (laidWords (these .list)) (drop end room) end (long room f (these .list) (these .are) (these .many));
+        filled = sets-filled (laidWords (these .list)) end room (long room f (these .list) (these .are) (these .many)) enough (h ∙ filled-room room f (these .list) (these .are) (these .many));
       }
 
   by-key : (told : Keyed) → told ≡ inRow settings vendors sizes s rows attrs counts key keyed.Refused keyed.Row
-      → Filled settings s rows attrs (counts .rows) (innerSize settings sizes s rows attrs counts) key x room room′
+      → LayoutFilled settings s rows attrs (counts .rows) (innerSize settings sizes s rows attrs counts) key x room room′
   unfolding layoutOf
   by-key (keyed.Row i) is =
       let same : there i ≡ layoutOf settings vendors sizes s rows attrs counts key room =
@@ -159,5 +156,5 @@ module _ (settings : Settings) (vendors sizes s rows attrs : List ℕ) (counts :
       no-row settings vendors sizes s rows attrs counts key is (λ w. outcome (layout.Refused w) room) there refl in
       absurd (subst (isLayout x) (sym p ∙ g .answer-is ∙ sym (ap (λ (o : Outcome LayoutRead ℕ). o .answer) same)) refl)
 
-  pub layout-filled : Filled settings s rows attrs (counts .rows) (innerSize settings sizes s rows attrs counts) key x room room′
+  pub layout-filled : LayoutFilled settings s rows attrs (counts .rows) (innerSize settings sizes s rows attrs counts) key x room room′
   layout-filled = by-key (inRow settings vendors sizes s rows attrs counts key keyed.Refused keyed.Row) refl

@@ -1,15 +1,15 @@
 -- Where `process_enumeration_tag` answers with an enumeration, the rooms begin with its members, as many as it says, and what lies behind is as it was.
-use Prim.Native.Nat.{ℕ, _+_, _*_, _/_, _≤_}
-use native.Mathlib.Nat.{zero-add}
+use Prim.Native.Nat.{ℕ, _*_, _/_, _≤_}
 use native.Mathlib.Omega.{arith}
 use mathlib.Core.Path.{_≡_, refl, sym, ap, _∙_, subst}
 use mathlib.Core.Bool.{Bool, true, false, cond, _&&_}
-use mathlib.Core.List.{List, [], _∷_, _++_}
-use lib.ListN.{length, take, drop}
-use lib.Seq.{sets, sets-eq, take-append-seam, drop-append-seam}
+use mathlib.Core.List.{List, [], _∷_}
+use lib.ListN.{length}
+use lib.Seq.{sets}
 use lib.Dec.{leb}
 use lib.IntN.{ℤ}
 use borrow.Author.Tests.{leb-true}
+use Rattle.lent.proofs.Laws.Filled.{sets-filled}
 use Rattle.lent.specs.Outcome.{Outcomes, BothGiven}
 use Rattle.format.specs.declared.settings.Settings.{Settings}
 use Rattle.format.specs.declared.settings.Producer.{Producer}
@@ -27,24 +27,8 @@ use Rattle.records.specs.declared.enumeration.Enumeration.{Enumeration}
 use Rattle.records.specs.declared.enumeration.EnumerationWhole.{EnumerationWhole}
 use Rattle.records.specs.declared.enumeration.EnumerationWhole.the-variants as whole
 use Rattle.records.specs.declared.enumeration.EnumerationRead.the-variants as read
-use Rattle.records.specs.EnumerationFilled.{Filled}
+use Rattle.records.specs.EnumerationFilled.{EnumerationFilled}
 use Rattle.records.specs.declared.enumeration.EnumerationRead.{EnumerationRead}
-
--- ---- a run of stores from the beginning on
-
-module _ {A : Type 0} (room vs : List A) (h : length vs ≤ length room) where
-  run-is : sets room 0 vs ≡ vs ++ drop (length vs) room
-  run-is =
-      let fits : 0 + length vs ≤ length room = omega arith in
-      sets-eq vs room 0 fits ∙ ap (λ (k : ℕ). vs ++ drop k room) (zero-add (length vs))
-
-  run-front : (n : ℕ) → length vs ≡ n → take n (sets room 0 vs) ≡ vs
-  run-front n p = ap (λ (k : ℕ). take k (sets room 0 vs)) (sym p) ∙ ap (take (length vs)) run-is ∙ take-append-seam vs (drop (length vs) room)
-
-  run-behind : (n : ℕ) → length vs ≡ n → drop n (sets room 0 vs) ≡ drop n room
-  run-behind n p =
-      ap (λ (k : ℕ). drop k (sets room 0 vs)) (sym p) ∙ ap (drop (length vs)) run-is ∙ drop-append-seam vs (drop (length vs) room)
-      ∙ ap (λ (k : ℕ). drop k room) p
 
 values-length : (xs : List Listed) → length (valuesOf xs) ≡ length xs
 unfolding valuesOf
@@ -81,7 +65,7 @@ module _ (settings : Settings) (vendors sizes s rows attrs : List ℕ) (counts :
 
     module _ (i : ℕ) (row : inRow settings vendors sizes s rows attrs counts key keyed.Refused keyed.Row ≡ keyed.Row i) where
       abbrev Result : Type 0
-      Result = (xs : List Listed) × Filled settings vendors sizes s rows attrs counts key values names e values′ names′ i xs
+      Result = (xs : List Listed) × EnumerationFilled settings vendors sizes s rows attrs counts key values names e values′ names′ i xs
 
       with-members : (xs : List Listed) → rowLists settings s rows attrs (counts .rows) i ≡ listed xs → e .members ≡ length xs
           → (leb (e .members) (length values) && leb (e .members) (length names / 2)) ≡ true
@@ -96,8 +80,7 @@ module _ (settings : Settings) (vendors sizes s rows attrs : List ℕ) (counts :
           let order : length ys ≡ length xs = order-length (settings .producer) xs in
           let vs : length (valuesOf ys) ≡ length ys = values-length ys in
           let ns : length (namesOf ys) ≡ length ys * 2 = names-length ys in
-          let vs-fit : length (valuesOf ys) ≤ length values = omega arith in
-          let ns-fit : length (namesOf ys) ≤ length names = omega arith in
+          let ns-fit : e .members * 2 ≤ length names = omega arith in
           let vs-many : length (valuesOf ys) ≡ e .members = omega arith in
           let ns-many : length (namesOf ys) ≡ e .members * 2 = omega arith in (
             xs,
@@ -105,10 +88,8 @@ module _ (settings : Settings) (vendors sizes s rows attrs : List ℕ) (counts :
               row = row;
               lists = l;
               many = sym m;
-              values-front = ap (take (e .members)) p ∙ run-front values (valuesOf ys) vs-fit (e .members) vs-many;
-              values-behind = ap (drop (e .members)) p ∙ run-behind values (valuesOf ys) vs-fit (e .members) vs-many;
-              names-front = ap (take (e .members * 2)) q ∙ run-front names (namesOf ys) ns-fit (e .members * 2) ns-many;
-              names-behind = ap (drop (e .members * 2)) q ∙ run-behind names (namesOf ys) ns-fit (e .members * 2) ns-many;
+              values-filled = sets-filled (valuesOf ys) (e .members) values vs-many first p;
+              names-filled = sets-filled (namesOf ys) (e .members * 2) names ns-many ns-fit q;
             },
           )
 
@@ -151,10 +132,10 @@ module _ (settings : Settings) (vendors sizes s rows attrs : List ℕ) (counts :
     inRooms i = intoRooms (settings .producer) values names (rowLists settings s rows attrs (counts .rows) i) (enumerationAt settings s rows attrs (counts .rows) i)
 
     by-row : (told : Keyed) → told ≡ inRow settings vendors sizes s rows attrs counts key keyed.Refused keyed.Row
-        → Says (inRow settings vendors sizes s rows attrs counts key nothing inRooms) → (i : ℕ) × (xs : List Listed) × Filled settings vendors sizes s rows attrs counts key values names e values′ names′ i xs
+        → Says (inRow settings vendors sizes s rows attrs counts key nothing inRooms) → (i : ℕ) × (xs : List Listed) × EnumerationFilled settings vendors sizes s rows attrs counts key values names e values′ names′ i xs
     by-row (keyed.Row i) is g =
         let told : Says (inRooms i) = subst Says (sym (in-row settings vendors sizes s rows attrs counts key is nothing inRooms refl)) g in
-        let r : (xs : List Listed) × Filled settings vendors sizes s rows attrs counts key values names e values′ names′ i xs = by-whole i (sym is) (enumerationAt settings s rows attrs (counts .rows) i) refl told in
+        let r : (xs : List Listed) × EnumerationFilled settings vendors sizes s rows attrs counts key values names e values′ names′ i xs = by-whole i (sym is) (enumerationAt settings s rows attrs (counts .rows) i) refl told in
         (i, r .0, r .1)
     by-row (keyed.Refused why) is g =
         let told : Says (nothing why) = subst Says (sym (no-row settings vendors sizes s rows attrs counts key is nothing inRooms refl)) g in
@@ -163,6 +144,6 @@ module _ (settings : Settings) (vendors sizes s rows attrs : List ℕ) (counts :
         absurd (omega arith)
 
     pub enumeration-filled : BothGiven (enumerationBy settings vendors sizes s rows attrs counts key values names) (read.Is e) values′ names′
-        → (i : ℕ) × (xs : List Listed) × Filled settings vendors sizes s rows attrs counts key values names e values′ names′ i xs
+        → (i : ℕ) × (xs : List Listed) × EnumerationFilled settings vendors sizes s rows attrs counts key values names e values′ names′ i xs
     unfolding enumerationBy
     enumeration-filled g = by-row (inRow settings vendors sizes s rows attrs counts key keyed.Refused keyed.Row) refl g

@@ -4,10 +4,11 @@ use native.Mathlib.Omega.{arith}
 use mathlib.Core.Path.{_≡_, refl, sym, ap, ap₂, _∙_, subst}
 use mathlib.Core.Bool.{Bool, true, false, cond}
 use mathlib.Core.List.{List, [], _∷_, _++_}
-use lib.ListN.{length, take, drop, length-append}
-use lib.Seq.{sets-eq, take-at, drop-at}
+use lib.ListN.{length, length-append}
+use lib.Seq.{sets}
 use lib.Dec.{leb}
 use borrow.Author.Tests.{leb-true, le-leb}
+use Rattle.lent.proofs.Laws.Filled.{sets-filled}
 use Rattle.lent.specs.Outcome.{Outcome, Given}
 use Rattle.format.specs.declared.settings.Settings.{Settings}
 use Rattle.tables.specs.declared.row.Counts.{Counts}
@@ -24,7 +25,7 @@ use Rattle.records.specs.declared.unions.UnionWhole.{UnionWhole}
 use Rattle.records.specs.declared.unions.UnionWhole.the-variants as whole
 use Rattle.records.specs.declared.unions.UnionRead.{UnionRead}
 use Rattle.records.specs.declared.unions.UnionRead.the-variants.{Is, Refused, Room}
-use Rattle.records.specs.UnionFilled.{Filled}
+use Rattle.records.specs.UnionFilled.{UnionFilled}
 
 -- ---- what the answer tells
 
@@ -76,16 +77,12 @@ module _ (room : List ℕ) {all : Members} {w : UnionWhole} {u : Union} (f : Fit
   long : length (membersWords (these .list)) ≡ u .members * memberWidth
   long = words-long (these .list) ∙ ap (λ (k : ℕ). k * memberWidth) (these .many)
 
-  filled-room : intoRoom room all w .room ≡ membersWords (these .list) ++ drop (u .members * memberWidth) room
+  filled-room : intoRoom room all w .room ≡ sets room 0 (membersWords (these .list))
   unfolding intoRoom membersInto
   filled-room =
-      let much : length (membersWords (these .list)) ≡ u .members * memberWidth = long in
       let enough : u .members ≤ length room / memberWidth = f .room-enough in
-      let at : 0 + length (membersWords (these .list)) ≡ u .members * memberWidth = omega arith in
       ap₂ (λ (x : Members) (y : UnionWhole). intoRoom room x y .room) (these .are) (f .read)
       ∙ ap (λ (b : Bool). cond b (membersInto room (members (these .list)) (Is u)) (record { answer = Room (u .members); room = room }) .room) (le-leb (u .members) (length room / memberWidth) enough)
-      ∙ sets-eq (membersWords (these .list)) room 0 (omega arith)
-      ∙ ap (λ (k : ℕ). membersWords (these .list) ++ drop k room) at
 
 -- ---- the theorem
 
@@ -101,7 +98,7 @@ module _ (settings : Settings) (vendors sizes s rows attrs : List ℕ) (counts :
   end = u .members * memberWidth
 
   by-key : (told : Keyed) → told ≡ inRow settings vendors sizes s rows attrs counts key keyed.Refused keyed.Row
-      → Filled settings s rows attrs (counts .rows) key u room room′
+      → UnionFilled settings s rows attrs (counts .rows) key u room room′
   unfolding unionBy
   by-key (keyed.Row i) is =
       let same : intoRoom room (all i) (union i) ≡ unionBy settings vendors sizes s rows attrs counts key room =
@@ -113,7 +110,9 @@ module _ (settings : Settings) (vendors sizes s rows attrs : List ℕ) (counts :
       (ap (λ (o : Outcome UnionRead ℕ). o .answer) same ∙ sym (g .answer-is) ∙ p)
       in
       let these : AsMany (all i) u = union-counts settings s rows attrs (counts .rows) i (f .read) in
-      let after : room′ ≡ membersWords (these .list) ++ drop end room =
+      let room-for : u .members ≤ length room / memberWidth = f .room-enough in
+      let enough : end ≤ length room = omega arith in
+      let after : room′ ≡ sets room 0 (membersWords (these .list)) =
       g .room-is ∙ sym (ap (λ (o : Outcome UnionRead ℕ). o .room) same) ∙ filled-room room f these
       in
       record {
@@ -124,8 +123,7 @@ module _ (settings : Settings) (vendors sizes s rows attrs : List ℕ) (counts :
         list = these .list;
         are = these .are;
         many = these .many;
-        front = ap (take end) after ∙ take-at (membersWords (these .list)) (drop end room) end (long room f these);
-        behind = ap (drop end) after ∙ drop-at (membersWords (these .list)) (drop end room) end (long room f these);
+        filled = sets-filled (membersWords (these .list)) end room (long room f these) enough after;
       }
   by-key (keyed.Refused why) is =
       let same : record { answer = Refused why; room = room } ≡ unionBy settings vendors sizes s rows attrs counts key room =
@@ -134,5 +132,5 @@ module _ (settings : Settings) (vendors sizes s rows attrs : List ℕ) (counts :
       in
       absurd (subst (isUnion u) (sym p ∙ g .answer-is ∙ sym (ap (λ (o : Outcome UnionRead ℕ). o .answer) same)) refl)
 
-  pub union-filled : Filled settings s rows attrs (counts .rows) key u room room′
+  pub union-filled : UnionFilled settings s rows attrs (counts .rows) key u room room′
   union-filled = by-key (inRow settings vendors sizes s rows attrs counts key keyed.Refused keyed.Row) refl
