@@ -1,4 +1,6 @@
 // Standard output, a buffer at a time. Each function takes how many bytes of the buffer are used and answers how many are used then.
+use digits::decimal::write_decimal;
+use digits::hex::write_hex;
 use libc::STDOUT_FILENO;
 
 // What the buffer still has.
@@ -34,14 +36,22 @@ pub fn put_text(buffer: &mut [u8], used: usize, text: &[u8]) -> usize {
 
 pub fn put_decimal(buffer: &mut [u8], used: usize, n: u64) -> usize {
     let mut digits = [0u8; 20];
-    let k = io::decimal(n, &mut digits);
-    put_text(buffer, used, &digits[..k])
+    let k = write_decimal(&mut digits, n);
+    if k <= digits.len() {
+        put_text(buffer, used, &digits[..k])
+    } else {
+        used
+    }
 }
 
 pub fn put_hex(buffer: &mut [u8], used: usize, n: u64, width: usize) -> usize {
     let mut digits = [0u8; 16];
-    let k = io::hex(n, width, &mut digits);
-    put_text(buffer, used, &digits[..k])
+    let k = write_hex(&mut digits, width, n);
+    if k <= digits.len() {
+        put_text(buffer, used, &digits[..k])
+    } else {
+        used
+    }
 }
 
 // A byte of a name: one that is not printed, or a backslash, as \xNN, so that no name can look like a line.

@@ -1,12 +1,13 @@
 // The fields of a line, and lines. Each is written into the line buffer from a place on, where the last field ended, and answers the place after it.
-use crate::decimal::write_decimal;
-use crate::hex::write_hex;
-use crate::text::write_text;
+use digits::decimal::write_decimal;
+use digits::hex::write_hex;
+use digits::text::write_text;
 ghost use mathlib.Core.Path.{_≡_};
 ghost use Prim.Native.Nat.{_+_, _^_, _<_, min};
 ghost use lib.ListN.{length};
-ghost use Rattle.listing.specs.Text.{hexText, decimalText, lineLimit, headerText, rowText, refusalText};
-ghost use Rattle.listing.specs.Put.{Put};
+ghost use Rattle.digits.specs.Digits.{hexText, decimalText};
+ghost use Rattle.listing.specs.Text.{lineLimit, headerText, rowText, refusalText};
+ghost use Rattle.digits.specs.Put.{Put};
 
 // Where the rest of a line of so many bytes begins.
 fn rest_at(at: usize, n: usize) -> usize

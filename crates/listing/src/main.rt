@@ -1,13 +1,9 @@
-// The listing program: a section from standard input, its listing to standard output. Read `report` (what is printed for an input), `page` (its lines), `line`; below them
-// `hex`, `decimal`, `digits`, `text` and `bytes` write fields. What it prints: specs/Report.antt and specs/Text.antt.
+// The listing program: a section from standard input, its listing to standard output. Read `report` (what is printed for an input), `page` (its lines), `line`; the crate
+// `digits` writes fields. What it prints: specs/Report.antt and specs/Text.antt.
 // `io::read_full` does not tell a read error from the end of input: after an error, what was read before it is listed.
-mod decimal;
-mod digits;
-mod hex;
 mod line;
 mod page;
 mod report;
-mod text;
 
 use libc::STDIN_FILENO;
 use libc::STDOUT_FILENO;

@@ -5,7 +5,8 @@ use lent::cells::cell;
 use tables::row::row_at;
 ghost use Prim.Native.Nat.{suc, _+_, _*_, _^_, _≤_, _<_};
 ghost use Rattle.listing.specs.Text.{lineLimit, rowsText, listingText};
-ghost use Rattle.listing.specs.Put.{Put, Printed};
+ghost use Rattle.digits.specs.Put.{Put};
+ghost use Rattle.listing.specs.Text.{Printed};
 
 // The lines of the table's n rows into the page from a place on; `room` has a row's depth and its parent. Answers the place after them.
 pub fn write_rows(rows: &[u32], room: &[u32], n: usize, page: &mut [u8], at: usize) -> usize

@@ -17,7 +17,7 @@ ghost use mathlib.Core.Path.{_≡_};
 ghost use Prim.Native.Nat.{_≤_};
 ghost use Rattle.lent.specs.Outcome.{Given, BothGiven};
 ghost use Rattle.listing.specs.Text.{refusalText};
-ghost use Rattle.listing.specs.Put.{Printed};
+ghost use Rattle.listing.specs.Text.{Printed};
 ghost use Rattle.format.specs.Refusal.{numberOf};
 ghost use Rattle.listing.specs.Inside.Report.{FewRead, FewListed};
 ghost use Rattle.listing.specs.Report.{listingSettings, listingRead, listingTree, roomText, placesText, treeText, answerText, reportText, inputText};

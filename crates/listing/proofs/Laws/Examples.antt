@@ -27,7 +27,8 @@ use Rattle.tree.specs.Pick.{countBelow, nearestBelow, firstFrom}
 use Rattle.tree.specs.Reach.{laterRow, reachBy, reachEnd}
 use Rattle.tree.specs.Nest.{lies, depth, parent, crosses, faulty, deep, firstFault, firstDeep}
 use Rattle.tree.specs.Tree.{placesFrom, firstErased, listed, treeOf}
-use Rattle.listing.specs.Text.{glyph, digits, widthFrom, decimalWidth, headerText, rowText, refusalText, rowsText}
+use Rattle.digits.specs.Digits.{glyph, digits, widthFrom, decimalWidth}
+use Rattle.listing.specs.Text.{headerText, rowText, refusalText, rowsText}
 use Rattle.listing.specs.Report.{listingSizes, rowRoom, attrRoom, placeRoom, placesText, treeText, answerText, reportText, inputText}
 use Rattle.listing.specs.Examples.{examples}
 

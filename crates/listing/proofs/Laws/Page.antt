@@ -10,8 +10,9 @@ use Rattle.tables.specs.Row.{rowAt}
 use Rattle.tables.specs.declared.row.Row.{Row}
 use Rattle.listing.specs.Text.{lineLimit, pageLimit, headerText, refusalText, rowText, rowsText, listingText}
 use Rattle.listing.proofs.Laws.Text.{header-length, row-length, refusal-length}
-use Rattle.listing.specs.Put.{Put, Printed}
-use Rattle.listing.proofs.Laws.Put.{put-none, put-after, put-length}
+use Rattle.digits.specs.Put.{Put}
+use Rattle.listing.specs.Text.{Printed}
+use Rattle.digits.proofs.Laws.Put.{put-none, put-after, put-length}
 
 module _ (rows room : List ℕ) (n at : ℕ) (page₀ : List ℕ) where
   -- i rows are written, up to the place `next`: whatever writes the others there has written all

@@ -26,7 +26,8 @@ use Rattle.tree.specs.Tree.{placeWidth, firstErased, listed, treeOf}
 use Rattle.tree.specs.declared.listing.Listing.{Listing}
 use Rattle.tree.specs.declared.listing.Listing.the-variants as listing
 use Rattle.listing.specs.Text.{refusalText, listingText}
-use Rattle.listing.specs.Put.{Put, Printed}
+use Rattle.digits.specs.Put.{Put}
+use Rattle.listing.specs.Text.{Printed}
 use Rattle.listing.proofs.Laws.Page.{refusal-printed}
 use Rattle.listing.specs.Report.{listingSettings, listingSizes, rowRoom, attrRoom, placeRoom, listingRead, listingTree, roomText, placesText, treeText, answerText, reportText, inputText}
 use Rattle.listing.specs.Inside.Report.{FewRead, FewListed}

@@ -1,5 +1,5 @@
-use Rattle.listing.proofs.Laws.Text.{digits-length}
-use Rattle.listing.proofs.Laws.Put.{put-rest}
+use Rattle.digits.proofs.Laws.Digits.{digits-length}
+use Rattle.digits.proofs.Laws.Put.{put-rest}
 use borrow.Author.Needs.{needs}
 use native.Mathlib.Omega.{arith}
 use Rattle.listing.proofs.line.put_hex.Statement.{statement}

@@ -1,4 +1,4 @@
-use Rattle.listing.proofs.Laws.Put.{put-rest}
+use Rattle.digits.proofs.Laws.Put.{put-rest}
 use borrow.Author.Needs.{needs}
 use Rattle.listing.proofs.line.put_text.Statement.{statement}
 use Rattle.listing.proofs.line.put_text.Tie as tie

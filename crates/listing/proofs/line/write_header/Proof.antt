@@ -1,4 +1,5 @@
-use Rattle.listing.proofs.Laws.Text.{decimal-place, header-put}
+use Rattle.digits.proofs.Laws.Digits.{decimal-place}
+use Rattle.listing.proofs.Laws.Text.{header-put}
 use borrow.Author.Needs.{needs}
 use native.Mathlib.Omega.{arith}
 use Rattle.listing.proofs.line.write_header.Statement.{statement}

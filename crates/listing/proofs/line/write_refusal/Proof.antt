@@ -1,4 +1,5 @@
-use Rattle.listing.proofs.Laws.Text.{short-place, hex-place, refusal-put}
+use Rattle.digits.proofs.Laws.Digits.{short-place, hex-place}
+use Rattle.listing.proofs.Laws.Text.{refusal-put}
 use borrow.Author.Needs.{needs}
 use native.Mathlib.Omega.{arith}
 use Rattle.listing.proofs.line.write_refusal.Statement.{statement}

@@ -1,4 +1,5 @@
-use Rattle.listing.proofs.Laws.Text.{short-place, hex-place, row-put}
+use Rattle.digits.proofs.Laws.Digits.{short-place, hex-place}
+use Rattle.listing.proofs.Laws.Text.{row-put}
 use borrow.Author.Needs.{needs}
 use native.Mathlib.Omega.{arith}
 use Rattle.listing.proofs.line.write_row.Statement.{statement}

@@ -1,15 +1,15 @@
-use Rattle.listing.proofs.Laws.Put.{set-length}
+use Rattle.digits.proofs.Laws.Put.{set-length}
 use native.Mathlib.Nat.{mod-lt}
-use Rattle.listing.proofs.Laws.Text.{digits-last, digits-none}
+use Rattle.digits.proofs.Laws.Digits.{digits-last, digits-none}
 use lib.Seq.{sets}
-use Rattle.listing.specs.Text.{digits}
+use Rattle.digits.specs.Digits.{digits}
 use borrow.Author.Needs.{needs}
 use native.Mathlib.Omega.{arith}
 use Prim.Native.Nat.{_-_}
 use mathlib.Core.Path.{_≡_, refl, sym, _∙_}
 use lib.ListN.{length}
-use Rattle.listing.proofs.digits.write_digits.Statement.{statement}
-use Rattle.listing.proofs.digits.write_digits.Tie as tie
+use Rattle.digits.proofs.digit.write_digits.Statement.{statement}
+use Rattle.digits.proofs.digit.write_digits.Tie as tie
 
 abbrev Inv-loop : tie.InvT-loop
 Inv-loop rest₀ base w v i₀ left₀ rest i left = (length rest ≡ length rest₀) × (sets rest 0 (digits base i left) ≡ sets rest₀ 0 (digits base w v))

@@ -1,11 +1,11 @@
-use Rattle.listing.proofs.Laws.Text.{decimal-one, decimal-more}
-use Rattle.listing.specs.Text.{decimalWidth}
+use Rattle.digits.proofs.Laws.Digits.{decimal-one, decimal-more}
+use Rattle.digits.specs.Digits.{decimalWidth}
 use borrow.Author.Needs.{needs}
 use native.Mathlib.Omega.{arith}
 use Prim.Native.Nat.{suc, _+_, _≤_}
 use mathlib.Core.Path.{_≡_}
-use Rattle.listing.proofs.decimal.decimal_width.Statement.{statement}
-use Rattle.listing.proofs.decimal.decimal_width.Tie as tie
+use Rattle.digits.proofs.decimal.decimal_width.Statement.{statement}
+use Rattle.digits.proofs.decimal.decimal_width.Tie as tie
 
 abbrev Inv-loop : tie.InvT-loop
 Inv-loop v w₀ left₀ w left = (w + left ≤ suc v) × (w + decimalWidth left ≡ suc (decimalWidth v))

@@ -10,7 +10,7 @@ use mathlib.Core.List.{List, [], _∷_, _++_}
 use lib.ListN.{length, getD, take, drop, set, length-append, length-set, drop-of-length-le}
 use lib.Seq.{set-comm, drop-cons, sets, length-sets}
 use Rattle.lent.proofs.Laws.Stores.{sets-append, sets-out, sets-rest}
-use Rattle.listing.specs.Put.{Put}
+use Rattle.digits.specs.Put.{Put}
 
 -- nothing is written where a text is empty
 pub put-none : (at : ℕ) (l : List ℕ) → Put [] at at l l

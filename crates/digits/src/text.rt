@@ -1,6 +1,6 @@
 // Fixed words.
 use lent::bytes::put_byte;
-ghost use Rattle.listing.specs.Put.{Put};
+ghost use Rattle.digits.specs.Put.{Put};
 
 // Writes the text at the beginning of a line's rest, and answers how many bytes it has.
 pub fn write_text(rest: &mut [u8], text: &[u8]) -> usize

@@ -1,7 +1,7 @@
-use Rattle.listing.proofs.Laws.Text.{digits-put}
+use Rattle.digits.proofs.Laws.Digits.{digits-put}
 use borrow.Author.Needs.{needs}
-use Rattle.listing.proofs.hex.write_hex.Statement.{statement}
-use Rattle.listing.proofs.hex.write_hex.Tie as tie
+use Rattle.digits.proofs.hex.write_hex.Statement.{statement}
+use Rattle.digits.proofs.hex.write_hex.Tie as tie
 
 returns : tie.Need-returns
 returns c = digits-put _ _ _ (c .before .before .write-digits .ensures)

@@ -1,7 +1,7 @@
-use Rattle.listing.proofs.Laws.Text.{decimal-put}
+use Rattle.digits.proofs.Laws.Digits.{decimal-put}
 use borrow.Author.Needs.{needs}
-use Rattle.listing.proofs.decimal.write_decimal.Statement.{statement}
-use Rattle.listing.proofs.decimal.write_decimal.Tie as tie
+use Rattle.digits.proofs.decimal.write_decimal.Statement.{statement}
+use Rattle.digits.proofs.decimal.write_decimal.Tie as tie
 
 returns : tie.Need-returns
 returns c = decimal-put _ (c .before .before .before .before .decimal-width .ensures) (c .before .before .write-digits .ensures)

@@ -1,7 +1,7 @@
-use Rattle.listing.proofs.Laws.Text.{glyph-low, glyph-high}
+use Rattle.digits.proofs.Laws.Digits.{glyph-low, glyph-high}
 use borrow.Author.Needs.{needs}
-use Rattle.listing.proofs.digits.glyph.Statement.{statement}
-use Rattle.listing.proofs.digits.glyph.Tie as tie
+use Rattle.digits.proofs.digit.glyph.Statement.{statement}
+use Rattle.digits.proofs.digit.glyph.Tie as tie
 
 returns : tie.Need-returns
 returns c = glyph-low _ (c .if1 .taken)

@@ -1,8 +1,8 @@
 // Decimal fields.
-use crate::digits::write_digits;
+use crate::digit::write_digits;
 ghost use mathlib.Core.Path.{_≡_};
-ghost use Rattle.listing.specs.Text.{decimalWidth, decimalText};
-ghost use Rattle.listing.specs.Put.{Put};
+ghost use Rattle.digits.specs.Digits.{decimalWidth, decimalText};
+ghost use Rattle.digits.specs.Put.{Put};
 
 // How many digits a number has.
 fn decimal_width(v: u64) -> usize

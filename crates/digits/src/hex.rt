@@ -1,7 +1,7 @@
 // Hexadecimal fields.
-use crate::digits::write_digits;
-ghost use Rattle.listing.specs.Text.{hexText};
-ghost use Rattle.listing.specs.Put.{Put};
+use crate::digit::write_digits;
+ghost use Rattle.digits.specs.Digits.{hexText};
+ghost use Rattle.digits.specs.Put.{Put};
 
 // Writes v in w digits at the beginning of a line's rest, and answers how many bytes the field has.
 pub fn write_hex(rest: &mut [u8], w: usize, v: u64) -> usize

@@ -1,4 +1,4 @@
-use Rattle.listing.proofs.Laws.Put.{text-next, text-done, set-length}
+use Rattle.digits.proofs.Laws.Put.{text-next, text-done, set-length}
 use lib.Seq.{sets}
 use borrow.Author.Needs.{needs}
 use native.Mathlib.Omega.{arith}
@@ -6,8 +6,8 @@ use denote.Ref.{now}
 use Prim.Native.Nat.{_-_, _≤_}
 use mathlib.Core.Path.{_≡_, refl, sym, _∙_}
 use lib.ListN.{length, getD, drop}
-use Rattle.listing.proofs.text.write_text.Statement.{statement}
-use Rattle.listing.proofs.text.write_text.Tie as tie
+use Rattle.digits.proofs.text.write_text.Statement.{statement}
+use Rattle.digits.proofs.text.write_text.Tie as tie
 
 abbrev Inv-loop : tie.InvT-loop
 Inv-loop rest₀ text i₀ rest i = (i ≤ length text) × (length rest ≡ length rest₀) × (sets rest i (drop i text) ≡ sets rest₀ 0 text)
