@@ -18,7 +18,7 @@ use Rattle.blocks.specs.declared.types.Type.{«Type»}
 use Rattle.tables.specs.Row.{rowAt}
 use Rattle.tables.specs.Check.{refusedAt}
 use Rattle.tables.specs.declared.row.Counts.{Counts}
-use Rattle.links.specs.Typed.{inRow}
+use Rattle.tables.specs.Keyed.{inRow}
 use Rattle.records.specs.Scan.{runOf}
 use Rattle.records.specs.Fields.{wordOf}
 use Rattle.records.specs.MemberWords.{namePlace, nameLength}

@@ -13,17 +13,14 @@ use Rattle.format.specs.Refusal.{numberOf}
 use Rattle.format.specs.declared.form_kind.FormKind.{FormKind}
 use Rattle.format.specs.declared.form_kind.FormKind.the-variants.{Addr, Ref, Block2, Block4, Data2, Data4, Data8, String, Undefined}
 use Rattle.format.specs.declared.settings.Settings.{Settings}
-use Rattle.format.specs.declared.refusal.Refusal.{Refusal}
-use Rattle.format.specs.declared.refusal.Reason.the-variants as reason
 use Rattle.attributes.specs.Decode.{addressAt, referenceAt, data2At, data4At}
 use Rattle.attributes.specs.Parts.{blockAt, textAt}
 use Rattle.attributes.specs.declared.decode.Endians.{Endians}
-use Rattle.tables.specs.Row.{rowAt, attrAt, endianOf}
-use Rattle.tables.specs.Find.{rowOfKey}
-use Rattle.tables.specs.Check.{refusedAt, tested}
+use Rattle.tables.specs.Row.{attrAt, endsOf}
 use Rattle.tables.specs.declared.row.Counts.{Counts}
 use Rattle.tables.specs.declared.find.Found.{Found}
 use Rattle.tables.specs.declared.find.Found.the-variants.{At, Nothing}
+use Rattle.tables.specs.Keyed.{inRow}
 use Rattle.links.specs.Attribute.{attributeOf}
 use Rattle.links.specs.declared.lookup.Wanted.{Wanted}
 use Rattle.links.specs.declared.lookup.Wanted.the-variants as wanted
@@ -34,20 +31,6 @@ use Rattle.links.specs.declared.typed.Value.the-variants as value
 use Rattle.links.specs.declared.typed.Spot.{Spot}
 use Rattle.links.specs.declared.typed.Placed.{Placed}
 use Rattle.links.specs.declared.typed.Placed.the-variants as placed
-
--- ---- in the row of a key
-
--- an answer from the row that was found; 11 at the key where there is none
-unfoldable pub rowBy : {A : Type 0} → ℕ → (Refusal → A) → (ℕ → A) → Found → A
-rowBy key refused there (At i) = there i
-rowBy key refused there Nothing = refused (refusedAt key reason.Entry)
-
--- an answer from the row of a key, after the tests; `refused` makes a refusal an answer
-unfoldable pub inRow : {A : Type 0} → Settings → List ℕ → List ℕ → List ℕ → List ℕ → List ℕ → Counts → ℕ → (Refusal → A) → (ℕ → A) → A
-inRow settings vendors sizes s rows attrs counts key refused there =
-    tested settings vendors sizes s rows attrs counts refused (rowBy key refused there (rowOfKey rows (counts .rows) key))
-
--- ---- an attribute
 
 -- the attribute that was found
 unfoldable pub asLooked : List ℕ → Found → Looked
@@ -64,10 +47,6 @@ attributeBy settings vendors sizes s rows attrs counts key w =
     inRow settings vendors sizes s rows attrs counts key looked.Refused (lookedIn rows attrs w)
 
 -- ---- where a value of a form stands
-
--- the section's endianness and row i's own
-unfoldable pub endsOf : Endian → List ℕ → ℕ → Endians
-endsOf e rows i = record { section = e; «data» = endianOf (rowAt rows i .flags) }
 
 -- its value's place, with the endiannesses
 unfoldable pub asPlaced : Endians → List ℕ → Found → Placed

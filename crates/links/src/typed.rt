@@ -11,27 +11,21 @@ use attributes::decode::reference;
 use attributes::decode::string;
 use format::form_kind::FormKind;
 use format::form_kind::is_form;
-use format::refusal::Reason;
 use format::refusal::Refusal;
 use format::refusal::number_of;
 use format::settings::Settings;
 use numbers::Endian;
 use numbers::unsigned::Read16;
 use numbers::unsigned::Read32;
-use tables::check::Check;
-use tables::check::check_table;
 use tables::find::Found;
-use tables::find::find_row;
+use tables::keyed::Keyed;
+use tables::keyed::row_of;
 use tables::row::Attr;
 use tables::row::Counts;
 use tables::row::attr_at;
-use tables::row::endian_of;
-use tables::row::row_at;
+use tables::row::ends_of;
 ghost use mathlib.Core.Path.{_≡_};
-ghost use Rattle.tables.specs.Check.{refusedAt};
-ghost use Rattle.tables.specs.Find.{rowOfKey};
-ghost use Rattle.tables.specs.Inside.Find.{Rising};
-ghost use Rattle.links.specs.Typed.{rowBy, inRow, lookedIn, attributeBy, blockForm, endsOf, spotAt, spotIn, placeOf, asValue, asWidened, wordAt, valueBy, partAs, partOf, toldWords, Handed};
+ghost use Rattle.links.specs.Typed.{lookedIn, attributeBy, blockForm, spotAt, spotIn, placeOf, asValue, asWidened, wordAt, valueBy, partAs, partOf, toldWords, Handed};
 
 // The attribute that was looked for; or the row has none.
 pub enum Looked {
@@ -47,12 +41,6 @@ pub enum Value {
     Refused(Refusal),
 }
 
-// The row that has a key.
-pub enum Keyed {
-    Row(usize),
-    Refused(Refusal),
-}
-
 // The place of a value, and the endiannesses it is read in.
 pub struct Spot {
     pub at: usize,
@@ -63,39 +51,6 @@ pub enum Placed {
     At(Spot),
     Nothing,
     Refused(Refusal),
-}
-
-// The row of a key, in a table that was tested.
-pub(crate) fn find_key(rows: &[u32], n: usize, key: u32) -> Keyed
-    requires { ⌜ Rising (now rows) n ⌝ }
-    ensures { λ r. ⌜ r ≡ rowBy key Keyed.Refused Keyed.Row (rowOfKey (now (rows .entry)) n key) ⌝ }
-{
-    match find_row(rows, n, key) {
-        Found::At(i) => Keyed::Row(i),
-        Found::Nothing => Keyed::Refused(Refusal {
-            reason: Reason::Entry,
-            place: key as u64,
-        }),
-    }
-}
-
-// The same after the tests 1, 2, 3.
-pub fn row_of(
-    s: &[u8],
-    settings: Settings,
-    vendors: &[u16],
-    sizes: &[u32],
-    rows: &[u32],
-    attrs: &[u32],
-    counts: Counts,
-    key: u32,
-) -> Keyed
-    ensures { λ r. ⌜ r ≡ inRow settings (now (vendors .entry)) (now (sizes .entry)) (now (s .entry)) (now (rows .entry)) (now (attrs .entry)) counts key Keyed.Refused Keyed.Row ⌝ }
-{
-    match check_table(s, settings, vendors, sizes, rows, attrs, counts) {
-        Check::Passed => find_key(rows, counts.rows, key),
-        Check::Refused(why) => Keyed::Refused(why),
-    }
 }
 
 fn look_in(rows: &[u32], attrs: &[u32], i: usize, wanted: Wanted) -> Looked
@@ -178,17 +133,6 @@ pub fn type_attribute(
         key,
         Wanted::Type,
     )
-}
-
-// The section's endianness and the row's own.
-pub fn ends_of(e: Endian, rows: &[u32], i: usize) -> Endians
-    ensures { λ r. ⌜ r ≡ endsOf e (now (rows .entry)) i ⌝ }
-{
-    let row = row_at(rows, i);
-    Endians {
-        section: e,
-        data: endian_of(row.flags),
-    }
 }
 
 // Where row i's first attribute of this number has its value.

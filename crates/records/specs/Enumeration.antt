@@ -18,7 +18,7 @@ use Rattle.attributes.specs.Parts.{blockAt}
 use Rattle.tables.specs.Check.{refusedAt}
 use Rattle.tables.specs.declared.row.Counts.{Counts}
 use Rattle.links.specs.Links.{childWalk}
-use Rattle.links.specs.Typed.{inRow}
+use Rattle.tables.specs.Keyed.{inRow}
 use Rattle.records.specs.Taken.{special}
 use Rattle.records.specs.Scan.{runOf, attributeAt, numberAt, faultAt}
 use Rattle.records.specs.Fields.{lastFrom, wordBy, byteSized}

@@ -7,8 +7,8 @@ use lib.IntN.{ℤ}
 use Rattle.lent.specs.Filled.{Filled}
 use Rattle.format.specs.declared.settings.Settings.{Settings}
 use Rattle.tables.specs.declared.row.Counts.{Counts}
-use Rattle.links.specs.Typed.{inRow}
-use Rattle.links.specs.declared.typed.Keyed.the-variants as keyed
+use Rattle.tables.specs.Keyed.{inRow}
+use Rattle.tables.specs.declared.keyed.Keyed.the-variants as keyed
 use Rattle.records.specs.Elements.{Listed, valuesOf, namesOf}
 use Rattle.records.specs.Enumeration.{listed, inOrder, rowLists}
 use Rattle.records.specs.declared.enumeration.Enumeration.{Enumeration}

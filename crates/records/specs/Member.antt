@@ -9,7 +9,7 @@ use Rattle.blocks.specs.declared.types.Typed.{Typed}
 use Rattle.blocks.specs.declared.types.Typed.the-variants as typed
 use Rattle.tables.specs.Check.{refusedAt}
 use Rattle.tables.specs.declared.row.Counts.{Counts}
-use Rattle.links.specs.Typed.{inRow}
+use Rattle.tables.specs.Keyed.{inRow}
 use Rattle.records.specs.Scan.{runOf}
 use Rattle.records.specs.Fields.{nameOf, typeOf, offsetField, wordOf, visibilityOf}
 use Rattle.records.specs.Front.{frontOf, unless}

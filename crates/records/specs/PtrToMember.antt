@@ -7,7 +7,7 @@ use Rattle.blocks.specs.declared.types.Type.{«Type»}
 use Rattle.blocks.specs.declared.types.Typed.{Typed}
 use Rattle.blocks.specs.declared.types.Typed.the-variants as typed
 use Rattle.tables.specs.declared.row.Counts.{Counts}
-use Rattle.links.specs.Typed.{inRow}
+use Rattle.tables.specs.Keyed.{inRow}
 use Rattle.records.specs.Scan.{runOf}
 use Rattle.records.specs.Fields.{typeOf, wordOf, needed}
 use Rattle.records.specs.Front.{frontOf, unless}

@@ -19,7 +19,7 @@ use Rattle.tables.specs.declared.row.Counts.{Counts}
 use Rattle.tables.specs.declared.find.Found.{Found}
 use Rattle.tables.specs.declared.find.Found.the-variants as found
 use Rattle.links.specs.Links.{childWalk}
-use Rattle.links.specs.Typed.{inRow}
+use Rattle.tables.specs.Keyed.{inRow}
 use Rattle.records.specs.Taken.{special}
 use Rattle.records.specs.Scan.{runOf, attributeAt, numberAt, faultAt}
 use Rattle.records.specs.Fields.{lastOf, nameOf, typeBy}

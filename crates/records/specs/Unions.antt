@@ -17,7 +17,7 @@ use Rattle.tables.specs.Check.{refusedAt}
 use Rattle.tables.specs.declared.row.Counts.{Counts}
 use Rattle.links.specs.Walk.{Walk, ends, endless}
 use Rattle.links.specs.Links.{childWalk, nonNull}
-use Rattle.links.specs.Typed.{inRow}
+use Rattle.tables.specs.Keyed.{inRow}
 use Rattle.records.specs.Scan.{runOf}
 use Rattle.records.specs.Fields.{byteSized}
 use Rattle.records.specs.Front.{headOf, unless}

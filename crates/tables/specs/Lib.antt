@@ -4,5 +4,6 @@ pub mod Row
 pub mod Test
 pub mod Find
 pub mod Check
+pub mod Keyed
 -- What functions inside promise. Nothing public rests on it.
 pub mod Inside

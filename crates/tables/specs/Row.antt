@@ -7,6 +7,7 @@ use lib.Seq.{sets}
 use lib.Dec.{eqb}
 use Rattle.numbers.specs.declared.Endian.{Endian}
 use Rattle.numbers.specs.declared.Endian.the-variants.{Big, Little}
+use Rattle.attributes.specs.declared.decode.Endians.{Endians}
 use Rattle.tables.specs.declared.row.Row.{Row}
 use Rattle.tables.specs.declared.row.Attr.{Attr}
 
@@ -69,3 +70,7 @@ erasedRow flags = eqb (flags % 2) 1
 
 unfoldable pub endianOf : ℕ → Endian
 endianOf flags = cond (eqb (flags / 4 % 2) 1) Little Big
+
+-- the section's endianness and row i's own
+unfoldable pub endsOf : Endian → List ℕ → ℕ → Endians
+endsOf e rows i = record { section = e; «data» = endianOf (rowAt rows i .flags) }

@@ -3,6 +3,7 @@
 // be read), `find` (the row of a key), `check` (the tests that every public call makes first). What it means: specs/Row.antt, Test.antt, Find.antt, Check.antt.
 pub mod check;
 pub mod find;
+pub mod keyed;
 pub mod row;
 pub mod store;
 pub mod test;

@@ -1,8 +1,9 @@
 // What a table holds: a row for each entry, an attribute for each attribute, and how many of each.
+use attributes::decode::Endians;
 use lent::cells::cell;
 use numbers::Endian;
 ghost use mathlib.Core.Path.{_≡_};
-ghost use Rattle.tables.specs.Row.{rowAt, attrAt, endianOf, erasedRow};
+ghost use Rattle.tables.specs.Row.{rowAt, attrAt, endianOf, endsOf, erasedRow};
 
 // An entry: its key (the place where it begins), its kind (a tag), its flags, its run of attributes.
 pub struct Row {
@@ -94,4 +95,15 @@ pub fn is_erased(flags: u32) -> bool
     ensures { λ r. ⌜ r ≡ erasedRow flags ⌝ }
 {
     flags % 2 == 1
+}
+
+// The section's endianness and the row's own.
+pub fn ends_of(e: Endian, rows: &[u32], i: usize) -> Endians
+    ensures { λ r. ⌜ r ≡ endsOf e (now (rows .entry)) i ⌝ }
+{
+    let row = row_at(rows, i);
+    Endians {
+        section: e,
+        data: endian_of(row.flags),
+    }
 }

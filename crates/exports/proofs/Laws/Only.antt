@@ -6,8 +6,8 @@ use Rattle.exports.proofs.reading as reading
 use Rattle.exports.proofs.size as size
 use Rattle.exports.proofs.block as block
 use Rattle.exports.proofs.listing as listing
-use Rattle.exports.proofs.layout as layout
-use Rattle.exports.proofs.layouts as layouts
+use Rattle.exports.proofs.one_layout as one_layout
+use Rattle.exports.proofs.all_layouts as all_layouts
 
 -- `reading::capbeacon_count_debug_section`
 pub only-capbeacon-count-debug-section : OneAnswer reading.capbeacon_count_debug_section.Kinds.ps reading.capbeacon_count_debug_section.Kinds.r reading.capbeacon_count_debug_section.Reads.Post
@@ -74,40 +74,40 @@ only-capbeacon-list-tree-place κs a z z′ e e′ p q = cc
 pub only-capbeacon-list-tree-listed : OneRoom listing.capbeacon_list_tree.Kinds.ps listing.capbeacon_list_tree.Kinds.r (λ κs e. now (e .1 .1 .1 .1 .1 .1 .1 .1 .1 .1 .1 .1 .1 .1 .1 .1 .0)) listing.capbeacon_list_tree.Reads.Post
 only-capbeacon-list-tree-listed κs a z z′ e e′ p q = cc
 
--- `layout::capbeacon_layout_of_key`
-pub only-capbeacon-layout-of-key : OneAnswer layout.capbeacon_layout_of_key.Kinds.ps layout.capbeacon_layout_of_key.Kinds.r layout.capbeacon_layout_of_key.Reads.Post
+-- `one_layout::capbeacon_layout_of_key`
+pub only-capbeacon-layout-of-key : OneAnswer one_layout.capbeacon_layout_of_key.Kinds.ps one_layout.capbeacon_layout_of_key.Kinds.r one_layout.capbeacon_layout_of_key.Reads.Post
 only-capbeacon-layout-of-key κs a z z′ e e′ p q = cc
 
-pub only-capbeacon-layout-of-key-room : OneRoom layout.capbeacon_layout_of_key.Kinds.ps layout.capbeacon_layout_of_key.Kinds.r (λ κs e. now (e .1 .1 .1 .1 .1 .1 .1 .1 .1 .1 .1 .1 .1 .1 .1 .0)) layout.capbeacon_layout_of_key.Reads.Post
+pub only-capbeacon-layout-of-key-room : OneRoom one_layout.capbeacon_layout_of_key.Kinds.ps one_layout.capbeacon_layout_of_key.Kinds.r (λ κs e. now (e .1 .1 .1 .1 .1 .1 .1 .1 .1 .1 .1 .1 .1 .1 .1 .0)) one_layout.capbeacon_layout_of_key.Reads.Post
 only-capbeacon-layout-of-key-room κs a z z′ e e′ p q = cc
 
-pub only-capbeacon-layout-of-key-place : OneRoom layout.capbeacon_layout_of_key.Kinds.ps layout.capbeacon_layout_of_key.Kinds.r (λ κs e. now (e .1 .1 .1 .1 .1 .1 .1 .1 .1 .1 .1 .1 .1 .1 .1 .1 .0)) layout.capbeacon_layout_of_key.Reads.Post
+pub only-capbeacon-layout-of-key-place : OneRoom one_layout.capbeacon_layout_of_key.Kinds.ps one_layout.capbeacon_layout_of_key.Kinds.r (λ κs e. now (e .1 .1 .1 .1 .1 .1 .1 .1 .1 .1 .1 .1 .1 .1 .1 .1 .0)) one_layout.capbeacon_layout_of_key.Reads.Post
 only-capbeacon-layout-of-key-place κs a z z′ e e′ p q = cc
 
-pub only-capbeacon-layout-of-key-row : OneRoom layout.capbeacon_layout_of_key.Kinds.ps layout.capbeacon_layout_of_key.Kinds.r (λ κs e. now (e .1 .1 .1 .1 .1 .1 .1 .1 .1 .1 .1 .1 .1 .1 .1 .1 .1 .0)) layout.capbeacon_layout_of_key.Reads.Post
+pub only-capbeacon-layout-of-key-row : OneRoom one_layout.capbeacon_layout_of_key.Kinds.ps one_layout.capbeacon_layout_of_key.Kinds.r (λ κs e. now (e .1 .1 .1 .1 .1 .1 .1 .1 .1 .1 .1 .1 .1 .1 .1 .1 .1 .0)) one_layout.capbeacon_layout_of_key.Reads.Post
 only-capbeacon-layout-of-key-row κs a z z′ e e′ p q = cc
 
-pub only-capbeacon-layout-of-key-size : OneRoom layout.capbeacon_layout_of_key.Kinds.ps layout.capbeacon_layout_of_key.Kinds.r (λ κs e. now (e .1 .1 .1 .1 .1 .1 .1 .1 .1 .1 .1 .1 .1 .1 .1 .1 .1 .1 .0)) layout.capbeacon_layout_of_key.Reads.Post
+pub only-capbeacon-layout-of-key-size : OneRoom one_layout.capbeacon_layout_of_key.Kinds.ps one_layout.capbeacon_layout_of_key.Kinds.r (λ κs e. now (e .1 .1 .1 .1 .1 .1 .1 .1 .1 .1 .1 .1 .1 .1 .1 .1 .1 .1 .0)) one_layout.capbeacon_layout_of_key.Reads.Post
 only-capbeacon-layout-of-key-size κs a z z′ e e′ p q = cc
 
-pub only-capbeacon-layout-of-key-members : OneRoom layout.capbeacon_layout_of_key.Kinds.ps layout.capbeacon_layout_of_key.Kinds.r (λ κs e. now (e .1 .1 .1 .1 .1 .1 .1 .1 .1 .1 .1 .1 .1 .1 .1 .1 .1 .1 .1 .0)) layout.capbeacon_layout_of_key.Reads.Post
+pub only-capbeacon-layout-of-key-members : OneRoom one_layout.capbeacon_layout_of_key.Kinds.ps one_layout.capbeacon_layout_of_key.Kinds.r (λ κs e. now (e .1 .1 .1 .1 .1 .1 .1 .1 .1 .1 .1 .1 .1 .1 .1 .1 .1 .1 .1 .0)) one_layout.capbeacon_layout_of_key.Reads.Post
 only-capbeacon-layout-of-key-members κs a z z′ e e′ p q = cc
 
--- `layouts::capbeacon_all_layouts`
-pub only-capbeacon-all-layouts : OneAnswer layouts.capbeacon_all_layouts.Kinds.ps layouts.capbeacon_all_layouts.Kinds.r layouts.capbeacon_all_layouts.Reads.Post
+-- `all_layouts::capbeacon_all_layouts`
+pub only-capbeacon-all-layouts : OneAnswer all_layouts.capbeacon_all_layouts.Kinds.ps all_layouts.capbeacon_all_layouts.Kinds.r all_layouts.capbeacon_all_layouts.Reads.Post
 only-capbeacon-all-layouts κs a z z′ e e′ p q = cc
 
-pub only-capbeacon-all-layouts-structures : OneRoom layouts.capbeacon_all_layouts.Kinds.ps layouts.capbeacon_all_layouts.Kinds.r (λ κs e. now (e .1 .1 .1 .1 .1 .1 .1 .1 .1 .1 .1 .1 .1 .1 .0)) layouts.capbeacon_all_layouts.Reads.Post
+pub only-capbeacon-all-layouts-structures : OneRoom all_layouts.capbeacon_all_layouts.Kinds.ps all_layouts.capbeacon_all_layouts.Kinds.r (λ κs e. now (e .1 .1 .1 .1 .1 .1 .1 .1 .1 .1 .1 .1 .1 .1 .0)) all_layouts.capbeacon_all_layouts.Reads.Post
 only-capbeacon-all-layouts-structures κs a z z′ e e′ p q = cc
 
-pub only-capbeacon-all-layouts-members : OneRoom layouts.capbeacon_all_layouts.Kinds.ps layouts.capbeacon_all_layouts.Kinds.r (λ κs e. now (e .1 .1 .1 .1 .1 .1 .1 .1 .1 .1 .1 .1 .1 .1 .1 .0)) layouts.capbeacon_all_layouts.Reads.Post
+pub only-capbeacon-all-layouts-members : OneRoom all_layouts.capbeacon_all_layouts.Kinds.ps all_layouts.capbeacon_all_layouts.Kinds.r (λ κs e. now (e .1 .1 .1 .1 .1 .1 .1 .1 .1 .1 .1 .1 .1 .1 .1 .0)) all_layouts.capbeacon_all_layouts.Reads.Post
 only-capbeacon-all-layouts-members κs a z z′ e e′ p q = cc
 
-pub only-capbeacon-all-layouts-place : OneRoom layouts.capbeacon_all_layouts.Kinds.ps layouts.capbeacon_all_layouts.Kinds.r (λ κs e. now (e .1 .1 .1 .1 .1 .1 .1 .1 .1 .1 .1 .1 .1 .1 .1 .1 .0)) layouts.capbeacon_all_layouts.Reads.Post
+pub only-capbeacon-all-layouts-place : OneRoom all_layouts.capbeacon_all_layouts.Kinds.ps all_layouts.capbeacon_all_layouts.Kinds.r (λ κs e. now (e .1 .1 .1 .1 .1 .1 .1 .1 .1 .1 .1 .1 .1 .1 .1 .1 .0)) all_layouts.capbeacon_all_layouts.Reads.Post
 only-capbeacon-all-layouts-place κs a z z′ e e′ p q = cc
 
-pub only-capbeacon-all-layouts-structure-count : OneRoom layouts.capbeacon_all_layouts.Kinds.ps layouts.capbeacon_all_layouts.Kinds.r (λ κs e. now (e .1 .1 .1 .1 .1 .1 .1 .1 .1 .1 .1 .1 .1 .1 .1 .1 .1 .0)) layouts.capbeacon_all_layouts.Reads.Post
+pub only-capbeacon-all-layouts-structure-count : OneRoom all_layouts.capbeacon_all_layouts.Kinds.ps all_layouts.capbeacon_all_layouts.Kinds.r (λ κs e. now (e .1 .1 .1 .1 .1 .1 .1 .1 .1 .1 .1 .1 .1 .1 .1 .1 .1 .0)) all_layouts.capbeacon_all_layouts.Reads.Post
 only-capbeacon-all-layouts-structure-count κs a z z′ e e′ p q = cc
 
-pub only-capbeacon-all-layouts-member-count : OneRoom layouts.capbeacon_all_layouts.Kinds.ps layouts.capbeacon_all_layouts.Kinds.r (λ κs e. now (e .1 .1 .1 .1 .1 .1 .1 .1 .1 .1 .1 .1 .1 .1 .1 .1 .1 .1 .0)) layouts.capbeacon_all_layouts.Reads.Post
+pub only-capbeacon-all-layouts-member-count : OneRoom all_layouts.capbeacon_all_layouts.Kinds.ps all_layouts.capbeacon_all_layouts.Kinds.r (λ κs e. now (e .1 .1 .1 .1 .1 .1 .1 .1 .1 .1 .1 .1 .1 .1 .1 .1 .1 .1 .0)) all_layouts.capbeacon_all_layouts.Reads.Post
 only-capbeacon-all-layouts-member-count κs a z z′ e e′ p q = cc

@@ -15,9 +15,9 @@ use Rattle.tables.proofs.Laws.Checked.{checked-rising}
 use Rattle.tables.specs.declared.row.Counts.{Counts}
 use Rattle.tables.specs.declared.check.Check.{Check}
 use Rattle.tables.specs.declared.check.Check.the-variants as check
-use Rattle.links.specs.Typed.{inRow}
-use Rattle.links.proofs.Laws.Typed.{key-found, row-passed, in-row}
-use Rattle.links.specs.declared.typed.Keyed.the-variants as keyed
+use Rattle.tables.specs.Keyed.{inRow}
+use Rattle.tables.proofs.Laws.Keyed.{key-found, row-passed, in-row}
+use Rattle.tables.specs.declared.keyed.Keyed.the-variants as keyed
 use Rattle.sizes.specs.Size.{innerSize, shapeOf}
 use Rattle.layout.specs.Layout.{rowLay, layoutAt, intoRoom, layoutOf}
 use Rattle.sizes.specs.Size.{isStructure}

@@ -23,7 +23,9 @@ use Rattle.tables.specs.Row.{rowAt, attrAt, erasedRow, endianOf}
 use Rattle.tables.specs.Test.{fitting, attrHolds, runHolds, rowHolds, rowsHold, tableHolds}
 use Rattle.links.specs.Attribute.{wants, attrFrom, attributeOf, asReference, referenceBy, referenceOf}
 use Rattle.links.specs.Links.{nextFrom, nextRow, rowNumber, siblingBy, siblingRow, childWalk, nullRow, nonNull}
-use Rattle.links.specs.Typed.{rowBy, inRow, endsOf, asValue, wordAt}
+use Rattle.tables.specs.Keyed.{rowBy, inRow}
+use Rattle.tables.specs.Row.{endsOf}
+use Rattle.links.specs.Typed.{asValue, wordAt}
 use Rattle.links.specs.Walk.{meets, stops, walkFrom}
 use Rattle.records.specs.Fields.{isSought, lastFrom, nameBy, nameOf, replaced, typeBy, typeOf, asOffset, offsetIn, offsetBy, offsetField, asWord, wordIn, wordBy, wordOf}
 use Rattle.records.specs.Front.{kindTaken, kindFault, childlessFault, headOf, frontOf, unless}

@@ -29,10 +29,10 @@ use Rattle.tables.specs.declared.row.Counts.{Counts}
 use Rattle.links.specs.Links.{siblingRow, nextRow, childWalk}
 use Rattle.links.specs.Inside.Kids.{walkOn, kidsFrom, kidsOf, firstOr, isEnding}
 use Rattle.links.proofs.Laws.Kids.{few-kids, kids-more}
-use Rattle.links.specs.Typed.{inRow}
-use Rattle.links.proofs.Laws.Typed.{in-row, no-row}
-use Rattle.links.specs.declared.typed.Keyed.{Keyed}
-use Rattle.links.specs.declared.typed.Keyed.the-variants as keyed
+use Rattle.tables.specs.Keyed.{inRow}
+use Rattle.tables.proofs.Laws.Keyed.{in-row, no-row}
+use Rattle.tables.specs.declared.keyed.Keyed.{Keyed}
+use Rattle.tables.specs.declared.keyed.Keyed.the-variants as keyed
 use Rattle.records.specs.Inside.Enumeration.{AskedShort}
 use Rattle.records.proofs.Laws.Taken.{test-passed, test-failed}
 use Rattle.records.specs.Scan.{runOf}

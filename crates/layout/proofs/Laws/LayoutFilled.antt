@@ -15,10 +15,11 @@ use Rattle.format.specs.declared.settings.Settings.{Settings}
 use Rattle.blocks.specs.declared.types.Type.{«Type»}
 use Rattle.tables.specs.Row.{rowAt}
 use Rattle.tables.specs.declared.row.Counts.{Counts}
-use Rattle.links.specs.Typed.{inRow}
-use Rattle.links.proofs.Laws.Typed.{in-row, no-row, keyed-asked, keyed-key}
-use Rattle.links.specs.declared.typed.Keyed.{Keyed}
-use Rattle.links.specs.declared.typed.Keyed.the-variants as keyed
+use Rattle.tables.specs.Keyed.{inRow}
+use Rattle.tables.proofs.Laws.Keyed.{in-row, no-row, keyed-key}
+use Rattle.links.proofs.Laws.Typed.{keyed-asked}
+use Rattle.tables.specs.declared.keyed.Keyed.{Keyed}
+use Rattle.tables.specs.declared.keyed.Keyed.the-variants as keyed
 use Rattle.sizes.specs.Size.{innerSize}
 use Rattle.layout.specs.Layout.{Laid, Lay, laid, unlaid, sizeOrLargest, ownSize, rowLay, layoutBy, layoutAt, laidWords, laidWidth, layInto, intoRoom, layoutOf}
 use Rattle.layout.proofs.Laws.Layout.{words-long}

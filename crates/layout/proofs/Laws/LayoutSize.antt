@@ -20,7 +20,7 @@ use Rattle.tables.specs.Check.{refusedAt, afterTests, tested}
 use Rattle.tables.specs.declared.row.Counts.{Counts}
 use Rattle.tables.specs.declared.find.Found.{Found}
 use Rattle.tables.specs.declared.find.Found.the-variants as found
-use Rattle.links.specs.Typed.{rowBy, inRow}
+use Rattle.tables.specs.Keyed.{rowBy, inRow}
 use Rattle.records.specs.Unions.{Placed, Members, members, refused}
 use Rattle.records.specs.declared.fields.Word.{Word}
 use Rattle.records.specs.declared.fields.Word.the-variants as word

@@ -37,12 +37,15 @@ use Rattle.tables.specs.declared.find.Found.{Found}
 use Rattle.tables.specs.declared.find.Found.the-variants.{At, Nothing}
 use Rattle.links.specs.Attribute.{wants, attributeOf, asReference, referenceBy, referenceOf}
 use Rattle.links.proofs.Laws.Attribute.{attribute-found}
-use Rattle.links.specs.Typed.{inRow, endsOf, asPlaced, spotAt, spotIn, placeOf, asValue, asWidened, wordAt, wordOf, valueBy, partAs, toldWords}
-use Rattle.links.proofs.Laws.Typed.{place-there, place-refused, keyed-checked, keyed-asked, keyed-key}
+use Rattle.tables.specs.Keyed.{inRow}
+use Rattle.tables.specs.Row.{endsOf}
+use Rattle.links.specs.Typed.{asPlaced, spotAt, spotIn, placeOf, asValue, asWidened, wordAt, wordOf, valueBy, partAs, toldWords}
+use Rattle.links.proofs.Laws.Typed.{place-there, place-refused, keyed-asked}
+use Rattle.tables.proofs.Laws.Keyed.{keyed-checked, keyed-key}
 use Rattle.links.specs.declared.lookup.Wanted.the-variants as wanted
 use Rattle.links.specs.declared.lookup.Reference.the-variants as reference
-use Rattle.links.specs.declared.typed.Keyed.{Keyed}
-use Rattle.links.specs.declared.typed.Keyed.the-variants as keyed
+use Rattle.tables.specs.declared.keyed.Keyed.{Keyed}
+use Rattle.tables.specs.declared.keyed.Keyed.the-variants as keyed
 use Rattle.links.specs.declared.typed.Value.{Value}
 use Rattle.links.specs.declared.typed.Value.the-variants as value
 use Rattle.links.specs.declared.typed.Spot.{Spot}

@@ -25,10 +25,11 @@ use Rattle.tables.specs.declared.row.Attr.{Attr}
 use Rattle.tables.specs.declared.find.Found.{Found}
 use Rattle.tables.specs.declared.row.Counts.{Counts}
 use Rattle.links.specs.Links.{childWalk}
-use Rattle.links.specs.Typed.{inRow}
-use Rattle.links.proofs.Laws.Typed.{in-row, no-row, keyed-asked, keyed-short}
-use Rattle.links.specs.declared.typed.Keyed.{Keyed}
-use Rattle.links.specs.declared.typed.Keyed.the-variants as keyed
+use Rattle.tables.specs.Keyed.{inRow}
+use Rattle.tables.proofs.Laws.Keyed.{in-row, no-row, keyed-short}
+use Rattle.links.proofs.Laws.Typed.{keyed-asked}
+use Rattle.tables.specs.declared.keyed.Keyed.{Keyed}
+use Rattle.tables.specs.declared.keyed.Keyed.the-variants as keyed
 use Rattle.records.specs.Taken.{special}
 use Rattle.records.specs.Scan.{runOf, attributeAt, attributeFault, numberAt, faultAt}
 use Rattle.records.specs.Inside.Scan.{scanFrom}

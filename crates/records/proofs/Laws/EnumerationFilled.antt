@@ -15,10 +15,10 @@ use Rattle.format.specs.declared.settings.Settings.{Settings}
 use Rattle.format.specs.declared.settings.Producer.{Producer}
 use Rattle.format.specs.declared.refusal.Refusal.{Refusal}
 use Rattle.tables.specs.declared.row.Counts.{Counts}
-use Rattle.links.specs.Typed.{inRow}
-use Rattle.links.proofs.Laws.Typed.{in-row, no-row}
-use Rattle.links.specs.declared.typed.Keyed.{Keyed}
-use Rattle.links.specs.declared.typed.Keyed.the-variants as keyed
+use Rattle.tables.specs.Keyed.{inRow}
+use Rattle.tables.proofs.Laws.Keyed.{in-row, no-row}
+use Rattle.tables.specs.declared.keyed.Keyed.{Keyed}
+use Rattle.tables.specs.declared.keyed.Keyed.the-variants as keyed
 use Rattle.records.specs.Elements.{Listed, valuesOf, namesOf}
 use Rattle.records.proofs.Laws.Elements.{reversed-length}
 use Rattle.records.specs.Enumeration.{Lists, listed, isGcc, reversed, inOrder, rowLists, enumerationAt, listInto, intoRooms, enumerationBy}

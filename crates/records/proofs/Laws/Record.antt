@@ -5,10 +5,10 @@ use mathlib.Core.List.{List}
 use Rattle.format.specs.declared.settings.Settings.{Settings}
 use Rattle.format.specs.declared.refusal.Refusal.{Refusal}
 use Rattle.tables.specs.declared.row.Counts.{Counts}
-use Rattle.links.specs.Typed.{inRow}
-use Rattle.links.proofs.Laws.Typed.{in-row}
-use Rattle.links.specs.declared.typed.Keyed.{Keyed}
-use Rattle.links.specs.declared.typed.Keyed.the-variants as keyed
+use Rattle.tables.specs.Keyed.{inRow}
+use Rattle.tables.proofs.Laws.Keyed.{in-row}
+use Rattle.tables.specs.declared.keyed.Keyed.{Keyed}
+use Rattle.tables.specs.declared.keyed.Keyed.the-variants as keyed
 use Rattle.records.specs.Front.{unless}
 use Rattle.records.proofs.Laws.Front.{unless-clear}
 use Rattle.records.specs.declared.scan.Run.{Run}

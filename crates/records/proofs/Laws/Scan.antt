@@ -18,7 +18,7 @@ use Rattle.tables.specs.Row.{rowAt, attrAt}
 use Rattle.tables.specs.Check.{refusedAt}
 use Rattle.tables.specs.declared.row.Row.{Row}
 use Rattle.tables.specs.declared.row.Attr.{Attr}
-use Rattle.links.specs.Typed.{endsOf}
+use Rattle.tables.specs.Row.{endsOf}
 use Rattle.records.specs.Taken.{special}
 use Rattle.records.proofs.Laws.Taken.{by-case, test-passed, test-failed}
 use Rattle.records.specs.Scan.{runOf, attributeAt, expectedForm, locationFault, contentFault, formFault, attributeFault, orElse, faultsFrom, faultAt, numberAt}

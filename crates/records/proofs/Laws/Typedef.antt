@@ -30,10 +30,10 @@ use Rattle.tables.specs.declared.find.Found.the-variants as found
 use Rattle.links.specs.Links.{childWalk}
 use Rattle.links.specs.Inside.Links.{Rows}
 use Rattle.links.specs.Inside.Children.{Asked}
-use Rattle.links.specs.Typed.{inRow}
-use Rattle.links.proofs.Laws.Typed.{no-row}
-use Rattle.links.specs.declared.typed.Keyed.{Keyed}
-use Rattle.links.specs.declared.typed.Keyed.the-variants as keyed
+use Rattle.tables.specs.Keyed.{inRow}
+use Rattle.tables.proofs.Laws.Keyed.{no-row}
+use Rattle.tables.specs.declared.keyed.Keyed.{Keyed}
+use Rattle.tables.specs.declared.keyed.Keyed.the-variants as keyed
 use Rattle.records.specs.Taken.{special}
 use Rattle.records.proofs.Laws.Taken.{by-case, test-passed, test-failed}
 use Rattle.records.specs.Scan.{runOf, attributeAt, numberAt, attributeFault, faultAt}

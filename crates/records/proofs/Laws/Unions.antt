@@ -27,12 +27,12 @@ use Rattle.links.specs.Inside.Links.{AtRow}
 use Rattle.links.specs.Inside.Kids.{rowsMet, kidsFrom, kidsOf, Ends, firstOr}
 use Rattle.links.proofs.Laws.Kids.{few-kids, kids-more, ends-more, kids-none, kids-same, ends-same, first-same, kids-at, ends-at, counted-ends, counted-walk, walk-kids, endless-walk}
 use Rattle.links.specs.Inside.Children.{filled, Asked}
-use Rattle.links.specs.Typed.{inRow}
-use Rattle.links.proofs.Laws.Typed.{in-row, no-row}
+use Rattle.tables.specs.Keyed.{inRow}
+use Rattle.tables.proofs.Laws.Keyed.{in-row, no-row}
 use Rattle.links.specs.declared.children.Kids.{Kids}
 use Rattle.links.specs.declared.children.Kids.the-variants as kids
-use Rattle.links.specs.declared.typed.Keyed.{Keyed}
-use Rattle.links.specs.declared.typed.Keyed.the-variants as keyed
+use Rattle.tables.specs.declared.keyed.Keyed.{Keyed}
+use Rattle.tables.specs.declared.keyed.Keyed.the-variants as keyed
 use Rattle.records.proofs.Laws.Taken.{test-passed, test-failed}
 use Rattle.records.specs.Scan.{runOf}
 use Rattle.records.proofs.Laws.Front.{unless-clear, unless-refused}

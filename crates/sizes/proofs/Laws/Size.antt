@@ -36,7 +36,7 @@ use Rattle.tables.specs.declared.find.Found.{Found}
 use Rattle.tables.specs.declared.find.Found.the-variants as found
 use Rattle.links.specs.Links.{childWalk, nonNull}
 use Rattle.links.specs.Inside.Kids.{rowsMet, isEnding, walkOn, kidsFrom, kidsOf}
-use Rattle.links.specs.Typed.{endsOf}
+use Rattle.tables.specs.Row.{endsOf}
 use Rattle.links.specs.Walk.{Walk, ends, endless}
 use Rattle.records.specs.Scan.{runOf, faultsFrom}
 use Rattle.records.specs.Member.{memberAt}

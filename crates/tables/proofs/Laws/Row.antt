@@ -3,14 +3,15 @@ use Prim.Native.Nat.{ℕ, _+_, _*_, _/_, _%_, _≤_, _<_}
 use native.Mathlib.Nat.{add-zero}
 use native.Mathlib.Numerals.{add-one, add-two, add-three, add-four}
 use native.Mathlib.Omega.{arith}
-use mathlib.Core.Path.{_≡_, refl, sym}
+use mathlib.Core.Path.{_≡_, refl, sym, ap, _∙_}
 use mathlib.Core.List.{List, _++_}
 use lib.ListN.{length, getD, set}
 use lib.Seq.{sets}
 use borrow.Author.Tests.{eq-eqb, ne-eqb}
 use Rattle.lent.proofs.Laws.Stores.{word-none}
 use Rattle.numbers.specs.declared.Endian.the-variants.{Big, Little}
-use Rattle.tables.specs.Row.{rowWidth, attrWidth, rowWords, attrWords, rowsWords, attrsWords, rowAt, attrAt, rowsFrom, attrsFrom, putRow, putAttr, endianOf}
+use Rattle.numbers.specs.declared.Endian.{Endian}
+use Rattle.tables.specs.Row.{endsOf, rowWidth, attrWidth, rowWords, attrWords, rowsWords, attrsWords, rowAt, attrAt, rowsFrom, attrsFrom, putRow, putAttr, endianOf}
 use Rattle.lent.proofs.Laws.Stores.{sets-out}
 use Rattle.tables.proofs.Laws.Flat.{Kind, runs-append, all-back}
 use Rattle.tables.specs.declared.row.Row.{Row}
@@ -151,3 +152,9 @@ attrs-append t i xs ys = runs-append attrKind t i xs ys
 pub attrs-back : (t : List ℕ) (xs : List Attr) → length xs * attrWidth ≤ length t → attrsFrom (sets t 0 (attrsWords xs)) 0 (length xs) ≡ xs
 unfolding attrKind
 attrs-back t xs h = all-back attrKind t 0 xs (omega arith)
+
+-- the endiannesses of a row
+pub ends-of : (e : Endian) (rows : List ℕ) (i : ℕ) {row : Row} {own : Endian} → row ≡ rowAt rows i → own ≡ endianOf (row .flags)
+    → record { section = e; «data» = own } ≡ endsOf e rows i
+unfolding endsOf
+ends-of e rows i p q = ap (λ (x : Endian). record { section = e; «data» = x }) (q ∙ ap (λ (r : Row). endianOf (r .flags)) p)

@@ -1,6 +1,7 @@
 use Rattle.layout.proofs.Laws.Layout.{layout-there, layout-unlaid}
 use Rattle.sizes.proofs.Laws.Kept.{none-kept}
-use Rattle.links.proofs.Laws.Typed.{keyed-asked, keyed-short}
+use Rattle.links.proofs.Laws.Typed.{keyed-asked}
+use Rattle.tables.proofs.Laws.Keyed.{keyed-short}
 use borrow.Author.Needs.{needs}
 use Rattle.layout.proofs.one.layout_of_key.Statement.{statement}
 use Rattle.layout.proofs.one.layout_of_key.Tie as tie

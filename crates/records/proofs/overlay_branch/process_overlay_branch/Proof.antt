@@ -1,6 +1,6 @@
 use Rattle.records.specs.OverlayBranch.{overlayBy}
 use Rattle.records.proofs.Laws.Record.{record-there}
-use Rattle.links.proofs.Laws.Typed.{no-row}
+use Rattle.tables.proofs.Laws.Keyed.{no-row}
 use borrow.Author.Needs.{needs}
 use Rattle.records.proofs.overlay_branch.process_overlay_branch.Statement.{statement}
 use Rattle.records.proofs.overlay_branch.process_overlay_branch.Tie as tie

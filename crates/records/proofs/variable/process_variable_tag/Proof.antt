@@ -1,6 +1,7 @@
 use Rattle.records.specs.Variable.{variableBy}
 use Rattle.records.proofs.Laws.Record.{record-there}
-use Rattle.links.proofs.Laws.Typed.{no-row, keyed-asked}
+use Rattle.tables.proofs.Laws.Keyed.{no-row}
+use Rattle.links.proofs.Laws.Typed.{keyed-asked}
 use borrow.Author.Needs.{needs}
 use Rattle.records.proofs.variable.process_variable_tag.Statement.{statement}
 use Rattle.records.proofs.variable.process_variable_tag.Tie as tie

@@ -1,7 +1,7 @@
 use Rattle.exports.specs.Crossing.{layoutsAs}
 use borrow.Author.Needs.{needs}
-use Rattle.exports.proofs.layouts.layouts_as.Statement.{statement}
-use Rattle.exports.proofs.layouts.layouts_as.Tie as tie
+use Rattle.exports.proofs.all_layouts.layouts_as.Statement.{statement}
+use Rattle.exports.proofs.all_layouts.layouts_as.Tie as tie
 
 returns : tie.Need-returns
 unfolding layoutsAs

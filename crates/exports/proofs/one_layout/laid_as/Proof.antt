@@ -1,7 +1,7 @@
 use Rattle.exports.specs.Crossing.{laidAs}
 use borrow.Author.Needs.{needs}
-use Rattle.exports.proofs.layout.laid_as.Statement.{statement}
-use Rattle.exports.proofs.layout.laid_as.Tie as tie
+use Rattle.exports.proofs.one_layout.laid_as.Statement.{statement}
+use Rattle.exports.proofs.one_layout.laid_as.Tie as tie
 
 returns : tie.Need-returns
 unfolding laidAs

@@ -1,7 +1,7 @@
 use Rattle.exports.proofs.Laws.Crossing.{layouts-cross}
 use borrow.Author.Needs.{needs}
-use Rattle.exports.proofs.layouts.capbeacon_all_layouts.Statement.{statement}
-use Rattle.exports.proofs.layouts.capbeacon_all_layouts.Tie as tie
+use Rattle.exports.proofs.all_layouts.capbeacon_all_layouts.Statement.{statement}
+use Rattle.exports.proofs.all_layouts.capbeacon_all_layouts.Tie as tie
 
 returns : tie.Need-returns
 returns c = layouts-cross (c .before .before .before .before .before .before .before .before .before .settings-from .ensures) _ _ _ _ _ (c .before .before .before .before .before .before .before .before .counts-from .ensures) _ _ (c .before .before .before .before .before .all-layouts .ensures) (c .layouts-told .ensures)

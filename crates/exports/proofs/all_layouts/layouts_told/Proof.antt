@@ -2,8 +2,8 @@ use Rattle.exports.specs.Crossing.{layoutsAs, layoutsTold}
 use borrow.Author.Needs.{needs}
 use Prim.Native.Nat.{ℕ}
 use mathlib.Core.Path.{sym, ap, _∙_}
-use Rattle.exports.proofs.layouts.layouts_told.Statement.{statement}
-use Rattle.exports.proofs.layouts.layouts_told.Tie as tie
+use Rattle.exports.proofs.all_layouts.layouts_told.Statement.{statement}
+use Rattle.exports.proofs.all_layouts.layouts_told.Tie as tie
 
 returns : tie.Need-returns
 unfolding layoutsTold

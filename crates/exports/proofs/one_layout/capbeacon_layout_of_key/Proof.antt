@@ -1,7 +1,7 @@
 use Rattle.exports.proofs.Laws.Crossing.{layout-crosses}
 use borrow.Author.Needs.{needs}
-use Rattle.exports.proofs.layout.capbeacon_layout_of_key.Statement.{statement}
-use Rattle.exports.proofs.layout.capbeacon_layout_of_key.Tie as tie
+use Rattle.exports.proofs.one_layout.capbeacon_layout_of_key.Statement.{statement}
+use Rattle.exports.proofs.one_layout.capbeacon_layout_of_key.Tie as tie
 
 returns : tie.Need-returns
 returns c = layout-crosses (c .before .before .before .before .before .before .settings-from .ensures) _ _ _ _ _ (c .before .before .before .before .before .counts-from .ensures) _ _ (c .before .before .before .layout-of-key .ensures) (c .layout-told .ensures)

@@ -2,8 +2,8 @@ use Rattle.exports.specs.Crossing.{toldAs, layoutTold}
 use borrow.Author.Needs.{needs}
 use Prim.Native.Nat.{ℕ}
 use mathlib.Core.Path.{sym, ap, _∙_}
-use Rattle.exports.proofs.layout.layout_told.Statement.{statement}
-use Rattle.exports.proofs.layout.layout_told.Tie as tie
+use Rattle.exports.proofs.one_layout.layout_told.Statement.{statement}
+use Rattle.exports.proofs.one_layout.layout_told.Tie as tie
 
 returns : tie.Need-returns
 unfolding layoutTold

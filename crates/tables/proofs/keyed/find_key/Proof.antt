@@ -1,7 +1,7 @@
-use Rattle.links.proofs.Laws.Typed.{key-found, key-nowhere}
+use Rattle.tables.proofs.Laws.Keyed.{key-found, key-nowhere}
 use borrow.Author.Needs.{needs}
-use Rattle.links.proofs.typed.find_key.Statement.{statement}
-use Rattle.links.proofs.typed.find_key.Tie as tie
+use Rattle.tables.proofs.keyed.find_key.Statement.{statement}
+use Rattle.tables.proofs.keyed.find_key.Tie as tie
 
 returns : tie.Need-returns
 returns c = key-found _ (c .before .before .before .find-row .ensures) (c .before .i .given .1)

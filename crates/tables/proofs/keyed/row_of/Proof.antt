@@ -1,11 +1,12 @@
-use Rattle.links.proofs.Laws.Children.{tested-rows}
-use Rattle.links.proofs.Laws.Typed.{row-passed, row-refused}
+use Rattle.tables.proofs.Laws.Check.{passed-checked}
+use Rattle.tables.proofs.Laws.Checked.{checked-rising}
+use Rattle.tables.proofs.Laws.Keyed.{row-passed, row-refused}
 use borrow.Author.Needs.{needs}
-use Rattle.links.proofs.typed.row_of.Statement.{statement}
-use Rattle.links.proofs.typed.row_of.Tie as tie
+use Rattle.tables.proofs.keyed.row_of.Statement.{statement}
+use Rattle.tables.proofs.keyed.row_of.Tie as tie
 
 find-key-requires : tie.Need-find-key-requires
-find-key-requires c κs = tested-rows (c .before .before .check-table .ensures) (c .enum-told .given .1) .rising
+find-key-requires c κs = checked-rising (passed-checked (c .before .before .check-table .ensures) (c .enum-told .given .1))
 
 returns : tie.Need-returns
 returns c = row-passed _ _ _ _ _ _ _ _ (c .before .before .before .check-table .ensures) (c .before .enum-told .given .1) (c .find-key .ensures)

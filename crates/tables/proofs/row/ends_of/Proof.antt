@@ -1,7 +1,7 @@
-use Rattle.links.proofs.Laws.Typed.{ends-of}
+use Rattle.tables.proofs.Laws.Row.{ends-of}
 use borrow.Author.Needs.{needs}
-use Rattle.links.proofs.typed.ends_of.Statement.{statement}
-use Rattle.links.proofs.typed.ends_of.Tie as tie
+use Rattle.tables.proofs.row.ends_of.Statement.{statement}
+use Rattle.tables.proofs.row.ends_of.Tie as tie
 
 returns : tie.Need-returns
 returns c = ends-of _ _ _ (c .before .row-at .ensures) (c .endian-of .ensures)
