@@ -75,8 +75,8 @@ fn numbers_are_those_of_the_archive() {
     for (file, names) in [
         ("tables/src/row.rt", &["ROW_WIDTH", "ATTR_WIDTH", "ERASED", "ERASED_ROOT", "LITTLE"][..]),
         ("tree/src/listing.rt", &["PLACE_WIDTH"]),
-        ("sizes/src/layout.rt", &["LAID_WIDTH"]),
-        ("sizes/src/all.rt", &["STRUCTURE_WIDTH"]),
+        ("layout/src/one.rt", &["LAID_WIDTH"]),
+        ("layout/src/all.rt", &["STRUCTURE_WIDTH"]),
         ("format/src/limits.rt", &["ENTRY_LIMIT", "ATTRIBUTE_LIMIT"]),
     ] {
         let theirs = text(below("../crates").join(file));
