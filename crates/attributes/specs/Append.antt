@@ -10,6 +10,7 @@ unfoldable pub shiftEnd : ℕ → End → End
 shiftEnd k (At next) = At (k + next)
 shiftEnd k (Short field) = Short (k + field)
 
+-- the same of an attribute
 unfoldable pub shiftAttribute : ℕ → Attribute → Attribute
 shiftAttribute k (attribute.Read n value next) = attribute.Read n (k + value) (k + next)
 shiftAttribute k (attribute.Short field) = attribute.Short (k + field)

@@ -18,6 +18,7 @@ pub struct Endians {
     pub data: Endian,
 }
 
+// An address: 4 bytes in section endianness; or they are not all there.
 pub fn address(s: &[u8], at: usize, ends: Endians) -> Read32
     ensures { λ r. ⌜ r ≡ addressAt ends (now (s .entry)) at ⌝ }
 {
@@ -25,6 +26,7 @@ pub fn address(s: &[u8], at: usize, ends: Endians) -> Read32
     u32_at(s, at, e)
 }
 
+// A reference, likewise.
 pub fn reference(s: &[u8], at: usize, ends: Endians) -> Read32
     ensures { λ r. ⌜ r ≡ referenceAt ends (now (s .entry)) at ⌝ }
 {
@@ -32,6 +34,7 @@ pub fn reference(s: &[u8], at: usize, ends: Endians) -> Read32
     u32_at(s, at, e)
 }
 
+// 2 bytes of data, in data endianness.
 pub fn data2(s: &[u8], at: usize, ends: Endians) -> Read16
     ensures { λ r. ⌜ r ≡ data2At ends (now (s .entry)) at ⌝ }
 {
@@ -39,6 +42,7 @@ pub fn data2(s: &[u8], at: usize, ends: Endians) -> Read16
     u16_at(s, at, e)
 }
 
+// 4 bytes of data.
 pub fn data4(s: &[u8], at: usize, ends: Endians) -> Read32
     ensures { λ r. ⌜ r ≡ data4At ends (now (s .entry)) at ⌝ }
 {
@@ -46,6 +50,7 @@ pub fn data4(s: &[u8], at: usize, ends: Endians) -> Read32
     u32_at(s, at, e)
 }
 
+// 8 bytes of data.
 pub fn data8(s: &[u8], at: usize, ends: Endians) -> Read64
     ensures { λ r. ⌜ r ≡ data8At ends (now (s .entry)) at ⌝ }
 {

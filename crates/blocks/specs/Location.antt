@@ -7,7 +7,8 @@ use lib.Dec.{eqb}
 use Rattle.numbers.specs.Value.{readAt}
 use Rattle.numbers.specs.declared.Endian.{Endian}
 use Rattle.format.specs.declared.location_op.LocationOp.{LocationOp}
-use Rattle.format.specs.declared.location_op.LocationOp.the-variants.{Register, BaseRegister, Address, Const, Deref2, Deref4, Add, MwFpReg, MwFpDReg, MwDRef8, Unknown}
+use Rattle.format.specs.declared.location_op.LocationOp.the-variants.{Register, BaseRegister, Address, Const, Deref2, Deref4, Add, MwFpReg, MwFpDReg}
+use Rattle.format.specs.declared.location_op.LocationOp.the-variants.{MwDRef8, Unknown}
 use Rattle.format.specs.declared.refusal.Refusal.{Refusal}
 use Rattle.format.specs.declared.refusal.Reason.{Reason}
 use Rattle.format.specs.declared.refusal.Reason.the-variants as reason
@@ -68,12 +69,12 @@ unfolding madeOf
 shapeOperand ops e block = cond (madeOf ops block 0) (located.Is (operandAt e block 1)) (located.Refused (refusedBlock reason.Block))
 
 -- `process_offset`: CONST n, ADD
-abbrev pub offsetOf : Endian → List ℕ → Located
-offsetOf e block = shapeOperand (Const ∷ Add ∷ []) e block
+abbrev pub processOffset : Endian → List ℕ → Located
+processOffset e block = shapeOperand (Const ∷ Add ∷ []) e block
 
 -- `process_address`: ADDR a
-abbrev pub addressOf : Endian → List ℕ → Located
-addressOf e block = shapeOperand (Address ∷ []) e block
+abbrev pub processAddress : Endian → List ℕ → Located
+processAddress e block = shapeOperand (Address ∷ []) e block
 
 -- a register alone: REG r, BASEREG r, or Metrowerks' floating one
 unfoldable pub isRegister : List ℕ → Bool
@@ -86,9 +87,9 @@ unfolding madeOf
 isRegisterPlus block = madeOf (BaseRegister ∷ Const ∷ Add ∷ []) block 0
 
 -- `process_variable_location`: a register, an address, or a register plus an offset
-unfoldable pub variableLocation : Endian → List ℕ → VariableLocation
+unfoldable pub processVariableLocation : Endian → List ℕ → VariableLocation
 unfolding madeOf
-variableLocation e block =
+processVariableLocation e block =
     cond (isRegister block) (variable.Register (operandAt e block 1))
     (cond (madeOf (Address ∷ []) block 0) (variable.Address (operandAt e block 1))
     (cond (isRegisterPlus block) (variable.RegisterPlus (operandAt e block 1) (operandAt e block 6)) (variable.Refused (refusedBlock reason.Block))))

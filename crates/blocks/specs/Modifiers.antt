@@ -39,5 +39,5 @@ anyPointer [] = false
 anyPointer (m ∷ rest) = isPointer (modifierOf m) || anyPointer rest
 
 -- `process_modifiers`
-unfoldable pub modifiersOf : List ℕ → Modifiers
-modifiersOf block = cond (allKnown block) (Known (anyPointer block)) (Refused (refusedBlock reason.Number))
+unfoldable pub processModifiers : List ℕ → Modifiers
+processModifiers block = cond (allKnown block) (Known (anyPointer block)) (Refused (refusedBlock reason.Number))

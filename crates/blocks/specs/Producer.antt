@@ -15,5 +15,5 @@ abbrev pub gnuC : List ℕ
 gnuC = 0x47 ∷ 0x4E ∷ 0x55 ∷ 0x20 ∷ 0x43 ∷ []
 
 -- the producer of a text
-unfoldable pub producerOf : List ℕ → Producer
-producerOf text = cond (beginsWith mw text) Mwcc (cond (beginsWith gnuC text) Gcc Other)
+unfoldable pub parseProducer : List ℕ → Producer
+parseProducer text = cond (beginsWith mw text) Mwcc (cond (beginsWith gnuC text) Gcc Other)

@@ -1,5 +1,5 @@
--- How the standard writes a location, in either endianness (STANDARD.md 19; facts of DWARF 1.1, not the reader): its atoms one after the other, each its byte and
--- its operand.
+-- How the standard writes a location, in either endianness (STANDARD.md 19; facts of DWARF 1.1, not the reader): its atoms one after the other,
+-- each its byte and its operand.
 use Prim.Native.Nat.{ℕ, suc, _+_}
 use mathlib.Core.List.{List, [], _∷_, _++_}
 use Rattle.numbers.specs.Written.{bytesOf}

@@ -11,14 +11,16 @@ use Rattle.format.specs.SubscriptFormat.{subscriptFormatOf}
 use Rattle.format.specs.declared.fund_type.FundType.{FundType}
 use Rattle.format.specs.declared.fund_type.FundType.the-variants as fund
 use Rattle.format.specs.declared.subscript_format.SubscriptFormat.{SubscriptFormat}
-use Rattle.format.specs.declared.subscript_format.SubscriptFormat.the-variants.{FundTypeConstConst, FundTypeConstLocation, FundTypeLocationConst, FundTypeLocationLocation, UserTypeConstConst, UserTypeConstLocation, UserTypeLocationConst, UserTypeLocationLocation, ElementType, Unknown}
+use Rattle.format.specs.declared.subscript_format.SubscriptFormat.the-variants.{FundTypeConstConst, FundTypeConstLocation, FundTypeLocationConst}
+use Rattle.format.specs.declared.subscript_format.SubscriptFormat.the-variants.{FundTypeLocationLocation, UserTypeConstConst, UserTypeConstLocation}
+use Rattle.format.specs.declared.subscript_format.SubscriptFormat.the-variants.{UserTypeLocationConst, UserTypeLocationLocation, ElementType, Unknown}
 use Rattle.format.specs.declared.refusal.Reason.the-variants as reason
 use Rattle.attributes.specs.Parts.{partAt}
 use Rattle.attributes.specs.Read.{readAttribute}
 use Rattle.attributes.specs.declared.read.Attribute.{Attribute}
 use Rattle.attributes.specs.declared.read.Attribute.the-variants as attribute
-use Rattle.blocks.specs.Location.{refusedBlock, offsetOf}
-use Rattle.blocks.specs.Types.{typeAt}
+use Rattle.blocks.specs.Location.{refusedBlock, processOffset}
+use Rattle.blocks.specs.Types.{processType}
 use Rattle.blocks.specs.declared.location.Located.{Located}
 use Rattle.blocks.specs.declared.location.Located.the-variants as located
 use Rattle.blocks.specs.declared.types.Typed.{Typed}
@@ -67,7 +69,7 @@ constBound e block = indexed (highBound e block) (indexAt e block)
 
 -- an empty location is unbounded, as is the offset 0
 unfoldable pub locationSize : Endian → List ℕ → Located
-locationSize e location = cond (eqb (length location) 0) (located.Is 0) (offsetOf e location)
+locationSize e location = cond (eqb (length location) 0) (located.Is 0) (processOffset e location)
 
 -- a dimension of this size, which took so many bytes
 unfoldable pub asDimension : ℕ → ℕ → Located → Subscript
@@ -79,12 +81,12 @@ unfoldable pub sizedDimension : Endian → ℕ → List ℕ → Subscript
 sizedDimension e t location = asDimension t (9 + length location) (locationSize e location)
 
 -- a location of n bytes from 9 on
-unfoldable pub sizedBy : Endian → List ℕ → ℕ → ℕ → Subscript
-sizedBy e block t n = cond (there block 9 n) (sizedDimension e t (partAt block 9 n)) (Refused (refusedBlock reason.Block))
+unfoldable pub highLocationBy : Endian → List ℕ → ℕ → ℕ → Subscript
+highLocationBy e block t n = cond (there block 9 n) (sizedDimension e t (partAt block 9 n)) (Refused (refusedBlock reason.Block))
 
 -- its length, 2 bytes at 7
 unfoldable pub highLocation : Endian → List ℕ → ℕ → Subscript
-highLocation e block t = readAt (sizedBy e block t) (Refused (refusedBlock reason.Block)) e 2 block 7
+highLocation e block t = readAt (highLocationBy e block t) (Refused (refusedBlock reason.Block)) e 2 block 7
 
 -- index type, low bound, location
 unfoldable pub locationBound : Endian → List ℕ → Subscript
@@ -99,13 +101,13 @@ elementOf used (typed.Refused why) = Refused why
 
 -- another attribute, a number that is not known and bytes that are missing are all 17; so no vendor list is asked
 unfoldable pub elementAs : Endian → List ℕ → Attribute → Subscript
-elementAs e block (attribute.Read number value next) = elementOf next (typeAt (record { section = e; «data» = e }) block number value)
+elementAs e block (attribute.Read number value next) = elementOf next (processType (record { section = e; «data» = e }) block number value)
 elementAs e block (attribute.Short field) = Refused (refusedBlock reason.Block)
 elementAs e block (attribute.Unknown field) = Refused (refusedBlock reason.Block)
 
 -- the attribute behind the format
-unfoldable pub elementAt : Endian → List ℕ → Subscript
-elementAt e block = elementAs e block (readAttribute [] e block 1)
+unfoldable pub elementTypeAt : Endian → List ℕ → Subscript
+elementTypeAt e block = elementAs e block (readAttribute [] e block 1)
 
 -- ---- the subscript that a block begins with
 
@@ -119,17 +121,17 @@ subscriptAs e block UserTypeConstConst = Refused (refusedBlock reason.Block)
 subscriptAs e block UserTypeConstLocation = Refused (refusedBlock reason.Block)
 subscriptAs e block UserTypeLocationConst = Refused (refusedBlock reason.Block)
 subscriptAs e block UserTypeLocationLocation = Refused (refusedBlock reason.Block)
-subscriptAs e block ElementType = elementAt e block
+subscriptAs e block ElementType = elementTypeAt e block
 subscriptAs e block Unknown = Refused (refusedBlock reason.Block)
 
 -- nothing is no subscript
-unfoldable pub subscriptOf : Endian → List ℕ → Subscript
-subscriptOf e block = cond (eqb (length block) 0) (Refused (refusedBlock reason.Block)) (subscriptAs e block (subscriptFormatOf (getD block 0 0)))
+unfoldable pub nextSubscript : Endian → List ℕ → Subscript
+nextSubscript e block = cond (eqb (length block) 0) (Refused (refusedBlock reason.Block)) (subscriptAs e block (subscriptFormatOf (getD block 0 0)))
 
 -- ---- what a subscript takes
 
 -- a subscript takes at least a byte, and all its bytes are inside
-abbrev pub Takes : List ℕ → Subscript → Type 0
-Takes block (Dimension t size used) = (1 ≤ used) × (used ≤ length block)
-Takes block (Element t used) = (1 ≤ used) × (used ≤ length block)
-Takes block (Refused why) = Unit
+abbrev pub UsesInside : List ℕ → Subscript → Type 0
+UsesInside block (Dimension t size used) = (1 ≤ used) × (used ≤ length block)
+UsesInside block (Element t used) = (1 ≤ used) × (used ≤ length block)
+UsesInside block (Refused why) = Unit

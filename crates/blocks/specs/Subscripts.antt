@@ -1,5 +1,5 @@
--- A block of subscripts (document 01, 'Types, records, sizes'; the Rust's `process_array_subscript_data`): one after the other, the rest handed on; dimensions in
--- their order, the last element type counting; no element type is 17.
+-- A block of subscripts (document 01, 'Types, records, sizes'; the Rust's `process_array_subscript_data`): one after the other, the rest handed on;
+-- dimensions in their order, the last element type counting; no element type is 17.
 use Prim.Native.Nat.{ℕ, zero, suc, _/_}
 use mathlib.Core.Bool.{true, false, cond}
 use mathlib.Core.List.{List, [], _∷_, _++_}
@@ -10,7 +10,7 @@ use Rattle.lent.specs.Outcome.{Outcome}
 use Rattle.numbers.specs.declared.Endian.{Endian}
 use Rattle.format.specs.declared.refusal.Reason.the-variants as reason
 use Rattle.blocks.specs.Location.{refusedBlock}
-use Rattle.blocks.specs.Subscript.{subscriptOf}
+use Rattle.blocks.specs.Subscript.{nextSubscript}
 use Rattle.blocks.specs.declared.subscript.Subscript.{Subscript}
 use Rattle.blocks.specs.declared.subscript.Subscript.the-variants as subscript
 use Rattle.blocks.specs.declared.subscripts.Element.{Element}
@@ -50,7 +50,7 @@ subscriptsFrom e zero el n block = record { answer = elementOr n el; words = [] 
 subscriptsFrom e (suc turns) el n block =
     elim (eqb (length block) 0) [
       | true ↦ record { answer = elementOr n el; words = [] }
-      | false ↦ step (λ el′ n′ used. subscriptsFrom e turns el′ n′ (drop used block)) el n (subscriptOf e block)
+      | false ↦ step (λ el′ n′ used. subscriptsFrom e turns el′ n′ (drop used block)) el n (nextSubscript e block)
     ]
 
 -- the whole block: a subscript takes at least a byte, so it has no more of them than bytes
@@ -64,11 +64,15 @@ countSubscripts e block = wholeBlock e block .answer
 -- ---- into lent room: 8 last, with the count; on a refusal the room stays as it was
 
 -- a dimension is two words
-unfoldable pub intoRoom : List ℕ → List ℕ → Counted → Outcome Subscripts ℕ
-intoRoom words room (counted.Are t n) =
-    cond (leb n (length room / 2)) (record { answer = subscripts.Read t n; room = sets room 0 words }) (record { answer = subscripts.Room n; room = room })
-intoRoom words room (counted.Refused why) = record { answer = subscripts.Refused why; room = room }
+unfoldable pub dimensionsInto : List ℕ → List ℕ → Counted → Outcome Subscripts ℕ
+dimensionsInto words room (counted.Are t n) =
+    cond (leb n (length room / 2)) (record {
+      answer =
+          subscripts.Read t n;
+      room = sets room 0 words;
+    }) (record { answer = subscripts.Room n; room = room })
+dimensionsInto words room (counted.Refused why) = record { answer = subscripts.Refused why; room = room }
 
 -- `process_array_subscript_data`
-unfoldable pub readSubscripts : Endian → List ℕ → List ℕ → Outcome Subscripts ℕ
-readSubscripts e block room = intoRoom (wholeBlock e block .words) room (countSubscripts e block)
+unfoldable pub processArraySubscriptData : Endian → List ℕ → List ℕ → Outcome Subscripts ℕ
+processArraySubscriptData e block room = dimensionsInto (wholeBlock e block .words) room (countSubscripts e block)

@@ -2,11 +2,11 @@
 use format::settings::Producer;
 use numbers::prefix::starts_with;
 ghost use mathlib.Core.Path.{_≡_};
-ghost use Rattle.blocks.specs.Producer.{producerOf};
+ghost use Rattle.blocks.specs.Producer.{parseProducer};
 
 // MW is Metrowerks' compiler, GNU C is GCC, all else another.
 pub fn parse_producer(text: &[u8]) -> Producer
-    ensures { λ r. ⌜ r ≡ producerOf (now (text .entry)) ⌝ }
+    ensures { λ r. ⌜ r ≡ parseProducer (now (text .entry)) ⌝ }
 {
     if starts_with(text, b"MW") {
         Producer::Mwcc

@@ -24,8 +24,9 @@ use numbers::unsigned::u32_at;
 use std::num::wrapping_add_u32;
 ghost use mathlib.Core.Path.{_≡_};
 ghost use Rattle.format.specs.FundType.{fundTypeOf};
-ghost use Rattle.blocks.specs.Types.{typeAt};
-ghost use Rattle.blocks.specs.Subscript.{lowBound, knownIndex, indexAt, highBound, constBound, locationSize, sizedDimension, sizedBy, highLocation, locationBound, elementOf, elementAt, subscriptAs, subscriptOf};
+ghost use Rattle.blocks.specs.Types.{processType};
+ghost use Rattle.blocks.specs.Subscript.{lowBound, knownIndex, indexAt, highBound, constBound, locationSize, sizedDimension, highLocationBy};
+ghost use Rattle.blocks.specs.Subscript.{highLocation, locationBound, elementOf, elementTypeAt, subscriptAs, nextSubscript};
 
 pub enum Subscript {
     // The index type and the size; 0 is unbounded.
@@ -125,7 +126,7 @@ fn sized_dimension(location: &[u8], e: Endian, index: u16) -> Subscript
 
 // A location of n bytes.
 fn sized_by(block: &[u8], e: Endian, index: u16, n: usize) -> Subscript
-    ensures { λ r. ⌜ r ≡ sizedBy e (now (block .entry)) index n ⌝ }
+    ensures { λ r. ⌜ r ≡ highLocationBy e (now (block .entry)) index n ⌝ }
 {
     if bytes_there(block, 9, n) {
         sized_dimension(part(block, 9, n), e, index)
@@ -154,7 +155,7 @@ fn location_bound(block: &[u8], e: Endian) -> Subscript
 }
 
 fn element_type(block: &[u8], e: Endian, number: u16, value: usize, used: usize) -> Subscript
-    ensures { λ r. ⌜ r ≡ elementOf used (typeAt (record { section = e; «data» = e }) (now (block .entry)) number value) ⌝ }
+    ensures { λ r. ⌜ r ≡ elementOf used (processType (record { section = e; «data» = e }) (now (block .entry)) number value) ⌝ }
 {
     let ends = Endians {
         section: e,
@@ -168,7 +169,7 @@ fn element_type(block: &[u8], e: Endian, number: u16, value: usize, used: usize)
 
 // Format 8: a type attribute. No vendor number is one, so none need be known here.
 fn element(block: &[u8], e: Endian) -> Subscript
-    ensures { λ r. ⌜ r ≡ elementAt e (now (block .entry)) ⌝ }
+    ensures { λ r. ⌜ r ≡ elementTypeAt e (now (block .entry)) ⌝ }
 {
     let vendors = [0u16; 0];
     match read_attribute(block, 1, e, &vendors) {
@@ -205,7 +206,7 @@ fn subscript_as(block: &[u8], e: Endian, format: SubscriptFormat) -> Subscript
 
 // The subscript that a block begins with. What follows it is `&block[used..]`, and `used` is at least 1 and inside the block.
 pub fn next_subscript(block: &[u8], e: Endian) -> Subscript
-    ensures { λ r. ⌜ r ≡ subscriptOf e (now (block .entry)) ⌝ }
+    ensures { λ r. ⌜ r ≡ nextSubscript e (now (block .entry)) ⌝ }
 {
     if block.len() == 0 {
         return Subscript::Refused(refused_block(Reason::Block));

@@ -12,7 +12,7 @@ ghost use Prim.Native.Nat.{_*_};
 ghost use lib.ListN.{set};
 ghost use lib.Seq.{sets};
 ghost use Rattle.lent.specs.Outcome.{Given};
-ghost use Rattle.blocks.specs.Subscripts.{dimensionWords, elementOr, countSubscripts, readSubscripts};
+ghost use Rattle.blocks.specs.Subscripts.{dimensionWords, elementOr, countSubscripts, processArraySubscriptData};
 ghost use Rattle.blocks.specs.Inside.Subscripts.{Walked};
 
 // The words of a dimension: its index type, its size (0 is unbounded).
@@ -93,7 +93,7 @@ pub fn count_subscripts(block: &[u8], e: Endian) -> Counted
 
 // The Rust's `process_array_subscript_data`: the dimensions into lent room, two words each; or a refusal, and the room stays as it was.
 pub fn process_array_subscript_data(block: &[u8], e: Endian, dims: &mut [u32]) -> Subscripts
-    ensures { λ r. ⌜ Given (readSubscripts e (now (block .entry)) (now (dims .entry))) r (now (dims .exit)) ⌝ }
+    ensures { λ r. ⌜ Given (processArraySubscriptData e (now (block .entry)) (now (dims .entry))) r (now (dims .exit)) ⌝ }
 {
     match count_subscripts(block, e) {
         Counted::Are {

@@ -18,7 +18,7 @@ use numbers::unsigned::u16_at;
 use numbers::unsigned::u32_at;
 ghost use mathlib.Core.Path.{_≡_};
 ghost use Rattle.attributes.specs.Parts.{partAt};
-ghost use Rattle.blocks.specs.Types.{modified, fundamental, fundType, modFundType, userDefType, modUDType, typeAt};
+ghost use Rattle.blocks.specs.Types.{modified, fundamental, fundType, modFundType, userDefType, modUDType, processType};
 
 // A fundamental type, or the key of the entry that defines the type.
 pub enum TypeKind {
@@ -115,7 +115,7 @@ fn mod_u_d_type(block: &[u8], place: usize, e: Endian) -> Typed
 // The type that an attribute of this number, with its value at a place, says. An attribute that is no type attribute is 17, as is a place
 // past the end, where no byte stands; before it `at + 2` is a number still.
 pub fn process_type(s: &[u8], number: u16, at: usize, ends: Endians) -> Typed
-    ensures { λ r. ⌜ r ≡ typeAt ends (now (s .entry)) number at ⌝ }
+    ensures { λ r. ⌜ r ≡ processType ends (now (s .entry)) number at ⌝ }
 {
     if s.len() < at {
         return Typed::Refused(refused_block(Reason::Block));

@@ -13,7 +13,7 @@ use Rattle.format.specs.declared.refusal.Reason.the-variants as reason
 use Rattle.tables.specs.declared.row.Row.{Row}
 use Rattle.tables.specs.declared.row.Attr.{Attr}
 use Rattle.entries.specs.Head.{headAt}
-use Rattle.entries.specs.Run.{Run, ran, failed, runFrom}
+use Rattle.entries.specs.Run.{Run, ran, failed, readRun}
 use Rattle.entries.specs.declared.entry.Look.{Look}
 use Rattle.entries.specs.declared.entry.Look.the-variants.{Is, Short}
 use Rattle.entries.specs.declared.head.Head.{Head}
@@ -70,7 +70,7 @@ rootEndian vendors s false e at = readAt (λ n. Is (cond (known vendors n) e (fl
 module _ (vendors : List ℕ) (global : ℕ) (s : List ℕ) where
   -- the attributes of the entry at `at`: they begin after size and tag
   unfoldable pub attributes : Endian → Bool → ℕ → ℕ → Run
-  attributes e root end at = runFrom vendors global s e root end (suc (length s)) false (at + 6)
+  attributes e root end at = readRun vendors global s e root end (suc (length s)) false (at + 6)
 
   -- an erased root, once its data endianness is known
   unfoldable pub rootIn : ℕ → ℕ → ℕ → Look → Entry
@@ -81,10 +81,11 @@ module _ (vendors : List ℕ) (global : ℕ) (s : List ℕ) where
   unfoldable pub entryFrom : ℕ → Bool → Endian → ℕ → ℕ → Head → Entry
   entryFrom levels isErased e at a (Null place) = next (row isErased false e at tag.Padding a [] ∷ []) [] place
   entryFrom levels isErased e at a (Skipped place) = next [] [] place
-  entryFrom levels isErased e at a (Root end) = elim levels [ zero ↦ stop reason.Nested | suc l ↦ rootIn at end a (rootEndian vendors s isErased e at) ]
+  entryFrom levels isErased e at a (Root end) =
+      elim levels [ zero ↦ stop reason.Nested | suc l ↦ rootIn at end a (rootEndian vendors s isErased e at) ]
   entryFrom levels isErased e at a (Ordinary kind end) = ordinary isErased e at kind a (attributes e false end at)
   entryFrom levels isErased e at a (Refused why) = stop why
 
   -- the entry at `at`, whose attributes begin with number a of the table
-  unfoldable pub entryAt : Bool → ℕ → Bool → Endian → ℕ → ℕ → Entry
-  entryAt erased levels isErased e at a = entryFrom levels isErased e at a (headAt erased s e at)
+  unfoldable pub readEntry : Bool → ℕ → Bool → Endian → ℕ → ℕ → Entry
+  readEntry erased levels isErased e at a = entryFrom levels isErased e at a (headAt erased s e at)

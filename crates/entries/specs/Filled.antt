@@ -12,7 +12,7 @@ use Rattle.tables.specs.Test.{fitting}
 use Rattle.tables.specs.declared.row.Row.{Row}
 use Rattle.tables.specs.declared.row.Attr.{Attr}
 use Rattle.tables.specs.declared.row.Counts.{Counts}
-use Rattle.entries.specs.Walk.{walked}
+use Rattle.entries.specs.Walk.{entriesRead}
 use Rattle.entries.specs.Section.{wholeWalk, counts}
 use Rattle.entries.specs.declared.section.Section.{Section}
 
@@ -26,11 +26,11 @@ KeysRise top least (r ∷ rs) = (least ≤ r .key) × (r .key + 4 ≤ top) × Ke
 -- ---- the answer
 
 -- the tables were filled with what the walk gave: it is counted, stored from the first word on, and read back
-pub record Filled (settings : Settings) (vendors s rows attrs : List ℕ) (c : Counts) (o : Outcomes Section ℕ ℕ) : Type 0 where
+pub record TableFilled (settings : Settings) (vendors s rows attrs : List ℕ) (c : Counts) (o : Outcomes Section ℕ ℕ) : Type 0 where
   pub rs : List Row
   pub xs : List Attr
   pub place : ℕ
-  pub whole : wholeWalk settings vendors s ≡ walked rs xs place
+  pub whole : wholeWalk settings vendors s ≡ entriesRead rs xs place
   pub counted : c ≡ counts (length rs) (length xs)
   pub fits : fitting c (length rows) (length attrs) ≡ true
   pub rows-stored : o .first ≡ sets rows 0 (rowsWords rs)

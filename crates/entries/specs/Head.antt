@@ -5,7 +5,7 @@ use mathlib.Core.List.{List}
 use lib.Dec.{leb, ltb, eqb}
 use Rattle.numbers.specs.Value.{readAt}
 use Rattle.numbers.specs.declared.Endian.{Endian}
-use Rattle.format.specs.Lookup.{member}
+use Rattle.format.specs.Lookup.{isOn}
 use Rattle.format.specs.TagKind.{tags}
 use Rattle.format.specs.TagKind as tag
 use Rattle.format.specs.declared.refusal.Reason.the-variants as reason
@@ -19,7 +19,7 @@ nullEnd at size = cond (leb size 4) (at + 4) (at + size)
 -- the tag of an entry that ends at `end`: padding is an erased root where the flag is on, else it is stepped over
 unfoldable pub tagHead : Bool → ℕ → ℕ → Head
 tagHead erased end kind =
-    cond (member kind tags) (cond (eqb kind tag.Padding) (cond erased (Root end) (Skipped end)) (Ordinary kind end)) (Refused reason.Tag)
+    cond (isOn kind tags) (cond (eqb kind tag.Padding) (cond erased (Root end) (Skipped end)) (Ordinary kind end)) (Refused reason.Tag)
 
 -- the size of the entry at `at`
 unfoldable pub sizeHead : Bool → List ℕ → Endian → ℕ → ℕ → Head

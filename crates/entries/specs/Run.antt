@@ -39,13 +39,13 @@ readOn (Short field) k = failed reason.Short
 readOn (Unknown field) k = failed reason.Attribute
 
 -- the attributes from `at` up to `end`; at most as many as the first number, which is never reached. Only an erased root looks for a HighPc
-unfoldable pub runFrom : List ℕ → ℕ → List ℕ → Endian → Bool → ℕ → ℕ → Bool → ℕ → Run
-runFrom vendors global s e root end zero high at = ran [] high at
-runFrom vendors global s e root end (suc f) high at =
+unfoldable pub readRun : List ℕ → ℕ → List ℕ → Endian → Bool → ℕ → ℕ → Bool → ℕ → Run
+readRun vendors global s e root end zero high at = ran [] high at
+readRun vendors global s e root end (suc f) high at =
     elim (ltb at end) [
       | true ↦ elim (runEnds global s e high at) [
         | true ↦ ran [] high at
-        | false ↦ readOn (readAttribute vendors e s at) (λ n next. runFrom vendors global s e root end f (high || (root && eqb n number.HighPc)) next)
+        | false ↦ readOn (readAttribute vendors e s at) (λ n next. readRun vendors global s e root end f (high || (root && eqb n number.HighPc)) next)
       ]
       | false ↦ ran [] high at
     ]

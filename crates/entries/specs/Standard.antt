@@ -1,5 +1,5 @@
--- How the standard writes entries, in either endianness (facts of DWARF 1.1, not the reader): a null entry of 4 to 7 bytes; padding; an entry as its exact
--- size, its tag, and its attributes, each a 2-byte number and a value in the number's form. Every number in one endianness.
+-- How the standard writes entries, in either endianness (facts of DWARF 1.1, not the reader): a null entry of 4 to 7 bytes; padding; an entry as
+-- its exact size, its tag, and its attributes, each a 2-byte number and a value in the number's form. Every number in one endianness.
 use Prim.Native.Nat.{ℕ, zero, _+_, _^_, _≤_, _<_}
 use mathlib.Core.Path.{_≡_}
 use mathlib.Core.Bool.{true, false}
@@ -7,7 +7,7 @@ use mathlib.Core.List.{List, [], _∷_, _++_}
 use lib.ListN.{length, getD}
 use Rattle.numbers.specs.Written.{bytesOf, Bytes}
 use Rattle.numbers.specs.declared.Endian.{Endian}
-use Rattle.format.specs.Lookup.{member}
+use Rattle.format.specs.Lookup.{isOn}
 use Rattle.format.specs.Known.{known}
 use Rattle.format.specs.TagKind.{tags}
 use Rattle.format.specs.TagKind as tag
@@ -66,12 +66,12 @@ module _ (vendors : List ℕ) (e : Endian) where
   writtenAttributes [] = []
   writtenAttributes (a ∷ rest) = writtenAttribute a ++ writtenAttributes rest
 
-  -- an entry of the standard. A null entry has up to three bytes after its size; padding any bytes, at least two, after its tag; an entry at least one
-  -- attribute, else its size would be that of a null
+  -- an entry of the standard. A null entry has up to three bytes after its size; padding any bytes, at least two, after its tag; an entry at least
+  -- one attribute, else its size would be that of a null
   pub data Die : Type 0 where
     null : (fill : List ℕ) → length fill ≤ 3 → Bytes fill → Die
     padding : (fill : List ℕ) → 2 ≤ length fill → length fill + 6 < 256 ^ 4 → Bytes fill → Die
-    entry : (kind : ℕ) → member kind tags ≡ true → (kind ≡ tag.Padding → ⊥) → (a : Attribute vendors e) (rest : List (Attribute vendors e))
+    entry : (kind : ℕ) → isOn kind tags ≡ true → (kind ≡ tag.Padding → ⊥) → (a : Attribute vendors e) (rest : List (Attribute vendors e))
         → length (writtenAttributes (a ∷ rest)) + 6 < 256 ^ 4 → Die
 
   -- its bytes: the size counts itself
@@ -81,6 +81,7 @@ module _ (vendors : List ℕ) (e : Endian) where
   writtenDie (entry kind k p a rest few) =
       bytesOf e 4 (length (writtenAttributes (a ∷ rest)) + 6) ++ bytesOf e 2 kind ++ writtenAttributes (a ∷ rest)
 
+  -- entries one after the other, as bytes
   unfoldable pub writtenDies : List Die → List ℕ
   writtenDies [] = []
   writtenDies (d ∷ rest) = writtenDie d ++ writtenDies rest
@@ -88,26 +89,28 @@ module _ (vendors : List ℕ) (e : Endian) where
   -- ---- what a reader must find: the attributes with the places of their values, the rows with their keys
 
   -- of attributes from `at` on: a value stands two bytes behind its number
-  unfoldable pub attrsFrom : ℕ → List (Attribute vendors e) → List Attr
-  attrsFrom at [] = []
-  attrsFrom at (a ∷ rest) = record { number = a .kind; value = at + 2 } ∷ attrsFrom (at + length (writtenAttribute a)) rest
+  unfoldable pub writtenFrom : ℕ → List (Attribute vendors e) → List Attr
+  writtenFrom at [] = []
+  writtenFrom at (a ∷ rest) = record { number = a .kind; value = at + 2 } ∷ writtenFrom (at + length (writtenAttribute a)) rest
 
   -- of one entry at `at`, whose attributes begin with number a of the table
   unfoldable pub dieAttrs : ℕ → Die → List Attr
   dieAttrs at (null fill few small) = []
   dieAttrs at (padding fill some few small) = []
-  dieAttrs at (entry kind k p b rest few) = attrsFrom (at + 6) (b ∷ rest)
+  dieAttrs at (entry kind k p b rest few) = writtenFrom (at + 6) (b ∷ rest)
 
+  -- the rows of an entry that begins at a place, its attributes from a number on
   unfoldable pub dieRows : ℕ → ℕ → Die → List Row
   dieRows at a (null fill few small) = row false false e at tag.Padding a [] ∷ []
   dieRows at a (padding fill some few small) = []
-  dieRows at a (entry kind k p b rest few) = row false false e at kind a (attrsFrom (at + 6) (b ∷ rest)) ∷ []
+  dieRows at a (entry kind k p b rest few) = row false false e at kind a (writtenFrom (at + 6) (b ∷ rest)) ∷ []
 
   -- of entries one after the other
   unfoldable pub attrsOf : ℕ → List Die → List Attr
   attrsOf at [] = []
   attrsOf at (d ∷ rest) = dieAttrs at d ++ attrsOf (at + length (writtenDie d)) rest
 
+  -- the rows of entries one after the other
   unfoldable pub rowsOf : ℕ → ℕ → List Die → List Row
   rowsOf at a [] = []
   rowsOf at a (d ∷ rest) = dieRows at a d ++ rowsOf (at + length (writtenDie d)) (a + length (dieAttrs at d)) rest

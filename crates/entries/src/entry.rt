@@ -17,7 +17,7 @@ ghost use mathlib.Core.Path.{_≡_};
 ghost use Prim.Native.Nat.{_+_, _≤_};
 ghost use lib.ListN.{length};
 ghost use mathlib.Core.Bool.{false};
-ghost use Rattle.entries.specs.Entry.{flip, littleFlag, flagOf, flagsOf, kindOf, ordinary, attributes, rootEndian, entryFrom, entryAt};
+ghost use Rattle.entries.specs.Entry.{flip, littleFlag, flagOf, flagsOf, kindOf, ordinary, attributes, rootEndian, entryFrom, readEntry};
 ghost use Rattle.entries.specs.Inside.Promise.{Ready, farthest, NullReady, NullRead, BodyReady, BodyRead, EntryRead};
 
 // Where reading stands: the place, and how many rows and attributes were read.
@@ -112,7 +112,10 @@ fn read_body(
     from: State,
 ) -> Body
     requires { ⌜ BodyReady (now s) from ⌝ }
-    ensures { λ r. ⌜ BodyRead (now (s .entry)) from shape (attributes (now (vendors .entry)) global (now (s .entry)) (shape .endian) (shape .root) (shape .end) (from .at)) r (now (rows .entry)) (now (rows .exit)) (now (attrs .entry)) (now (attrs .exit)) ⌝ }
+    ensures { λ r. ⌜
+        BodyRead (now (s .entry)) from shape (attributes (now (vendors .entry)) global (now (s .entry)) (shape .endian) (shape .root) (shape .end)
+        (from .at)) r (now (rows .entry)) (now (rows .exit)) (now (attrs .entry)) (now (attrs .exit))
+        ⌝ }
 {
     let e = shape.endian;
     match read_run(
@@ -184,7 +187,10 @@ fn read_root(
     from: State,
 ) -> Entry
     requires { ⌜ BodyReady (now s) from × (end ≤ farthest) ⌝ }
-    ensures { λ r. ⌜ EntryRead (now (s .entry)) from (entryFrom (now (vendors .entry)) global (now (s .entry)) levels (mode .erased) (mode .endian) (from .at) (from .attrs) (Head.Root end)) r (now (rows .entry)) (now (rows .exit)) (now (attrs .entry)) (now (attrs .exit)) ⌝ }
+    ensures { λ r. ⌜
+        EntryRead (now (s .entry)) from (entryFrom (now (vendors .entry)) global (now (s .entry)) levels (mode .erased) (mode .endian) (from .at)
+        (from .attrs) (Head.Root end)) r (now (rows .entry)) (now (rows .exit)) (now (attrs .entry)) (now (attrs .exit))
+        ⌝ }
 {
     if levels == 0 {
         return Entry::Refused(Reason::Nested);
@@ -241,7 +247,11 @@ fn read_ordinary(
     from: State,
 ) -> Entry
     requires { ⌜ BodyReady (now s) from ⌝ }
-    ensures { λ r. ⌜ EntryRead (now (s .entry)) from (ordinary (mode .erased) (mode .endian) (from .at) kind (from .attrs) (attributes (now (vendors .entry)) global (now (s .entry)) (mode .endian) false end (from .at))) r (now (rows .entry)) (now (rows .exit)) (now (attrs .entry)) (now (attrs .exit)) ⌝ }
+    ensures { λ r. ⌜
+        EntryRead (now (s .entry)) from (ordinary (mode .erased) (mode .endian) (from .at) kind (from .attrs)
+        (attributes (now (vendors .entry)) global (now (s .entry)) (mode .endian) false end (from .at))) r (now (rows .entry)) (now (rows .exit))
+        (now (attrs .entry)) (now (attrs .exit))
+        ⌝ }
 {
     let e = mode.endian;
     let shape = Shape {
@@ -269,7 +279,10 @@ pub(crate) fn read_entry(
     from: State,
 ) -> Entry
     requires { ⌜ Ready (now s) from ⌝ }
-    ensures { λ r. ⌜ EntryRead (now (s .entry)) from (entryAt (now (vendors .entry)) (fixed .global) (now (s .entry)) (fixed .erased) levels (mode .erased) (mode .endian) (from .at) (from .attrs)) r (now (rows .entry)) (now (rows .exit)) (now (attrs .entry)) (now (attrs .exit)) ⌝ }
+    ensures { λ r. ⌜
+        EntryRead (now (s .entry)) from (readEntry (now (vendors .entry)) (fixed .global) (now (s .entry)) (fixed .erased) levels (mode .erased)
+        (mode .endian) (from .at) (from .attrs)) r (now (rows .entry)) (now (rows .exit)) (now (attrs .entry)) (now (attrs .exit))
+        ⌝ }
 {
     let global = fixed.global;
     let e = mode.endian;

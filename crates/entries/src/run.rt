@@ -13,7 +13,7 @@ ghost use Prim.Native.Nat.{suc};
 ghost use lib.ListN.{length};
 ghost use mathlib.Core.Bool.{false};
 ghost use Rattle.format.specs.Settings.{plays};
-ghost use Rattle.entries.specs.Run.{runEnds, runFrom};
+ghost use Rattle.entries.specs.Run.{runEnds, readRun};
 ghost use Rattle.entries.specs.Inside.Promise.{RunReady, RunRead};
 
 // Where reading stopped, how many attributes the table then has, whether a HighPc was among those read.
@@ -56,7 +56,10 @@ pub(crate) fn read_run(
     attrs: usize,
 ) -> Run
     requires { ⌜ RunReady (now s) at attrs ⌝ }
-    ensures { λ r. ⌜ RunRead (now (s .entry)) at attrs (runFrom (now (vendors .entry)) global (now (s .entry)) e root end (suc (length (now (s .entry)))) false at) r (now (table .entry)) (now (table .exit)) ⌝ }
+    ensures { λ r. ⌜
+        RunRead (now (s .entry)) at attrs (readRun (now (vendors .entry)) global (now (s .entry)) e root end (suc (length (now (s .entry)))) false at)
+        r (now (table .entry)) (now (table .exit))
+        ⌝ }
 {
     let mut place = at;
     let mut n = attrs;

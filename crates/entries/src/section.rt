@@ -22,7 +22,7 @@ ghost use Rattle.lent.specs.Outcome.{BothGiven};
 ghost use Rattle.format.specs.Limits.{sectionLimit};
 ghost use Rattle.entries.specs.Inside.Promise.{start, walkAnswer, WalkRead};
 ghost use Rattle.tables.specs.Test.{fitting};
-ghost use Rattle.entries.specs.Section.{wholeWalk, countSection, readSection};
+ghost use Rattle.entries.specs.Section.{wholeWalk, countDebugSection, readDebugSection};
 
 // What counting answers.
 pub enum Count {
@@ -47,7 +47,10 @@ fn read_whole(
     attrs: &mut [u32],
 ) -> Walk
     requires { ⌜ length (now s) < sectionLimit ⌝ }
-    ensures { λ r. ⌜ WalkRead start (wholeWalk settings (now (vendors .entry)) (now (s .entry))) r (now (rows .entry)) (now (rows .exit)) (now (attrs .entry)) (now (attrs .exit)) ⌝ }
+    ensures { λ r. ⌜
+        WalkRead start (wholeWalk settings (now (vendors .entry)) (now (s .entry))) r (now (rows .entry)) (now (rows .exit)) (now (attrs .entry))
+        (now (attrs .exit))
+        ⌝ }
 {
     let roles = settings.roles;
     let endian = settings.endian;
@@ -95,7 +98,7 @@ fn refused(reason: Reason, place: u64) -> Count
 
 // How many rows and attributes the section has, whatever the limits; or refusal 1, 2, or one of 4 to 7.
 pub fn count_debug_section(s: &[u8], settings: Settings, vendors: &[u16], sizes: &[u32]) -> Count
-    ensures { λ r. ⌜ r ≡ countSection settings (now (vendors .entry)) (now (sizes .entry)) (now (s .entry)) ⌝ }
+    ensures { λ r. ⌜ r ≡ countDebugSection settings (now (vendors .entry)) (now (sizes .entry)) (now (s .entry)) ⌝ }
 {
     if !settings_hold(settings, vendors, sizes) {
         return refused(Reason::Settings, 0);
@@ -137,7 +140,10 @@ pub fn read_debug_section(
     rows: &mut [u32],
     attrs: &mut [u32],
 ) -> Section
-    ensures { λ r. ⌜ BothGiven (readSection settings (now (vendors .entry)) (now (sizes .entry)) (now (s .entry)) (now (rows .entry)) (now (attrs .entry))) r (now (rows .exit)) (now (attrs .exit)) ⌝ }
+    ensures { λ r. ⌜
+        BothGiven (readDebugSection settings (now (vendors .entry)) (now (sizes .entry)) (now (s .entry)) (now (rows .entry)) (now (attrs .entry))) r
+        (now (rows .exit)) (now (attrs .exit))
+        ⌝ }
 {
     match count_debug_section(s, settings, vendors, sizes) {
         Count::Counted(counts) => {

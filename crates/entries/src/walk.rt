@@ -6,7 +6,7 @@ use crate::entry::State;
 use crate::entry::read_entry;
 use format::refusal::Reason;
 ghost use Prim.Native.Nat.{_≤_};
-ghost use Rattle.entries.specs.Walk.{walkAt};
+ghost use Rattle.entries.specs.Walk.{readTags};
 ghost use Rattle.entries.specs.Inside.Promise.{Ready, farthest, WalkRead};
 
 pub enum Walk {
@@ -28,7 +28,10 @@ pub(crate) fn read_tags(
     from: State,
 ) -> Walk
     requires { ⌜ Ready (now s) from × (end ≤ farthest) ⌝ }
-    ensures { λ r. ⌜ WalkRead from (walkAt (now (vendors .entry)) (fixed .global) (fixed .erased) (now (s .entry)) levels (mode .erased) (mode .endian) end (from .attrs) (from .at)) r (now (rows .entry)) (now (rows .exit)) (now (attrs .entry)) (now (attrs .exit)) ⌝ }
+    ensures { λ r. ⌜
+        WalkRead from (readTags (now (vendors .entry)) (fixed .global) (fixed .erased) (now (s .entry)) levels (mode .erased) (mode .endian) end
+        (from .attrs) (from .at)) r (now (rows .entry)) (now (rows .exit)) (now (attrs .entry)) (now (attrs .exit))
+        ⌝ }
 {
     let mut state = from;
     while state.at < end {

@@ -18,7 +18,7 @@ use Rattle.format.specs.declared.refusal.Reason.the-variants as reason
 use Rattle.format.specs.declared.settings.Settings.{Settings}
 use Rattle.format.specs.declared.settings.Producer.the-variants.{Other}
 use Rattle.attributes.specs.Parts.{textAt}
-use Rattle.blocks.specs.Types.{typeAt}
+use Rattle.blocks.specs.Types.{processType}
 use Rattle.blocks.specs.Subscripts.{wholeBlock, countSubscripts}
 use Rattle.blocks.specs.declared.types.Type.{«Type»}
 use Rattle.blocks.specs.declared.types.TypeKind.the-variants.{Fundamental}
@@ -33,12 +33,12 @@ use Rattle.records.specs.Elements.{Listed}
 use Rattle.records.specs.Enumeration.{Lists, listed, listsFrom}
 use Rattle.records.specs.Enumeration as enumeration
 use Rattle.entries.specs.Run.{attr}
-use Rattle.entries.specs.Walk.{Walk, walked, refused}
+use Rattle.entries.specs.Walk.{Entries, entriesRead, entriesRefused}
 use Rattle.entries.specs.Section.{wholeWalk}
 
--- what an example asks: to read a section, with the erased flag on or off; what a text at a place is, and a number of two bytes in little-endian; what a
--- fundamental type's number and a modifier's byte say; what a type attribute of a number with these bytes of value says, and a block of subscripts; what the
--- lists of an enumeration at 0 are, in a section with these two attributes
+-- what an example asks: to read a section, with the erased flag on or off; what a text at a place is, and a number of two bytes in little-endian;
+-- what a fundamental type's number and a modifier's byte say; what a type attribute of a number with these bytes of value says, and a block of
+-- subscripts; what the lists of an enumeration at 0 are, in a section with these two attributes
 pub data Question : Type 0 where
   section : Bool → List ℕ → Question
   text : List ℕ → ℕ → Question
@@ -49,8 +49,8 @@ pub data Question : Type 0 where
   subscripts : List ℕ → Question
   lists : List ℕ → List ℕ → Question
 
--- what it says: rows and attributes, bytes, a number, a modifier, a type, an array's element type and the words of its dimensions; or a refusal's number, for a
--- section with its place
+-- what it says: rows and attributes, bytes, a number, a modifier, a type, an array's element type and the words of its dimensions; or a refusal's
+-- number, for a section with its place
 pub data Answer : Type 0 where
   rows : List Row → List Attr → Answer
   bytes : List ℕ → Answer
@@ -73,9 +73,9 @@ settings erased =
     }
 
 -- what reading a section says
-walk : Walk → Answer
-walk (walked rs xs place) = rows rs xs
-walk (refused why place) = refused-at (numberOf why) place
+walk : Entries → Answer
+walk (entriesRead rs xs place) = rows rs xs
+walk (entriesRefused why place) = refused-at (numberOf why) place
 
 -- what a fundamental type's number says; an unknown one is 18
 numbered-type : FundType → Answer
@@ -104,7 +104,7 @@ array words (counted.Refused why) = refused-as (numberOf (why .reason))
 -- what the lists of an enumeration say
 listing : Lists → Answer
 listing (listed xs) = members-are xs
-listing (enumeration.refused why) = refused-as (numberOf (why .reason))
+listing (enumeration.listsRefused why) = refused-as (numberOf (why .reason))
 
 -- the run of two attributes of an entry at 0
 two : Run
@@ -118,7 +118,7 @@ answer (text s at) = bytes (textAt s at)
 answer (little-number s at) = number-is (valueOf Little 2 s at)
 answer (type-number n) = numbered-type (parseInt n)
 answer (modifier-byte n) = one-modifier (modifierOf n)
-answer (type-attribute n value) = of-type (typeAt (record { section = Big; «data» = Big }) value n 0)
+answer (type-attribute n value) = of-type (processType (record { section = Big; «data» = Big }) value n 0)
 answer (subscripts block) = array (wholeBlock Big block .words) (countSubscripts Big block)
 answer (lists s attrs) = listing (listsFrom (settings false) s attrs two 0 2)
 
@@ -129,6 +129,7 @@ pub record Example : Type 0 where
 
 -- the same, as the table writes it
 infix 80 _says_
+-- a question with its answer
 abbrev pub _says_ : Question → Answer → Example
 q says a = record { asked = q; said = a }
 

@@ -1,5 +1,5 @@
--- Settings, answers and tables as they cross to a program in Rust or C: numbers and slices. A number that stands for a choice always means one, so crossing
--- itself refuses nothing.
+-- Settings, answers and tables as they cross to a program in Rust or C: numbers and slices. A number that stands for a choice always means one, so
+-- crossing itself refuses nothing.
 use Prim.Native.Nat.{ℕ}
 use mathlib.Core.Path.{_≡_}
 use mathlib.Core.Bool.{Bool, not, cond}

@@ -10,7 +10,7 @@ use layout::all::AllLayouts;
 use layout::all::LayoutCounts;
 use layout::all::all_layouts;
 ghost use mathlib.Core.Path.{_≡_};
-ghost use Rattle.layout.specs.All.{allOf};
+ghost use Rattle.layout.specs.All.{allLayouts};
 ghost use Rattle.exports.specs.Crossing.{settingsFrom, countsFrom, layoutsAs, layoutsTold, LayoutsCross};
 
 // The counts that were given, or are needed.
@@ -54,7 +54,12 @@ pub extern "C" fn capbeacon_all_layouts(
     structure_count: &mut u64,
     member_count: &mut u64,
 ) -> u32
-    ensures { λ r. ⌜ LayoutsCross (allOf (settingsFrom endian erased producer «global_ref» mangled «overlay_name» «overlay_id») (now (vendors .entry)) (now (sizes .entry)) (now (s .entry)) (now (rows .entry)) (now (attrs .entry)) (countsFrom «row_count» «attr_count») (now (structures .entry)) (now (members .entry))) r (now (place .exit)) (now («structure_count» .exit)) (now («member_count» .exit)) (now (structures .exit)) (now (members .exit)) ⌝ }
+    ensures { λ r. ⌜
+        LayoutsCross (allLayouts (settingsFrom endian erased producer «global_ref» mangled «overlay_name» «overlay_id») (now (vendors .entry))
+        (now (sizes .entry)) (now (s .entry)) (now (rows .entry)) (now (attrs .entry)) (countsFrom «row_count» «attr_count») (now (structures .entry))
+        (now (members .entry))) r (now (place .exit)) (now («structure_count» .exit)) (now («member_count» .exit)) (now (structures .exit))
+        (now (members .exit))
+        ⌝ }
 {
     let settings = settings_from(
         endian,

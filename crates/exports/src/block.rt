@@ -6,7 +6,7 @@ use crate::told::told_as;
 use blocks::location::Located;
 use blocks::location::process_offset;
 ghost use mathlib.Core.Path.{_≡_};
-ghost use Rattle.blocks.specs.Location.{offsetOf};
+ghost use Rattle.blocks.specs.Location.{processOffset};
 ghost use Rattle.exports.specs.Crossing.{endianFrom, offsetTold, OffsetCrosses};
 
 fn offset_told(answer: Located) -> Told
@@ -26,7 +26,7 @@ pub extern "C" fn capbeacon_process_offset(
     place: &mut u64,
     offset: &mut u64,
 ) -> u32
-    ensures { λ r. ⌜ OffsetCrosses (offsetOf (endianFrom endian) (now (block .entry))) r (now (place .exit)) (now (offset .exit)) ⌝ }
+    ensures { λ r. ⌜ OffsetCrosses (processOffset (endianFrom endian) (now (block .entry))) r (now (place .exit)) (now (offset .exit)) ⌝ }
 {
     let told = offset_told(process_offset(block, endian_from(endian)));
     *place = told.place;

@@ -9,7 +9,7 @@ use format::refusal::number_of;
 use tree::listing::Listing;
 use tree::listing::list_tree;
 ghost use mathlib.Core.Path.{_≡_};
-ghost use Rattle.tree.specs.Tree.{treeOf};
+ghost use Rattle.tree.specs.Tree.{listTree};
 ghost use Rattle.exports.specs.Crossing.{settingsFrom, countsFrom, treeTold, TreeCrosses};
 
 fn tree_told(answer: Listing) -> Told
@@ -43,7 +43,11 @@ pub extern "C" fn capbeacon_list_tree(
     place: &mut u64,
     listed: &mut u64,
 ) -> u32
-    ensures { λ r. ⌜ TreeCrosses (treeOf (settingsFrom endian erased producer «global_ref» mangled «overlay_name» «overlay_id») (now (vendors .entry)) (now (sizes .entry)) (now (s .entry)) (now (rows .entry)) (now (attrs .entry)) (countsFrom «row_count» «attr_count») (now (room .entry))) r (now (place .exit)) (now (listed .exit)) (now (room .exit)) ⌝ }
+    ensures { λ r. ⌜
+        TreeCrosses (listTree (settingsFrom endian erased producer «global_ref» mangled «overlay_name» «overlay_id») (now (vendors .entry))
+        (now (sizes .entry)) (now (s .entry)) (now (rows .entry)) (now (attrs .entry)) (countsFrom «row_count» «attr_count») (now (room .entry))) r
+        (now (place .exit)) (now (listed .exit)) (now (room .exit))
+        ⌝ }
 {
     let settings = settings_from(
         endian,

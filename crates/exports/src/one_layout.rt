@@ -10,7 +10,7 @@ use layout::one::Layout;
 use layout::one::LayoutRead;
 use layout::one::layout_of_key;
 ghost use mathlib.Core.Path.{_≡_};
-ghost use Rattle.layout.specs.Layout.{layoutOf};
+ghost use Rattle.layout.specs.Layout.{layoutOfKey};
 ghost use Rattle.exports.specs.Crossing.{settingsFrom, countsFrom, laidAs, layoutTold, LayoutCrosses};
 
 // A layout that is given.
@@ -60,7 +60,11 @@ pub extern "C" fn capbeacon_layout_of_key(
     size: &mut u64,
     members: &mut u64,
 ) -> u32
-    ensures { λ r. ⌜ LayoutCrosses (layoutOf (settingsFrom endian erased producer «global_ref» mangled «overlay_name» «overlay_id») (now (vendors .entry)) (now (sizes .entry)) (now (s .entry)) (now (rows .entry)) (now (attrs .entry)) (countsFrom «row_count» «attr_count») key (now (room .entry))) r (now (place .exit)) (now (row .exit)) (now (size .exit)) (now (members .exit)) (now (room .exit)) ⌝ }
+    ensures { λ r. ⌜
+        LayoutCrosses (layoutOfKey (settingsFrom endian erased producer «global_ref» mangled «overlay_name» «overlay_id») (now (vendors .entry))
+        (now (sizes .entry)) (now (s .entry)) (now (rows .entry)) (now (attrs .entry)) (countsFrom «row_count» «attr_count») key (now (room .entry)))
+        r (now (place .exit)) (now (row .exit)) (now (size .exit)) (now (members .exit)) (now (room .exit))
+        ⌝ }
 {
     let settings = settings_from(
         endian,

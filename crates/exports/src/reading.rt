@@ -11,7 +11,7 @@ use format::refusal::Reason;
 use format::refusal::number_of;
 use tables::row::Counts;
 ghost use mathlib.Core.Path.{_≡_};
-ghost use Rattle.entries.specs.Section.{countSection, readSection};
+ghost use Rattle.entries.specs.Section.{countDebugSection, readDebugSection};
 ghost use Rattle.exports.specs.Crossing.{settingsFrom, countedAs, countTold, sectionTold, CountCrosses, SectionCrosses};
 
 // The counts that were read, or are needed.
@@ -57,7 +57,10 @@ pub extern "C" fn capbeacon_count_debug_section(
     row_count: &mut u64,
     attr_count: &mut u64,
 ) -> u32
-    ensures { λ r. ⌜ CountCrosses (countSection (settingsFrom endian erased producer «global_ref» mangled «overlay_name» «overlay_id») (now (vendors .entry)) (now (sizes .entry)) (now (s .entry))) r (now (place .exit)) (now («row_count» .exit)) (now («attr_count» .exit)) ⌝ }
+    ensures { λ r. ⌜
+        CountCrosses (countDebugSection (settingsFrom endian erased producer «global_ref» mangled «overlay_name» «overlay_id») (now (vendors .entry))
+        (now (sizes .entry)) (now (s .entry))) r (now (place .exit)) (now («row_count» .exit)) (now («attr_count» .exit))
+        ⌝ }
 {
     let settings = settings_from(
         endian,
@@ -94,7 +97,11 @@ pub extern "C" fn capbeacon_read_debug_section(
     row_count: &mut u64,
     attr_count: &mut u64,
 ) -> u32
-    ensures { λ r. ⌜ SectionCrosses (readSection (settingsFrom endian erased producer «global_ref» mangled «overlay_name» «overlay_id») (now (vendors .entry)) (now (sizes .entry)) (now (s .entry)) (now (rows .entry)) (now (attrs .entry))) r (now (place .exit)) (now («row_count» .exit)) (now («attr_count» .exit)) (now (rows .exit)) (now (attrs .exit)) ⌝ }
+    ensures { λ r. ⌜
+        SectionCrosses (readDebugSection (settingsFrom endian erased producer «global_ref» mangled «overlay_name» «overlay_id») (now (vendors .entry))
+        (now (sizes .entry)) (now (s .entry)) (now (rows .entry)) (now (attrs .entry))) r (now (place .exit)) (now («row_count» .exit))
+        (now («attr_count» .exit)) (now (rows .exit)) (now (attrs .exit))
+        ⌝ }
 {
     let settings = settings_from(
         endian,

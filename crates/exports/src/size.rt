@@ -40,7 +40,11 @@ pub extern "C" fn capbeacon_size_of_key(
     place: &mut u64,
     size: &mut u64,
 ) -> u32
-    ensures { λ r. ⌜ SizeCrosses (sizeOfKey (settingsFrom endian erased producer «global_ref» mangled «overlay_name» «overlay_id») (now (vendors .entry)) (now (sizes .entry)) (now (s .entry)) (now (rows .entry)) (now (attrs .entry)) (countsFrom «row_count» «attr_count») key) r (now (place .exit)) (now (size .exit)) ⌝ }
+    ensures { λ r. ⌜
+        SizeCrosses (sizeOfKey (settingsFrom endian erased producer «global_ref» mangled «overlay_name» «overlay_id») (now (vendors .entry))
+        (now (sizes .entry)) (now (s .entry)) (now (rows .entry)) (now (attrs .entry)) (countsFrom «row_count» «attr_count») key) r
+        (now (place .exit)) (now (size .exit))
+        ⌝ }
 {
     let settings = settings_from(
         endian,

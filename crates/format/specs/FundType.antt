@@ -3,7 +3,7 @@ use Prim.Native.Nat.{ℕ, _/_, _%_}
 use mathlib.Core.Bool.{cond}
 use mathlib.Core.List.{List, [], _∷_}
 use lib.Dec.{eqb}
-use Rattle.format.specs.Lookup.{member}
+use Rattle.format.specs.Lookup.{isOn}
 use Rattle.format.specs.declared.fund_type.FundType.{FundType}
 use Rattle.format.specs.declared.fund_type.FundType.the-variants.{Known, Unknown}
 
@@ -101,7 +101,7 @@ fundTypes =
 
 -- the type that a number names as it stands, or nothing known
 unfoldable pub fundTypeOf : ℕ → FundType
-fundTypeOf n = cond (member n fundTypes) (Known n) Unknown
+fundTypeOf n = cond (isOn n fundTypes) (Known n) Unknown
 
 -- `parse_int`: of a number whose high byte is 1 only the low byte counts
 unfoldable pub parseInt : ℕ → FundType

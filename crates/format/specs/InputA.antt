@@ -15,4 +15,5 @@ inputA =
 
 -- big-endian, erased entries out, no vendor numbers
 abbrev pub settingsA : Settings
-settingsA = record { endian = Big; erased = false; producer = Other; roles = record { «global_ref» = 0; mangled = 0; «overlay_name» = 0; «overlay_id» = 0 } }
+settingsA =
+    record { endian = Big; erased = false; producer = Other; roles = record { «global_ref» = 0; mangled = 0; «overlay_name» = 0; «overlay_id» = 0 } }

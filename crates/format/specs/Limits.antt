@@ -9,6 +9,7 @@ sectionLimit = 2 ^ 32
 abbrev pub entryLimit : ℕ
 entryLimit = 4096
 
+-- attributes of a section
 abbrev pub attributeLimit : ℕ
 attributeLimit = 32768
 

@@ -5,9 +5,9 @@ use mathlib.Core.List.{List, [], _∷_}
 use lib.Dec.{eqb}
 
 -- is n on the list?
-unfoldable pub member : ℕ → List ℕ → Bool
-member n [] = false
-member n (x ∷ xs) = eqb x n || member n xs
+unfoldable pub isOn : ℕ → List ℕ → Bool
+isOn n [] = false
+isOn n (x ∷ xs) = eqb x n || isOn n xs
 
 -- where n first stands on the list, or the list's length
 unfoldable pub indexOf : ℕ → List ℕ → ℕ
@@ -21,6 +21,7 @@ pub record Line (A : Type 0) : Type 0 where
 
 -- a line, as the tables write it
 infix 80 _means_
+-- a line of a table
 abbrev pub _means_ : {A : Type 0} → ℕ → A → Line A
 n means a = record { number = n; meaning = a }
 

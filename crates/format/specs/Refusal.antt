@@ -3,7 +3,8 @@ use Prim.Native.Nat.{ℕ}
 use mathlib.Core.List.{List, [], _∷_}
 use Rattle.format.specs.Lookup.{Line, _means_, lookup}
 use Rattle.format.specs.declared.refusal.Reason.{Reason}
-use Rattle.format.specs.declared.refusal.Reason.the-variants.{Settings, Long, Table, Short, Tag, Attribute, Nested, Room, Link, Depth, Entry, Kind, Extra, Form, Missing, Child, Block, Number, Bound, Big}
+use Rattle.format.specs.declared.refusal.Reason.the-variants.{Settings, Long, Table, Short, Tag, Attribute, Nested, Room, Link, Depth, Entry}
+use Rattle.format.specs.declared.refusal.Reason.the-variants.{Kind, Extra, Form, Missing, Child, Block, Number, Bound, Big}
 
 -- the number of each reason
 unfoldable pub numberOf : Reason → ℕ

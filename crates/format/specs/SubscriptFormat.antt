@@ -3,7 +3,11 @@ use Prim.Native.Nat.{ℕ}
 use mathlib.Core.List.{List, [], _∷_}
 use Rattle.format.specs.Lookup.{Line, _means_, lookup}
 use Rattle.format.specs.declared.subscript_format.SubscriptFormat.{SubscriptFormat}
-use Rattle.format.specs.declared.subscript_format.SubscriptFormat.the-variants.{FundTypeConstConst, FundTypeConstLocation, FundTypeLocationConst, FundTypeLocationLocation, UserTypeConstConst, UserTypeConstLocation, UserTypeLocationConst, UserTypeLocationLocation, ElementType, Unknown}
+use Rattle.format.specs.declared.subscript_format.SubscriptFormat.the-variants.{FundTypeConstConst, FundTypeConstLocation}
+use Rattle.format.specs.declared.subscript_format.SubscriptFormat.the-variants.{FundTypeLocationConst, FundTypeLocationLocation}
+use Rattle.format.specs.declared.subscript_format.SubscriptFormat.the-variants.{UserTypeConstConst, UserTypeConstLocation}
+use Rattle.format.specs.declared.subscript_format.SubscriptFormat.the-variants.{UserTypeLocationConst, UserTypeLocationLocation, ElementType}
+use Rattle.format.specs.declared.subscript_format.SubscriptFormat.the-variants.{Unknown}
 
 -- the number of each; 8 is the element type
 unfoldable pub subscriptFormats : List (Line SubscriptFormat)

@@ -1,7 +1,7 @@
 // The 57 attribute numbers that document 01 names, and whether a number is known. This is asked of every attribute that is read.
 use crate::lookup::on_list;
 ghost use mathlib.Core.Path.{_≡_};
-ghost use Rattle.format.specs.Lookup.{member, lookup};
+ghost use Rattle.format.specs.Lookup.{isOn, lookup};
 ghost use Rattle.format.specs.AttributeKind.{attributeKinds};
 ghost use Rattle.format.specs.Known.{known};
 ghost use Rattle.format.specs.Inside.NamedWords.{namedWords};
@@ -82,7 +82,7 @@ fn named_word(k: u16) -> u32
 
 // Is it one of the 57?
 pub fn is_named(n: u16) -> bool
-    ensures { λ r. ⌜ r ≡ member n attributeKinds ⌝ }
+    ensures { λ r. ⌜ r ≡ isOn n attributeKinds ⌝ }
 {
     if n < 800 {
         (named_word(n / 32) >> (n % 32)) % 2 == 1

@@ -15,6 +15,7 @@ pub enum FormKind {
     Undefined,
 }
 
+// The form of an attribute number: its low four bits.
 pub fn form_of(attribute: u16) -> FormKind
     ensures { λ r. ⌜ r ≡ formOf attribute ⌝ }
 {

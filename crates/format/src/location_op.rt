@@ -16,6 +16,7 @@ pub enum LocationOp {
     Unknown,
 }
 
+// The atom of a byte.
 pub fn location_op(n: u8) -> LocationOp
     ensures { λ r. ⌜ r ≡ locationOpOf n ⌝ }
 {

@@ -3,12 +3,12 @@
 ghost use mathlib.Core.Path.{_≡_};
 ghost use Prim.Native.Nat.{_+_, _≤_};
 ghost use lib.ListN.{length};
-ghost use Rattle.format.specs.Lookup.{member};
+ghost use Rattle.format.specs.Lookup.{isOn};
 ghost use Rattle.format.specs.Inside.Sixteen.{someIs};
 
 // One number a turn.
 fn among_few(list: &[u16], x: u16) -> bool
-    ensures { λ r. ⌜ r ≡ member x (now (list .entry)) ⌝ }
+    ensures { λ r. ⌜ r ≡ isOn x (now (list .entry)) ⌝ }
 {
     let mut found = false;
     let mut i = 0;
@@ -44,7 +44,7 @@ fn among_sixteen(list: &[u16], i: usize, x: u16) -> bool
 
 // Is x on the list? Sixteen numbers a turn; the last sixteen, which may overlap those before, are looked at first.
 pub fn on_list(list: &[u16], x: u16) -> bool
-    ensures { λ r. ⌜ r ≡ member x (now (list .entry)) ⌝ }
+    ensures { λ r. ⌜ r ≡ isOn x (now (list .entry)) ⌝ }
 {
     if list.len() < 16 {
         return among_few(list, x);

@@ -31,6 +31,7 @@ pub struct Refusal {
     pub place: u64,
 }
 
+// Document 01's number of a reason.
 pub fn number_of(reason: Reason) -> u32
     ensures { λ r. ⌜ r ≡ numberOf reason ⌝ }
 {

@@ -15,6 +15,7 @@ pub enum SubscriptFormat {
     Unknown,
 }
 
+// The format of a byte.
 pub fn subscript_format(n: u8) -> SubscriptFormat
     ensures { λ r. ⌜ r ≡ subscriptFormatOf n ⌝ }
 {

@@ -1,5 +1,5 @@
--- Every structure's and class's layout of a table, in file order, each as `Layout` has it for its key. One that is refused says so, and the rest go on:
--- only 1, 2, 3 and 8 refuse the call.
+-- Every structure's and class's layout of a table, in file order, each as `Layout` has it for its key. One that is refused says so, and the rest go
+-- on: only 1, 2, 3 and 8 refuse the call.
 use Prim.Native.Nat.{ℕ, zero, suc, _+_, _-_, _/_}
 use mathlib.Core.Bool.{Bool, cond, _&&_}
 use mathlib.Core.List.{List, [], _∷_, _++_}
@@ -63,8 +63,8 @@ module _ (settings : Settings) (s rows attrs : List ℕ) (n : ℕ) (sizeOf : «T
 
 -- ---- into lent rooms: 8 last, with the counts
 
--- eight words for each: its row; 0, its size and 0, or a refusal's number, 0 and its place; the first of its members, and how many; its name's bytes in the
--- section
+-- eight words for each: its row; 0, its size and 0, or a refusal's number, 0 and its place; the first of its members, and how many; its name's
+-- bytes in the section
 unfoldable pub answerWords : ℕ → Name → ℕ → LayoutWhole → List ℕ
 answerWords row name first (whole.Is x) = row ∷ 0 ∷ x .size ∷ 0 ∷ first ∷ x .members ∷ namePlace name ∷ nameLength name ∷ []
 answerWords row name first (whole.Refused why) = row ∷ numberOf (why .reason) ∷ 0 ∷ why .place ∷ first ∷ 0 ∷ namePlace name ∷ nameLength name ∷ []
@@ -79,9 +79,9 @@ structureWords first [] = []
 structureWords first (x ∷ xs) = answerWords (x .row) (x .name) first (x .answer) ++ structureWords (first + length (x .members)) xs
 
 -- the members of all, one after the other, in the words of a single layout
-unfoldable pub memberWords : List Structure → List ℕ
-memberWords [] = []
-memberWords (x ∷ xs) = laidWords (x .members) ++ memberWords xs
+unfoldable pub allMemberWords : List Structure → List ℕ
+allMemberWords [] = []
+allMemberWords (x ∷ xs) = laidWords (x .members) ++ allMemberWords xs
 
 -- how many members all have together
 unfoldable pub memberCount : List Structure → ℕ
@@ -93,15 +93,15 @@ unfoldable pub countsOf : List Structure → LayoutCounts
 countsOf xs = record { structures = length xs; members = memberCount xs }
 
 -- 8, with both counts, where either room is too short: nothing is written in either
-unfoldable pub intoRooms : List ℕ → List ℕ → List Structure → Outcomes AllLayouts ℕ ℕ
-intoRooms structures members xs =
+unfoldable pub layoutsInto : List ℕ → List ℕ → List Structure → Outcomes AllLayouts ℕ ℕ
+layoutsInto structures members xs =
     cond (leb (length xs) (length structures / structureWidth) && leb (memberCount xs) (length members / laidWidth))
-    (outcomes (all.Are (countsOf xs)) (sets structures 0 (structureWords 0 xs)) (sets members 0 (memberWords xs)))
+    (outcomes (all.Are (countsOf xs)) (sets structures 0 (structureWords 0 xs)) (sets members 0 (allMemberWords xs)))
     (outcomes (all.Room (countsOf xs)) structures members)
 
 -- all layouts of a table; each structure is depth 1: the entries that its members name are depth 2
-unfoldable pub allOf : Settings → List ℕ → List ℕ → List ℕ → List ℕ → List ℕ → Counts → List ℕ → List ℕ → Outcomes AllLayouts ℕ ℕ
-allOf settings vendors sizes s rows attrs counts structures members =
+unfoldable pub allLayouts : Settings → List ℕ → List ℕ → List ℕ → List ℕ → List ℕ → Counts → List ℕ → List ℕ → Outcomes AllLayouts ℕ ℕ
+allLayouts settings vendors sizes s rows attrs counts structures members =
     tested settings vendors sizes s rows attrs counts (λ why. outcomes (all.Refused why) structures members)
-    (intoRooms structures members
+    (layoutsInto structures members
     (structuresFrom settings s rows attrs (counts .rows) (typeSize settings sizes s rows attrs (counts .rows) (depthLimit - 1)) 0 (counts .rows)))

@@ -9,9 +9,9 @@ use Rattle.sizes.specs.Size.{isStructure}
 -- ---- every structure and class once, in file order
 
 -- so many rows from row i on
-unfoldable pub rowsFrom : ℕ → ℕ → List ℕ
-rowsFrom i zero = []
-rowsFrom i (suc left) = i ∷ rowsFrom (suc i) left
+unfoldable pub rowNumbersFrom : ℕ → ℕ → List ℕ
+rowNumbersFrom i zero = []
+rowNumbersFrom i (suc left) = i ∷ rowNumbersFrom (suc i) left
 
 -- only those of structures and classes
 unfoldable pub onlyStructures : List ℕ → List ℕ → List ℕ

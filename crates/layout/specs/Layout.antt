@@ -1,7 +1,7 @@
--- Layouts (document 01, 'Types, records, sizes'), for a structure or class: row number, size, and for each Member child in walk order its offset, its size
--- (ByteSize, else its type's) and its name, empty if none. All members are read whole before any size is taken; then member by member its size, then its end,
--- which is tested (20) only where the ends make the size, that is without ByteSize.
--- The tests in their order: 1, 2, 3; of the entry 11, 12; 9 and what its Member records refuse; member by member its size and end; 8.
+-- Layouts (document 01, 'Types, records, sizes'), for a structure or class: row number, size, and for each Member child in walk order its offset,
+-- its size (ByteSize, else its type's) and its name, empty if none. All members are read whole before any size is taken; then member by member its
+-- size, then its end, which is tested (20) only where the ends make the size, that is without ByteSize. The tests in their order: 1, 2, 3; of the
+-- entry 11, 12; 9 and what its Member records refuse; member by member its size and end; 8.
 use Prim.Native.Nat.{ℕ, _+_, _-_, _/_}
 use mathlib.Core.Bool.{Bool, true, false, cond}
 use mathlib.Core.List.{List, [], _∷_}
@@ -18,11 +18,11 @@ use Rattle.blocks.specs.declared.types.Type.{«Type»}
 use Rattle.tables.specs.Row.{rowAt}
 use Rattle.tables.specs.Check.{refusedAt}
 use Rattle.tables.specs.declared.row.Counts.{Counts}
-use Rattle.tables.specs.Keyed.{inRow}
+use Rattle.tables.specs.Keyed.{inRowOfKey}
 use Rattle.records.specs.Scan.{runOf}
 use Rattle.records.specs.Fields.{wordOf}
 use Rattle.records.specs.MemberWords.{namePlace, nameLength}
-use Rattle.records.specs.Unions.{Placed, Members, members, refused}
+use Rattle.records.specs.Unions.{Placed, Members, members, membersRefused}
 use Rattle.records.specs.declared.fields.Word.{Word}
 use Rattle.records.specs.declared.fields.Word.the-variants as word
 use Rattle.sizes.specs.Size.{isStructure, endThen, memberSize, membersOf, shapeOf, typeSize}
@@ -70,13 +70,14 @@ module _ (rows : List ℕ) (sizeOf : «Type» → Sized) (bounded : Bool) where
   unfoldable pub laidFrom : ℕ → List Placed → Lay
   laidFrom largest [] = laid [] largest
   laidFrom largest (m ∷ ms) =
-      layThen (λ size. layThen (λ next. andLaid (laidMember m size) (laidFrom next ms)) (endOr bounded (rowAt rows (m .row) .key) largest (m .member .offset + size)))
+      layThen (λ size. layThen (λ next. andLaid (laidMember m size) (laidFrom next ms))
+      (endOr bounded (rowAt rows (m .row) .key) largest (m .member .offset + size)))
       (memberSize sizeOf m)
 
 -- there is a ByteSize
-unfoldable pub isBounded : Word → Bool
-isBounded (word.Is size) = true
-isBounded word.Nothing = false
+unfoldable pub hasByteSize : Word → Bool
+hasByteSize (word.Is size) = true
+hasByteSize word.Nothing = false
 
 -- ByteSize, or else the largest end
 unfoldable pub sizeOrLargest : ℕ → Word → ℕ
@@ -90,8 +91,8 @@ module _ (settings : Settings) (s rows attrs : List ℕ) (n : ℕ) (sizeOf : «T
 
   -- a structure laid out: what its Member records refuse comes first, ByteSize or not
   unfoldable pub membersLaid : Members → Lay
-  membersLaid (members ms) = laidFrom rows sizeOf (isBounded ownSize) 0 ms
-  membersLaid (refused why) = unlaid why
+  membersLaid (members ms) = laidFrom rows sizeOf (hasByteSize ownSize) 0 ms
+  membersLaid (membersRefused why) = unlaid why
 
   -- only a structure or a class has a layout: 12 at any other row
   unfoldable pub shapeLaid : Shape → Lay
@@ -101,7 +102,7 @@ module _ (settings : Settings) (s rows attrs : List ℕ) (n : ℕ) (sizeOf : «T
   unfoldable pub rowLay : Lay
   rowLay = shapeLaid (shapeOf (rowAt rows i .kind))
 
-  -- what is answered for a row that was laid out, or refused
+  -- what is answered for a row that was laid out, or membersRefused
   unfoldable pub layoutBy : Lay → LayoutWhole
   layoutBy (laid xs largest) = whole.Is (record { row = i; size = sizeOrLargest largest ownSize; members = length xs })
   layoutBy (unlaid why) = whole.Refused why
@@ -127,14 +128,15 @@ layInto room (laid xs largest) answer = outcome answer (sets room 0 (laidWords x
 layInto room (unlaid why) answer = outcome answer room
 
 -- 8, with how many members there are, where the room is too short for all: nothing is written
-unfoldable pub intoRoom : List ℕ → Lay → LayoutWhole → Outcome LayoutRead ℕ
-intoRoom room lay (whole.Is x) = cond (leb (x .members) (length room / laidWidth)) (layInto room lay (layout.Is x)) (outcome (layout.Room (x .members)) room)
-intoRoom room lay (whole.Refused why) = outcome (layout.Refused why) room
+unfoldable pub layoutInto : List ℕ → Lay → LayoutWhole → Outcome LayoutRead ℕ
+layoutInto room lay (whole.Is x) =
+    cond (leb (x .members) (length room / laidWidth)) (layInto room lay (layout.Is x)) (outcome (layout.Room (x .members)) room)
+layoutInto room lay (whole.Refused why) = outcome (layout.Refused why) room
 
 -- the layout of a key's entry, which is depth 1: the entries that its members name are depth 2
-unfoldable pub layoutOf : Settings → List ℕ → List ℕ → List ℕ → List ℕ → List ℕ → Counts → ℕ → List ℕ → Outcome LayoutRead ℕ
-layoutOf settings vendors sizes s rows attrs counts key room =
-    inRow settings vendors sizes s rows attrs counts key (λ why. outcome (layout.Refused why) room)
+unfoldable pub layoutOfKey : Settings → List ℕ → List ℕ → List ℕ → List ℕ → List ℕ → Counts → ℕ → List ℕ → Outcome LayoutRead ℕ
+layoutOfKey settings vendors sizes s rows attrs counts key room =
+    inRowOfKey settings vendors sizes s rows attrs counts key (λ why. outcome (layout.Refused why) room)
     (λ i.
-    intoRoom room (rowLay settings s rows attrs (counts .rows) (typeSize settings sizes s rows attrs (counts .rows) (depthLimit - 1)) i)
+    layoutInto room (rowLay settings s rows attrs (counts .rows) (typeSize settings sizes s rows attrs (counts .rows) (depthLimit - 1)) i)
     (layoutAt settings s rows attrs (counts .rows) (typeSize settings sizes s rows attrs (counts .rows) (depthLimit - 1)) i))

@@ -4,6 +4,6 @@ use mathlib.Core.List.{List, [], _∷_}
 use Rattle.layout.specs.Layout.{Laid}
 
 -- every member ends at or before `size`
-unfoldable pub Inside : ℕ → List Laid → Type 0
-Inside size [] = Unit
-Inside size (x ∷ xs) = (x .offset + x .size ≤ size) × Inside size xs
+unfoldable pub EndInside : ℕ → List Laid → Type 0
+EndInside size [] = Unit
+EndInside size (x ∷ xs) = (x .offset + x .size ≤ size) × EndInside size xs

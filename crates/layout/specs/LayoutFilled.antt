@@ -13,7 +13,8 @@ use Rattle.layout.specs.declared.one.Layout.{Layout}
 use Rattle.layout.specs.declared.one.LayoutWhole.the-variants as whole
 
 -- the layout of a key, and the room after it was given
-pub record LayoutFilled (settings : Settings) (s rows attrs : List ℕ) (n : ℕ) (sizeOf : «Type» → Sized) (key : ℕ) (x : Layout) (room room′ : List ℕ) : Type 0 where
+pub record LayoutFilled (settings : Settings) (s rows attrs : List ℕ) (n : ℕ) (sizeOf : «Type» → Sized) (key : ℕ) (x : Layout)
+    (room room′ : List ℕ) : Type 0 where
   pub there : x .row < n
   pub key-is : rowAt rows (x .row) .key ≡ key
   pub layout-is : layoutAt settings s rows attrs n sizeOf (x .row) ≡ whole.Is x

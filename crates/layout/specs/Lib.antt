@@ -1,5 +1,6 @@
--- Layouts of structures and classes (document 01, 'Types, records, sizes'): `Layout` (of a key's), `All` (every layout of a table). For theorems: `LayoutFilled`
--- and `AllFilled` (what the rooms hold), `LayoutEnds` (members end inside), `AllEach` (the structures and classes of a table), `Examples` (document 01's input A).
+-- Layouts of structures and classes (document 01, 'Types, records, sizes'): `Layout` (of a key's), `All` (every layout of a table). For theorems:
+-- `LayoutFilled` and `AllFilled` (what the rooms hold), `LayoutEnds` (members end inside), `AllEach` (the structures and classes of a table),
+-- `Examples` (document 01's input A).
 pub mod Layout
 pub mod All
 pub mod LayoutFilled

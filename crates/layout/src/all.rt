@@ -29,12 +29,13 @@ ghost use lib.ListN.{length};
 ghost use lib.Seq.{sets};
 ghost use Rattle.lent.specs.Outcome.{BothGiven};
 ghost use Rattle.sizes.specs.Size.{typeSize};
-ghost use Rattle.sizes.specs.Inside.Size.{Ready, typeFrom};
+ghost use Rattle.sizes.specs.Inside.Size.{TableReady, typeSizeFrom};
 ghost use Rattle.sizes.specs.Inside.Known.{knownWidth};
 ghost use Rattle.layout.specs.Inside.Levels.{deepest, FillAsked};
 ghost use Rattle.sizes.specs.Inside.Kept.{AllKept};
-ghost use Rattle.layout.specs.All.{structureWidth, structuresFrom, allOf, intoRooms};
-ghost use Rattle.layout.specs.Inside.All.{OneMore, CountAsked, PutAsked, PutsAsked, eightWords, sizeTold, countedOn, rowStructures, Told, RowCounted, AllCounted, Puts, PutAll};
+ghost use Rattle.layout.specs.All.{structureWidth, structuresFrom, allLayouts, layoutsInto};
+ghost use Rattle.layout.specs.Inside.All.{OneMore, CountAsked, PutAsked, PutsAsked, eightWords, wholeTold, countedOn, rowStructures};
+ghost use Rattle.layout.specs.Inside.All.{WholesTold, RowCounted, AllCounted, Puts, PutAll};
 
 pub struct LayoutCounts {
     pub structures: usize,
@@ -71,7 +72,7 @@ fn one_more(counts: LayoutCounts, members: usize) -> LayoutCounts
 
 // What is kept of a layout between counting and writing: its size, or why it is refused.
 fn size_told(answer: LayoutWhole) -> Sized
-    ensures { λ r. ⌜ r ≡ sizeTold answer ⌝ }
+    ensures { λ r. ⌜ r ≡ wholeTold answer ⌝ }
 {
     match answer {
         LayoutWhole::Is(found) => Sized::Is(found.size),
@@ -93,8 +94,15 @@ fn count_row(
     i: usize,
     counts: LayoutCounts,
 ) -> LayoutCounts
-    requires { ⌜ CountAsked (now s) (now rows) n i counts × (n * knownWidth ≤ length (now told) × AllKept settings (now sizes) (now s) (now rows) (now attrs) n (now known) (now kept)) ⌝ }
-    ensures { λ r. ⌜ RowCounted settings (now (s .entry)) (now (rows .entry)) (now (attrs .entry)) n (typeFrom settings (now (sizes .entry)) (now (s .entry)) (now (rows .entry)) (now (attrs .entry)) n (now (known .entry)) 0) i counts r (now (told .entry)) (now (told .exit)) ⌝ }
+    requires { ⌜
+        CountAsked (now s) (now rows) n i counts ×
+        (n * knownWidth ≤ length (now told) × AllKept settings (now sizes) (now s) (now rows) (now attrs) n (now known) (now kept))
+        ⌝ }
+    ensures { λ r. ⌜
+        RowCounted settings (now (s .entry)) (now (rows .entry)) (now (attrs .entry)) n
+        (typeSizeFrom settings (now (sizes .entry)) (now (s .entry)) (now (rows .entry)) (now (attrs .entry)) n (now (known .entry)) 0) i counts r
+        (now (told .entry)) (now (told .exit))
+        ⌝ }
 {
     let row = row_at(rows, i);
     if !is_structure(row.kind) {
@@ -134,7 +142,11 @@ fn count_layouts(
     told: &mut [u64],
 ) -> LayoutCounts
     requires { ⌜ FillAsked (now s) (now rows) n (now told) × AllKept settings (now sizes) (now s) (now rows) (now attrs) n (now known) (now kept) ⌝ }
-    ensures { λ r. ⌜ AllCounted settings (now (s .entry)) (now (rows .entry)) (now (attrs .entry)) n (typeFrom settings (now (sizes .entry)) (now (s .entry)) (now (rows .entry)) (now (attrs .entry)) n (now (known .entry)) 0) r (now (told .exit)) ⌝ }
+    ensures { λ r. ⌜
+        AllCounted settings (now (s .entry)) (now (rows .entry)) (now (attrs .entry)) n
+        (typeSizeFrom settings (now (sizes .entry)) (now (s .entry)) (now (rows .entry)) (now (attrs .entry)) n (now (known .entry)) 0) r
+        (now (told .exit))
+        ⌝ }
 {
     let mut counts = LayoutCounts {
         structures: 0,
@@ -172,7 +184,9 @@ fn put_structure(
     members: usize,
     name: Name,
 )
-    ensures { λ _. ⌜ now (structures .exit) ≡ sets (now (structures .entry)) (k * structureWidth) (eightWords row number size place first members name) ⌝ }
+    ensures { λ _. ⌜
+        now (structures .exit) ≡ sets (now (structures .entry)) (k * structureWidth) (eightWords row number size place first members name)
+        ⌝ }
 {
     if k < structures.len() {
         let at = k * STRUCTURE_WIDTH;
@@ -203,8 +217,16 @@ fn put_row(
     structures: &mut [u64],
     members: &mut [u64],
 ) -> LayoutCounts
-    requires { ⌜ PutAsked (now s) (now rows) n i counts (now members) × (Told settings (now s) (now rows) (now attrs) n (typeFrom settings (now sizes) (now s) (now rows) (now attrs) n (now known) 0) n (now told) × AllKept settings (now sizes) (now s) (now rows) (now attrs) n (now known) (now kept)) ⌝ }
-    ensures { λ r. ⌜ Puts (rowStructures settings (now (s .entry)) (now (rows .entry)) (now (attrs .entry)) n (typeFrom settings (now (sizes .entry)) (now (s .entry)) (now (rows .entry)) (now (attrs .entry)) n (now (known .entry)) 0) i) counts r (now (structures .entry)) (now (structures .exit)) (now (members .entry)) (now (members .exit)) ⌝ }
+    requires { ⌜
+        PutAsked (now s) (now rows) n i counts (now members) ×
+        (WholesTold settings (now s) (now rows) (now attrs) n (typeSizeFrom settings (now sizes) (now s) (now rows) (now attrs) n (now known) 0) n
+        (now told) × AllKept settings (now sizes) (now s) (now rows) (now attrs) n (now known) (now kept))
+        ⌝ }
+    ensures { λ r. ⌜
+        Puts (rowStructures settings (now (s .entry)) (now (rows .entry)) (now (attrs .entry)) n
+        (typeSizeFrom settings (now (sizes .entry)) (now (s .entry)) (now (rows .entry)) (now (attrs .entry)) n (now (known .entry)) 0) i) counts r
+        (now (structures .entry)) (now (structures .exit)) (now (members .entry)) (now (members .exit))
+        ⌝ }
 {
     let row = row_at(rows, i);
     if !is_structure(row.kind) {
@@ -280,8 +302,17 @@ fn put_layouts(
     structures: &mut [u64],
     members: &mut [u64],
 )
-    requires { ⌜ PutsAsked (now s) (now rows) n (structuresFrom settings (now s) (now rows) (now attrs) n (typeFrom settings (now sizes) (now s) (now rows) (now attrs) n (now known) 0) 0 n) (now members) × (Told settings (now s) (now rows) (now attrs) n (typeFrom settings (now sizes) (now s) (now rows) (now attrs) n (now known) 0) n (now told) × AllKept settings (now sizes) (now s) (now rows) (now attrs) n (now known) (now kept)) ⌝ }
-    ensures { λ _. ⌜ PutAll (structuresFrom settings (now (s .entry)) (now (rows .entry)) (now (attrs .entry)) n (typeFrom settings (now (sizes .entry)) (now (s .entry)) (now (rows .entry)) (now (attrs .entry)) n (now (known .entry)) 0) 0 n) (now (structures .entry)) (now (structures .exit)) (now (members .entry)) (now (members .exit)) ⌝ }
+    requires { ⌜
+        PutsAsked (now s) (now rows) n (structuresFrom settings (now s) (now rows) (now attrs) n
+        (typeSizeFrom settings (now sizes) (now s) (now rows) (now attrs) n (now known) 0) 0 n) (now members) ×
+        (WholesTold settings (now s) (now rows) (now attrs) n (typeSizeFrom settings (now sizes) (now s) (now rows) (now attrs) n (now known) 0) n
+        (now told) × AllKept settings (now sizes) (now s) (now rows) (now attrs) n (now known) (now kept))
+        ⌝ }
+    ensures { λ _. ⌜
+        PutAll (structuresFrom settings (now (s .entry)) (now (rows .entry)) (now (attrs .entry)) n
+        (typeSizeFrom settings (now (sizes .entry)) (now (s .entry)) (now (rows .entry)) (now (attrs .entry)) n (now (known .entry)) 0) 0 n)
+        (now (structures .entry)) (now (structures .exit)) (now (members .entry)) (now (members .exit))
+        ⌝ }
 {
     let mut counts = LayoutCounts {
         structures: 0,
@@ -323,7 +354,12 @@ fn give_layouts(
     members: &mut [u64],
 ) -> AllLayouts
     requires { ⌜ FillAsked (now s) (now rows) n (now told) × AllKept settings (now sizes) (now s) (now rows) (now attrs) n (now known) (now kept) ⌝ }
-    ensures { λ r. ⌜ BothGiven (intoRooms (now (structures .entry)) (now (members .entry)) (structuresFrom settings (now (s .entry)) (now (rows .entry)) (now (attrs .entry)) n (typeFrom settings (now (sizes .entry)) (now (s .entry)) (now (rows .entry)) (now (attrs .entry)) n (now (known .entry)) 0) 0 n)) r (now (structures .exit)) (now (members .exit)) ⌝ }
+    ensures { λ r. ⌜
+        BothGiven (layoutsInto (now (structures .entry)) (now (members .entry))
+        (structuresFrom settings (now (s .entry)) (now (rows .entry)) (now (attrs .entry)) n
+        (typeSizeFrom settings (now (sizes .entry)) (now (s .entry)) (now (rows .entry)) (now (attrs .entry)) n (now (known .entry)) 0) 0 n)) r
+        (now (structures .exit)) (now (members .exit))
+        ⌝ }
 {
     let needed = count_layouts(s, settings, sizes, rows, attrs, n, known, kept, told);
     if needed.structures > structures.len() / STRUCTURE_WIDTH {
@@ -359,8 +395,13 @@ fn lay_all(
     structures: &mut [u64],
     members: &mut [u64],
 ) -> AllLayouts
-    requires { ⌜ Ready (now s) (now rows) n ⌝ }
-    ensures { λ r. ⌜ BothGiven (intoRooms (now (structures .entry)) (now (members .entry)) (structuresFrom settings (now (s .entry)) (now (rows .entry)) (now (attrs .entry)) n (typeSize settings (now (sizes .entry)) (now (s .entry)) (now (rows .entry)) (now (attrs .entry)) n deepest) 0 n)) r (now (structures .exit)) (now (members .exit)) ⌝ }
+    requires { ⌜ TableReady (now s) (now rows) n ⌝ }
+    ensures { λ r. ⌜
+        BothGiven (layoutsInto (now (structures .entry)) (now (members .entry))
+        (structuresFrom settings (now (s .entry)) (now (rows .entry)) (now (attrs .entry)) n
+        (typeSize settings (now (sizes .entry)) (now (s .entry)) (now (rows .entry)) (now (attrs .entry)) n deepest) 0 n)) r (now (structures .exit))
+        (now (members .exit))
+        ⌝ }
 {
     let mut kept = [0u64; KEPT_WORDS];
     keep_rows(s, settings, sizes, rows, attrs, n, &mut kept);
@@ -404,7 +445,10 @@ pub fn all_layouts(
     structures: &mut [u64],
     members: &mut [u64],
 ) -> AllLayouts
-    ensures { λ r. ⌜ BothGiven (allOf settings (now (vendors .entry)) (now (sizes .entry)) (now (s .entry)) (now (rows .entry)) (now (attrs .entry)) counts (now (structures .entry)) (now (members .entry))) r (now (structures .exit)) (now (members .exit)) ⌝ }
+    ensures { λ r. ⌜
+        BothGiven (allLayouts settings (now (vendors .entry)) (now (sizes .entry)) (now (s .entry)) (now (rows .entry)) (now (attrs .entry)) counts
+        (now (structures .entry)) (now (members .entry))) r (now (structures .exit)) (now (members .exit))
+        ⌝ }
 {
     match check_table(s, settings, vendors, sizes, rows, attrs, counts) {
         Check::Passed => lay_all(

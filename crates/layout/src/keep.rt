@@ -26,7 +26,8 @@ ghost use lib.ListN.{length};
 ghost use Rattle.tables.specs.Inside.Find.{Rising};
 ghost use Rattle.links.specs.Inside.Children.{Asked};
 ghost use Rattle.sizes.specs.Size.{typeSizeBy};
-ghost use Rattle.sizes.specs.Inside.Kept.{keptWidth, rowNamed, sizeNamed, firstOf, secondOf, faultSize, PutTwo, PutRow, PutFault, KeepAsked, FaultAsked, MembersKept, PartsKept};
+ghost use Rattle.sizes.specs.Inside.Kept.{keptWidth, rowNamed, sizeNamed, firstOf, secondOf, faultSize, PutTwo, PutRow, PutFault, KeepAsked};
+ghost use Rattle.sizes.specs.Inside.Kept.{FaultAsked, MembersKept, PartsKept};
 
 // The row of an entry that has the size, told as 10 at it; 11 where there is none.
 fn row_named(rows: &[u32], n: usize, key: u32) -> Sized
@@ -107,7 +108,9 @@ fn keep_row(
     c: usize,
 )
     requires { ⌜ Asked (now rows) n c × KeepAsked (now rows) n (now kept) ⌝ }
-    ensures { λ _. ⌜ PutRow settings (now (sizes .entry)) (now (s .entry)) (now (rows .entry)) (now (attrs .entry)) n c (now (kept .entry)) (now (kept .exit)) ⌝ }
+    ensures { λ _. ⌜
+        PutRow settings (now (sizes .entry)) (now (s .entry)) (now (rows .entry)) (now (attrs .entry)) n c (now (kept .entry)) (now (kept .exit))
+        ⌝ }
 {
     let e = settings.endian;
     let sibling = sibling_row(s, e, rows, attrs, n, c);

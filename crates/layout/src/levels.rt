@@ -20,12 +20,12 @@ ghost use lib.ListN.{length};
 ghost use Rattle.records.specs.Inside.Enumeration.{AskedShort};
 ghost use Rattle.sizes.specs.Inside.Known.{knownWidth};
 ghost use Rattle.sizes.specs.Inside.Kept.{PartsKept, AllKept};
-ghost use Rattle.layout.specs.Inside.Levels.{deepest, lastLevel, settled, nextLevel, sizeLeft, Filled, LevelFilled, FillAsked, TakenOver};
+ghost use Rattle.layout.specs.Inside.Levels.{deepest, lastLevel, settled, nextLevel, sizeLeft, KnownUpTo, LevelFilled, FillAsked, TakenOver};
 
 // Where no level is left every row is past the limit.
 fn last_level(rows: &[u32], n: usize, known: &mut [u64])
     requires { ⌜ n * knownWidth ≤ length (now known) ⌝ }
-    ensures { λ _. ⌜ Filled (lastLevel (now (rows .entry))) n n (now (known .exit)) ⌝ }
+    ensures { λ _. ⌜ KnownUpTo (lastLevel (now (rows .entry))) n n (now (known .exit)) ⌝ }
 {
     let mut i: usize = 0;
     while i < n {
@@ -61,7 +61,9 @@ fn next_size(
     i: usize,
 ) -> Sized
     requires { ⌜ AskedShort (now s) (now rows) n i × AllKept settings (now sizes) (now s) (now rows) (now attrs) n (now known) (now kept) ⌝ }
-    ensures { λ r. ⌜ r ≡ nextLevel settings (now (sizes .entry)) (now (s .entry)) (now (rows .entry)) (now (attrs .entry)) n (now (known .entry)) i ⌝ }
+    ensures { λ r. ⌜
+        r ≡ nextLevel settings (now (sizes .entry)) (now (s .entry)) (now (rows .entry)) (now (attrs .entry)) n (now (known .entry)) i
+        ⌝ }
 {
     let size = known_at(known, i);
     if is_settled(size) {
@@ -94,7 +96,10 @@ fn next_level(
     next: &mut [u64],
 ) -> bool
     requires { ⌜ FillAsked (now s) (now rows) n (now next) × AllKept settings (now sizes) (now s) (now rows) (now attrs) n (now known) (now kept) ⌝ }
-    ensures { λ r. ⌜ LevelFilled (nextLevel settings (now (sizes .entry)) (now (s .entry)) (now (rows .entry)) (now (attrs .entry)) n (now (known .entry))) n n (now (next .exit)) r ⌝ }
+    ensures { λ r. ⌜
+        LevelFilled (nextLevel settings (now (sizes .entry)) (now (s .entry)) (now (rows .entry)) (now (attrs .entry)) n (now (known .entry))) n n
+        (now (next .exit)) r
+        ⌝ }
 {
     let mut all = true;
     let mut i: usize = 0;
@@ -136,8 +141,13 @@ pub(crate) fn fill_known(
     known: &mut [u64],
     next: &mut [u64],
 )
-    requires { ⌜ FillAsked (now s) (now rows) n (now known) × (FillAsked (now s) (now rows) n (now next) × PartsKept settings (now sizes) (now s) (now rows) (now attrs) n (now kept)) ⌝ }
-    ensures { λ _. ⌜ Filled (sizeLeft settings (now (sizes .entry)) (now (s .entry)) (now (rows .entry)) (now (attrs .entry)) n deepest) n n (now (known .exit)) ⌝ }
+    requires { ⌜
+        FillAsked (now s) (now rows) n (now known) ×
+        (FillAsked (now s) (now rows) n (now next) × PartsKept settings (now sizes) (now s) (now rows) (now attrs) n (now kept))
+        ⌝ }
+    ensures { λ _. ⌜
+        KnownUpTo (sizeLeft settings (now (sizes .entry)) (now (s .entry)) (now (rows .entry)) (now (attrs .entry)) n deepest) n n (now (known .exit))
+        ⌝ }
 {
     last_level(rows, n, known);
     let mut level: usize = 0;

@@ -38,8 +38,8 @@ ghost use Rattle.tables.specs.Row.{rowAt};
 ghost use Rattle.links.specs.Inside.Kids.{kidsOf};
 ghost use Rattle.sizes.specs.Size.{shapeOf};
 ghost use Rattle.sizes.specs.Inside.Kept.{AllKept, LayoutAsked};
-ghost use Rattle.sizes.specs.Inside.Size.{EndsShort, typeFrom};
-ghost use Rattle.layout.specs.Layout.{laidWidth, laidWords, isBounded, sizeOrLargest, endOr, rowLay, layoutAt, intoRoom, layoutOf};
+ghost use Rattle.sizes.specs.Inside.Size.{EndsShort, typeSizeFrom};
+ghost use Rattle.layout.specs.Layout.{laidWidth, laidWords, hasByteSize, sizeOrLargest, endOr, rowLay, layoutAt, layoutInto, layoutOfKey};
 ghost use Rattle.sizes.specs.Size.{isStructure};
 ghost use Rattle.layout.specs.Inside.Layout.{laidAt, sizedLaid, childLaid, childrenLaid, structureLaid, LayAsked, Lays, WholeLaid};
 
@@ -73,7 +73,7 @@ pub const LAID_WIDTH: usize = 4;
 
 // Is there a ByteSize?
 fn is_bounded(size: Word) -> bool
-    ensures { λ r. ⌜ r ≡ isBounded size ⌝ }
+    ensures { λ r. ⌜ r ≡ hasByteSize size ⌝ }
 {
     match size {
         Word::Is(_) => true,
@@ -113,7 +113,10 @@ fn put_laid(
     offset: u32,
     size: u32,
 )
-    ensures { λ _. ⌜ now (room .exit) ≡ sets (now (room .entry)) (k * laidWidth) (laidWords (laidAt e (now (s .entry)) (now (rows .entry)) (now (attrs .entry)) c offset size ∷ [])) ⌝ }
+    ensures { λ _. ⌜
+        now (room .exit) ≡ sets (now (room .entry)) (k * laidWidth)
+        (laidWords (laidAt e (now (s .entry)) (now (rows .entry)) (now (attrs .entry)) c offset size ∷ []))
+        ⌝ }
 {
     if k < room.len() {
         let name = last_name(s, attrs, run_of(e, rows, c), NAME);
@@ -140,7 +143,10 @@ fn lay_sized(
     room: &mut [u64],
 ) -> Laying
     requires { ⌜ count + 1 < 2 ^ 64 ⌝ }
-    ensures { λ r. ⌜ Lays (sizedLaid e (now (s .entry)) (now (rows .entry)) (now (attrs .entry)) bounded largest c offset size) count r (now (room .entry)) (now (room .exit)) ⌝ }
+    ensures { λ r. ⌜
+        Lays (sizedLaid e (now (s .entry)) (now (rows .entry)) (now (attrs .entry)) bounded largest c offset size) count r (now (room .entry))
+        (now (room .exit))
+        ⌝ }
 {
     match end_or(rows, bounded, c, largest, offset, size) {
         Sized::Is(next) => {
@@ -172,7 +178,11 @@ fn lay_child(
     room: &mut [u64],
 ) -> Laying
     requires { ⌜ LayAsked (now s) (now rows) n c count × AllKept settings (now sizes) (now s) (now rows) (now attrs) n (now known) (now kept) ⌝ }
-    ensures { λ r. ⌜ Lays (childLaid settings (now (s .entry)) (now (rows .entry)) (now (attrs .entry)) n (typeFrom settings (now (sizes .entry)) (now (s .entry)) (now (rows .entry)) (now (attrs .entry)) n (now (known .entry)) levels) bounded largest c) count r (now (room .entry)) (now (room .exit)) ⌝ }
+    ensures { λ r. ⌜
+        Lays (childLaid settings (now (s .entry)) (now (rows .entry)) (now (attrs .entry)) n
+        (typeSizeFrom settings (now (sizes .entry)) (now (s .entry)) (now (rows .entry)) (now (attrs .entry)) n (now (known .entry)) levels) bounded
+        largest c) count r (now (room .entry)) (now (room .exit))
+        ⌝ }
 {
     let row = row_at(rows, c);
     if row.kind != 0x0d {
@@ -212,8 +222,14 @@ fn lay_children(
     i: usize,
     room: &mut [u64],
 ) -> Laying
-    requires { ⌜ EndsShort settings (now s) (now rows) (now attrs) n i × AllKept settings (now sizes) (now s) (now rows) (now attrs) n (now known) (now kept) ⌝ }
-    ensures { λ r. ⌜ Lays (childrenLaid settings (now (s .entry)) (now (rows .entry)) (now (attrs .entry)) n (typeFrom settings (now (sizes .entry)) (now (s .entry)) (now (rows .entry)) (now (attrs .entry)) n (now (known .entry)) levels) bounded 0 (kidsOf (settings .endian) (now (s .entry)) (now (rows .entry)) (now (attrs .entry)) n i)) 0 r (now (room .entry)) (now (room .exit)) ⌝ }
+    requires { ⌜
+        EndsShort settings (now s) (now rows) (now attrs) n i × AllKept settings (now sizes) (now s) (now rows) (now attrs) n (now known) (now kept)
+        ⌝ }
+    ensures { λ r. ⌜
+        Lays (childrenLaid settings (now (s .entry)) (now (rows .entry)) (now (attrs .entry)) n
+        (typeSizeFrom settings (now (sizes .entry)) (now (s .entry)) (now (rows .entry)) (now (attrs .entry)) n (now (known .entry)) levels) bounded 0
+        (kidsOf (settings .endian) (now (s .entry)) (now (rows .entry)) (now (attrs .entry)) n i)) 0 r (now (room .entry)) (now (room .exit))
+        ⌝ }
 {
     let e = settings.endian;
     let end = kept_sibling(s, e, rows, attrs, n, kept, i);
@@ -275,7 +291,11 @@ fn lay_structure(
     room: &mut [u64],
 ) -> Laying
     requires { ⌜ LayoutAsked settings (now sizes) (now s) (now rows) (now attrs) n (now known) (now kept) i ⌝ }
-    ensures { λ r. ⌜ Lays (structureLaid settings (now (s .entry)) (now (rows .entry)) (now (attrs .entry)) n (typeFrom settings (now (sizes .entry)) (now (s .entry)) (now (rows .entry)) (now (attrs .entry)) n (now (known .entry)) levels) bounded i) 0 r (now (room .entry)) (now (room .exit)) ⌝ }
+    ensures { λ r. ⌜
+        Lays (structureLaid settings (now (s .entry)) (now (rows .entry)) (now (attrs .entry)) n
+        (typeSizeFrom settings (now (sizes .entry)) (now (s .entry)) (now (rows .entry)) (now (attrs .entry)) n (now (known .entry)) levels) bounded
+        i) 0 r (now (room .entry)) (now (room .exit))
+        ⌝ }
 {
     match kept_fault(s, settings, rows, attrs, n, kept, i) {
         Fault::Clear => lay_children(
@@ -311,7 +331,13 @@ pub(crate) fn read_layout(
     room: &mut [u64],
 ) -> LayoutWhole
     requires { ⌜ AskedShort (now s) (now rows) n i × AllKept settings (now sizes) (now s) (now rows) (now attrs) n (now known) (now kept) ⌝ }
-    ensures { λ r. ⌜ WholeLaid (layoutAt settings (now (s .entry)) (now (rows .entry)) (now (attrs .entry)) n (typeFrom settings (now (sizes .entry)) (now (s .entry)) (now (rows .entry)) (now (attrs .entry)) n (now (known .entry)) levels) i) (rowLay settings (now (s .entry)) (now (rows .entry)) (now (attrs .entry)) n (typeFrom settings (now (sizes .entry)) (now (s .entry)) (now (rows .entry)) (now (attrs .entry)) n (now (known .entry)) levels) i) r (now (room .entry)) (now (room .exit)) ⌝ }
+    ensures { λ r. ⌜
+        WholeLaid (layoutAt settings (now (s .entry)) (now (rows .entry)) (now (attrs .entry)) n
+        (typeSizeFrom settings (now (sizes .entry)) (now (s .entry)) (now (rows .entry)) (now (attrs .entry)) n (now (known .entry)) levels) i)
+        (rowLay settings (now (s .entry)) (now (rows .entry)) (now (attrs .entry)) n
+        (typeSizeFrom settings (now (sizes .entry)) (now (s .entry)) (now (rows .entry)) (now (attrs .entry)) n (now (known .entry)) levels) i) r
+        (now (room .entry)) (now (room .exit))
+        ⌝ }
 {
     let row = row_at(rows, i);
     if !is_structure(row.kind) {
@@ -357,7 +383,13 @@ fn give_layout(
     room: &mut [u64],
 ) -> LayoutRead
     requires { ⌜ AskedShort (now s) (now rows) n i × AllKept settings (now sizes) (now s) (now rows) (now attrs) n (now known) (now kept) ⌝ }
-    ensures { λ r. ⌜ Given (intoRoom (now (room .entry)) (rowLay settings (now (s .entry)) (now (rows .entry)) (now (attrs .entry)) n (typeFrom settings (now (sizes .entry)) (now (s .entry)) (now (rows .entry)) (now (attrs .entry)) n (now (known .entry)) levels) i) (layoutAt settings (now (s .entry)) (now (rows .entry)) (now (attrs .entry)) n (typeFrom settings (now (sizes .entry)) (now (s .entry)) (now (rows .entry)) (now (attrs .entry)) n (now (known .entry)) levels) i)) r (now (room .exit)) ⌝ }
+    ensures { λ r. ⌜
+        Given (layoutInto (now (room .entry)) (rowLay settings (now (s .entry)) (now (rows .entry)) (now (attrs .entry)) n
+        (typeSizeFrom settings (now (sizes .entry)) (now (s .entry)) (now (rows .entry)) (now (attrs .entry)) n (now (known .entry)) levels) i)
+        (layoutAt settings (now (s .entry)) (now (rows .entry)) (now (attrs .entry)) n
+        (typeSizeFrom settings (now (sizes .entry)) (now (s .entry)) (now (rows .entry)) (now (attrs .entry)) n (now (known .entry)) levels) i)) r
+        (now (room .exit))
+        ⌝ }
 {
     let mut none = [0u64; 0];
     match read_layout(
@@ -409,7 +441,10 @@ pub fn layout_of_key(
     key: u32,
     room: &mut [u64],
 ) -> LayoutRead
-    ensures { λ r. ⌜ Given (layoutOf settings (now (vendors .entry)) (now (sizes .entry)) (now (s .entry)) (now (rows .entry)) (now (attrs .entry)) counts key (now (room .entry))) r (now (room .exit)) ⌝ }
+    ensures { λ r. ⌜
+        Given (layoutOfKey settings (now (vendors .entry)) (now (sizes .entry)) (now (s .entry)) (now (rows .entry)) (now (attrs .entry)) counts key
+        (now (room .entry))) r (now (room .exit))
+        ⌝ }
 {
     match row_of(s, settings, vendors, sizes, rows, attrs, counts, key) {
         Keyed::Row(i) => {

@@ -1,5 +1,5 @@
--- Bytes of a structure that no member has: holes before members, padding after them. Members are taken in walk order; what they have reached is the largest end
--- so far, so those that lie on each other leave no hole.
+-- Bytes of a structure that no member has: holes before members, padding after them. Members are taken in walk order; what they have reached is the
+-- largest end so far, so those that lie on each other leave no hole.
 use Prim.Native.Nat.{ℕ, _+_, _-_}
 use mathlib.Core.Bool.{cond}
 use lib.Dec.{ltb}

@@ -1,5 +1,5 @@
--- What the program `layouts` reads a section with: settings that two words of its arguments choose. The vendor numbers and the sizes themselves are the
--- constants VENDORS and SIZES of src/presets.rt.
+-- What the program `layouts` reads a section with: settings that two words of its arguments choose. The vendor numbers and the sizes themselves are
+-- the constants VENDORS and SIZES of src/presets.rt.
 use Prim.Native.Nat.{ℕ}
 use mathlib.Core.Bool.{Bool, true, false, cond}
 use mathlib.Core.List.{List, [], _∷_}
@@ -17,8 +17,8 @@ isWord (t ∷ ts) [] = false
 isWord (t ∷ ts) (w ∷ ws) = cond (eqb w t) (isWord ts ws) false
 
 -- `little` or `big`
-unfoldable pub endianOf : Bool → Endian
-endianOf little = cond little endian.Little endian.Big
+unfoldable pub endianChosen : Bool → Endian
+endianChosen little = cond little endian.Little endian.Big
 
 -- `mw`: the 47 vendor numbers that complete the Rust's, with their four roles; `none`: no vendor numbers. Erased entries stay out
 unfoldable pub presetOf : Bool → Bool → Preset
@@ -26,7 +26,7 @@ presetOf little true =
     record {
       settings =
           record {
-            endian = endianOf little;
+            endian = endianChosen little;
             erased = false;
             producer = producer.Mwcc;
             roles = record { «global_ref» = 0x2022; mangled = 0x2008; «overlay_name» = 0x22a8; «overlay_id» = 0x2296 };
@@ -37,7 +37,7 @@ presetOf little false =
     record {
       settings =
           record {
-            endian = endianOf little;
+            endian = endianChosen little;
             erased = false;
             producer = producer.Other;
             roles = record { «global_ref» = 0; mangled = 0; «overlay_name» = 0; «overlay_id» = 0 };

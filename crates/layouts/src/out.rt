@@ -24,6 +24,7 @@ pub fn put_byte(buffer: &mut [u8], used: usize, b: u8) -> usize {
     1
 }
 
+// Bytes, one after the other.
 pub fn put_text(buffer: &mut [u8], used: usize, text: &[u8]) -> usize {
     let mut at = used;
     let mut i = 0;
@@ -34,24 +35,27 @@ pub fn put_text(buffer: &mut [u8], used: usize, text: &[u8]) -> usize {
     at
 }
 
-pub fn put_decimal(buffer: &mut [u8], used: usize, n: u64) -> usize {
-    let mut digits = [0u8; 20];
-    let k = write_decimal(&mut digits, n);
-    if k <= digits.len() {
-        put_text(buffer, used, &digits[..k])
+// The first k bytes.
+fn put_first(buffer: &mut [u8], used: usize, text: &[u8], k: usize) -> usize {
+    if k <= text.len() {
+        put_text(buffer, used, &text[..k])
     } else {
         used
     }
 }
 
+// A number in decimal.
+pub fn put_decimal(buffer: &mut [u8], used: usize, n: u64) -> usize {
+    let mut digits = [0u8; 20];
+    let k = write_decimal(&mut digits, n);
+    put_first(buffer, used, &digits, k)
+}
+
+// A number in so many hexadecimal digits.
 pub fn put_hex(buffer: &mut [u8], used: usize, n: u64, width: usize) -> usize {
     let mut digits = [0u8; 16];
     let k = write_hex(&mut digits, width, n);
-    if k <= digits.len() {
-        put_text(buffer, used, &digits[..k])
-    } else {
-        used
-    }
+    put_first(buffer, used, &digits, k)
 }
 
 // A byte of a name: one that is not printed, or a backslash, as \xNN, so that no name can look like a line.

@@ -5,7 +5,7 @@ use format::settings::Settings;
 use numbers::Endian;
 use numbers::prefix::starts_with;
 ghost use mathlib.Core.Path.{_≡_};
-ghost use Rattle.layouts.specs.Presets.{isWord, endianOf, presetOf};
+ghost use Rattle.layouts.specs.Presets.{isWord, endianChosen, presetOf};
 
 pub struct Preset {
     pub settings: Settings,
@@ -108,7 +108,7 @@ pub fn is_word(text: &[u8], word: &[u8]) -> bool
 }
 
 fn endian_of(little: bool) -> Endian
-    ensures { λ r. ⌜ r ≡ endianOf little ⌝ }
+    ensures { λ r. ⌜ r ≡ endianChosen little ⌝ }
 {
     if little { Endian::Little } else { Endian::Big }
 }

@@ -4,6 +4,7 @@ use mathlib.Core.Path.{_≡_}
 use mathlib.Core.List.{List}
 use lib.ListN.{length, take, drop}
 
+-- n elements, which are these; they fit; what lies behind them stays
 pub record Filled {E : Type 0} (words : List E) (n : ℕ) (room room′ : List E) : Type 0 where
   pub many : length words ≡ n
   pub fits : n ≤ length room

@@ -1,4 +1,5 @@
--- What a call comes to: its answer, and what each room that it was lent then holds. A contract is that the result and the rooms are those of an outcome.
+-- What a call comes to: its answer, and what each room that it was lent then holds. A contract is that the result and the rooms are those of an
+-- outcome.
 use mathlib.Core.Path.{_≡_}
 use mathlib.Core.List.{List}
 

@@ -4,12 +4,14 @@ ghost use Prim.Native.Nat.{_+_, _^_, _<_};
 ghost use lib.ListN.{length, getD, set};
 ghost use lib.Seq.{sets};
 
+// The word at a place, 0 past the end.
 pub fn word(t: &[u64], i: usize) -> u64
     ensures { λ r. ⌜ r ≡ getD (now (t .entry)) i 0 ⌝ }
 {
     if i < t.len() { t[i] } else { 0 }
 }
 
+// A word stored at a place, none past the end.
 pub fn put_word(t: &mut [u64], i: usize, v: u64)
     ensures { λ _. ⌜ now (t .exit) ≡ set (now (t .entry)) i v ⌝ }
 {

@@ -32,7 +32,7 @@ childrenBy e s rows attrs n key room (At i) = given rows key room (childWalk e s
 childrenBy e s rows attrs n key room Nothing = outcome (Refused (refusedAt key reason.Entry)) room
 
 -- `children`: the tests, then the row of the key
-unfoldable pub childrenOf : Settings → List ℕ → List ℕ → List ℕ → List ℕ → List ℕ → Counts → ℕ → List ℕ → Outcome ChildRows ℕ
-childrenOf settings vendors sizes s rows attrs counts key room =
+unfoldable pub childrenOfKey : Settings → List ℕ → List ℕ → List ℕ → List ℕ → List ℕ → Counts → ℕ → List ℕ → Outcome ChildRows ℕ
+childrenOfKey settings vendors sizes s rows attrs counts key room =
     tested settings vendors sizes s rows attrs counts (λ why. outcome (Refused why) room)
     (childrenBy (settings .endian) s rows attrs (counts .rows) key room (rowOfKey rows (counts .rows) key))

@@ -25,13 +25,13 @@ neighbourBy to n key (At i) = answerOf n (to i)
 neighbourBy to n key Nothing = Refused (refusedAt key reason.Entry)
 
 -- the next row of the row of a key
-unfoldable pub nextOf : Settings → List ℕ → List ℕ → List ℕ → List ℕ → List ℕ → Counts → ℕ → Neighbour
-nextOf settings vendors sizes s rows attrs counts key =
+unfoldable pub nextTag : Settings → List ℕ → List ℕ → List ℕ → List ℕ → List ℕ → Counts → ℕ → Neighbour
+nextTag settings vendors sizes s rows attrs counts key =
     tested settings vendors sizes s rows attrs counts Refused
     (neighbourBy (λ i. nextRow rows (counts .rows) i) (counts .rows) key (rowOfKey rows (counts .rows) key))
 
 -- its sibling
-unfoldable pub siblingOf : Settings → List ℕ → List ℕ → List ℕ → List ℕ → List ℕ → Counts → ℕ → Neighbour
-siblingOf settings vendors sizes s rows attrs counts key =
+unfoldable pub nextSibling : Settings → List ℕ → List ℕ → List ℕ → List ℕ → List ℕ → Counts → ℕ → Neighbour
+nextSibling settings vendors sizes s rows attrs counts key =
     tested settings vendors sizes s rows attrs counts Refused
     (neighbourBy (λ i. siblingRow (settings .endian) s rows attrs (counts .rows) i) (counts .rows) key (rowOfKey rows (counts .rows) key))

@@ -33,7 +33,7 @@ IsNumber String = ⊥
 IsNumber Undefined = ⊥
 
 -- a number is told
-pub record Told (v : Value) : Type 0 where
+pub record TextTold (v : Value) : Type 0 where
   pub number : ℕ
   pub is-number : v ≡ value.Is number
 

@@ -20,7 +20,7 @@ use Rattle.tables.specs.Row.{attrAt, endsOf}
 use Rattle.tables.specs.declared.row.Counts.{Counts}
 use Rattle.tables.specs.declared.find.Found.{Found}
 use Rattle.tables.specs.declared.find.Found.the-variants.{At, Nothing}
-use Rattle.tables.specs.Keyed.{inRow}
+use Rattle.tables.specs.Keyed.{inRowOfKey}
 use Rattle.links.specs.Attribute.{attributeOf}
 use Rattle.links.specs.declared.lookup.Wanted.{Wanted}
 use Rattle.links.specs.declared.lookup.Wanted.the-variants as wanted
@@ -42,9 +42,9 @@ unfoldable pub lookedIn : List ℕ → List ℕ → Wanted → ℕ → Looked
 lookedIn rows attrs w i = asLooked attrs (attributeOf rows attrs i w)
 
 -- the first that is wanted in the row of a key
-unfoldable pub attributeBy : Settings → List ℕ → List ℕ → List ℕ → List ℕ → List ℕ → Counts → ℕ → Wanted → Looked
-attributeBy settings vendors sizes s rows attrs counts key w =
-    inRow settings vendors sizes s rows attrs counts key looked.Refused (lookedIn rows attrs w)
+unfoldable pub attributeOfKey : Settings → List ℕ → List ℕ → List ℕ → List ℕ → List ℕ → Counts → ℕ → Wanted → Looked
+attributeOfKey settings vendors sizes s rows attrs counts key w =
+    inRowOfKey settings vendors sizes s rows attrs counts key looked.Refused (lookedIn rows attrs w)
 
 -- ---- where a value of a form stands
 
@@ -62,9 +62,9 @@ unfoldable pub spotIn : Endian → List ℕ → List ℕ → ℕ → FormKind �
 spotIn e rows attrs number form i = cond (isForm form number) (spotAt e rows attrs number i) placed.Nothing
 
 -- the same in the row of a key
-unfoldable pub placeOf : Settings → List ℕ → List ℕ → List ℕ → List ℕ → List ℕ → Counts → ℕ → ℕ → FormKind → Placed
-placeOf settings vendors sizes s rows attrs counts key number form =
-    inRow settings vendors sizes s rows attrs counts key placed.Refused (spotIn (settings .endian) rows attrs number form)
+unfoldable pub placeOfKey : Settings → List ℕ → List ℕ → List ℕ → List ℕ → List ℕ → Counts → ℕ → ℕ → FormKind → Placed
+placeOfKey settings vendors sizes s rows attrs counts key number form =
+    inRowOfKey settings vendors sizes s rows attrs counts key placed.Refused (spotIn (settings .endian) rows attrs number form)
 
 -- ---- numbers
 
@@ -91,15 +91,15 @@ wordAt String s spot = value.Nothing
 wordAt Undefined s spot = value.Nothing
 
 -- the number at a place, if there is one
-unfoldable pub wordOf : FormKind → List ℕ → Placed → Value
-wordOf form s (placed.At spot) = wordAt form s spot
-wordOf form s placed.Nothing = value.Nothing
-wordOf form s (placed.Refused why) = value.Refused why
+unfoldable pub wordOfPlace : FormKind → List ℕ → Placed → Value
+wordOfPlace form s (placed.At spot) = wordAt form s spot
+wordOfPlace form s placed.Nothing = value.Nothing
+wordOfPlace form s (placed.Refused why) = value.Refused why
 
 -- what the first attribute of this number in the row of a key says, if it has this form
-unfoldable pub valueBy : Settings → List ℕ → List ℕ → List ℕ → List ℕ → List ℕ → Counts → ℕ → ℕ → FormKind → Value
-valueBy settings vendors sizes s rows attrs counts key number form =
-    wordOf form s (placeOf settings vendors sizes s rows attrs counts key number form)
+unfoldable pub valueOfKey : Settings → List ℕ → List ℕ → List ℕ → List ℕ → List ℕ → Counts → ℕ → ℕ → FormKind → Value
+valueOfKey settings vendors sizes s rows attrs counts key number form =
+    wordOfPlace form s (placeOfKey settings vendors sizes s rows attrs counts key number form)
 
 -- ---- parts of the section
 

@@ -1,4 +1,5 @@
--- A walk over the n rows of a table: from a row to the next, until it comes to `end` or past the last row. Rows are numbers; a row that is not there is n.
+-- A walk over the n rows of a table: from a row to the next, until it comes to `end` or past the last row. Rows are numbers; a row that is not
+-- there is n.
 use Prim.Native.Nat.{ℕ, zero, suc}
 use mathlib.Core.Bool.{Bool, cond, _||_}
 use mathlib.Core.List.{List, [], _∷_}

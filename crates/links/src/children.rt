@@ -18,8 +18,8 @@ ghost use Rattle.tables.specs.Check.{refusedAt};
 ghost use Rattle.links.specs.Walk.{walkFrom};
 ghost use Rattle.links.specs.Links.{siblingRow, childWalk};
 ghost use Rattle.links.specs.Inside.Links.{Rows};
-ghost use Rattle.links.specs.Inside.Children.{filled, Gathers, Takes, Small, Asked};
-ghost use Rattle.links.specs.Children.{given, childrenBy, childrenOf};
+ghost use Rattle.links.specs.Inside.Children.{gatheredInto, Gathers, TakesChild, Small, Asked};
+ghost use Rattle.links.specs.Children.{given, childrenBy, childrenOfKey};
 ghost use Rattle.tables.specs.Find.{rowOfKey};
 ghost use mathlib.Core.List.{[]};
 
@@ -39,7 +39,7 @@ pub enum Kids {
 // A row that is met: null entries are passed by.
 fn take_child(rows: &[u32], c: usize, room: &mut [u32], k: usize) -> usize
     requires { ⌜ Small c k ⌝ }
-    ensures { λ r. ⌜ Takes (now (rows .entry)) c k r (now (room .entry)) (now (room .exit)) ⌝ }
+    ensures { λ r. ⌜ TakesChild (now (rows .entry)) c k r (now (room .entry)) (now (room .exit)) ⌝ }
 {
     let row = row_at(rows, c);
     if row.kind == 0 {
@@ -62,7 +62,10 @@ fn walk(
     room: &mut [u32],
 ) -> Kids
     requires { ⌜ Rows (now rows) n ⌝ }
-    ensures { λ r. ⌜ Gathers (filled (now (rows .entry)) 0 (now (room .entry)) (walkFrom n (λ c. siblingRow e (now (s .entry)) (now (rows .entry)) (now (attrs .entry)) n c) end n from)) r (now (room .exit)) ⌝ }
+    ensures { λ r. ⌜
+        Gathers (gatheredInto (now (rows .entry)) 0 (now (room .entry))
+        (walkFrom n (λ c. siblingRow e (now (s .entry)) (now (rows .entry)) (now (attrs .entry)) n c) end n from)) r (now (room .exit))
+        ⌝ }
 {
     let mut c = from;
     let mut k = 0;
@@ -92,7 +95,10 @@ fn gather(
     room: &mut [u32],
 ) -> Kids
     requires { ⌜ Asked (now rows) n i ⌝ }
-    ensures { λ r. ⌜ Gathers (filled (now (rows .entry)) 0 (now (room .entry)) (childWalk e (now (s .entry)) (now (rows .entry)) (now (attrs .entry)) n i)) r (now (room .exit)) ⌝ }
+    ensures { λ r. ⌜
+        Gathers (gatheredInto (now (rows .entry)) 0 (now (room .entry)) (childWalk e (now (s .entry)) (now (rows .entry)) (now (attrs .entry)) n i)) r
+        (now (room .exit))
+        ⌝ }
 {
     let end = sibling_row(s, e, rows, attrs, n, i);
     let from = next_row(rows, n, i);
@@ -102,7 +108,7 @@ fn gather(
 // The same into no room: it counts.
 pub fn count_children(s: &[u8], e: Endian, rows: &[u32], attrs: &[u32], n: usize, i: usize) -> Kids
     requires { ⌜ Asked (now rows) n i ⌝ }
-    ensures { λ r. ⌜ r ≡ filled (now (rows .entry)) 0 [] (childWalk e (now (s .entry)) (now (rows .entry)) (now (attrs .entry)) n i) .answer ⌝ }
+    ensures { λ r. ⌜ r ≡ gatheredInto (now (rows .entry)) 0 [] (childWalk e (now (s .entry)) (now (rows .entry)) (now (attrs .entry)) n i) .answer ⌝ }
 {
     let mut room = [0u32; 0];
     gather(s, e, rows, attrs, n, i, &mut room)
@@ -129,7 +135,10 @@ fn give(
     room: &mut [u32],
 ) -> ChildRows
     requires { ⌜ Asked (now rows) n i ⌝ }
-    ensures { λ r. ⌜ Given (given (now (rows .entry)) key (now (room .entry)) (childWalk e (now (s .entry)) (now (rows .entry)) (now (attrs .entry)) n i)) r (now (room .exit)) ⌝ }
+    ensures { λ r. ⌜
+        Given (given (now (rows .entry)) key (now (room .entry)) (childWalk e (now (s .entry)) (now (rows .entry)) (now (attrs .entry)) n i)) r
+        (now (room .exit))
+        ⌝ }
 {
     match count_children(s, e, rows, attrs, n, i) {
         Kids::Count(k) => {
@@ -155,7 +164,10 @@ fn children_by_key(
     room: &mut [u32],
 ) -> ChildRows
     requires { ⌜ Rows (now rows) n ⌝ }
-    ensures { λ r. ⌜ Given (childrenBy e (now (s .entry)) (now (rows .entry)) (now (attrs .entry)) n key (now (room .entry)) (rowOfKey (now (rows .entry)) n key)) r (now (room .exit)) ⌝ }
+    ensures { λ r. ⌜
+        Given (childrenBy e (now (s .entry)) (now (rows .entry)) (now (attrs .entry)) n key (now (room .entry)) (rowOfKey (now (rows .entry)) n key))
+        r (now (room .exit))
+        ⌝ }
 {
     match find_row(rows, n, key) {
         Found::At(i) => give(s, e, rows, attrs, n, i, key, room),
@@ -175,7 +187,10 @@ pub fn children(
     key: u32,
     room: &mut [u32],
 ) -> ChildRows
-    ensures { λ r. ⌜ Given (childrenOf settings (now (vendors .entry)) (now (sizes .entry)) (now (s .entry)) (now (rows .entry)) (now (attrs .entry)) counts key (now (room .entry))) r (now (room .exit)) ⌝ }
+    ensures { λ r. ⌜
+        Given (childrenOfKey settings (now (vendors .entry)) (now (sizes .entry)) (now (s .entry)) (now (rows .entry)) (now (attrs .entry)) counts key
+        (now (room .entry))) r (now (room .exit))
+        ⌝ }
 {
     match check_table(s, settings, vendors, sizes, rows, attrs, counts) {
         Check::Passed => {

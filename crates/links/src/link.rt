@@ -33,6 +33,7 @@ fn next_from(rows: &[u32], n: usize, i: usize, asking: bool) -> usize
     j
 }
 
+// The row after row i, erased rows passed over unless row i is erased; n where there is none.
 pub fn next_row(rows: &[u32], n: usize, i: usize) -> usize
     requires { ⌜ AtRow (now rows) n i ⌝ }
     ensures { λ r. ⌜ r ≡ nextRow (now (rows .entry)) n i ⌝ }
@@ -52,6 +53,7 @@ fn row_number(rows: &[u32], n: usize, i: usize, key: u32) -> usize
     }
 }
 
+// The row that the first Sibling reference of row i names, n where no row has that key; without a reference the next row.
 pub fn sibling_row(s: &[u8], e: Endian, rows: &[u32], attrs: &[u32], n: usize, i: usize) -> usize
     requires { ⌜ AtRow (now rows) n i ⌝ }
     ensures { λ r. ⌜ r ≡ siblingRow e (now (s .entry)) (now (rows .entry)) (now (attrs .entry)) n i ⌝ }

@@ -15,7 +15,7 @@ ghost use Rattle.tables.specs.Check.{refusedAt};
 ghost use Rattle.tables.specs.Find.{rowOfKey};
 ghost use Rattle.links.specs.Links.{nextRow, siblingRow};
 ghost use Rattle.links.specs.Inside.Links.{Rows};
-ghost use Rattle.links.specs.Neighbour.{answerOf, neighbourBy, nextOf, siblingOf};
+ghost use Rattle.links.specs.Neighbour.{answerOf, neighbourBy, nextTag, nextSibling};
 
 pub enum Neighbour {
     Row(usize),
@@ -54,7 +54,9 @@ fn next_by_key(rows: &[u32], n: usize, key: u32) -> Neighbour
 
 fn sibling_by_key(s: &[u8], e: Endian, rows: &[u32], attrs: &[u32], n: usize, key: u32) -> Neighbour
     requires { ⌜ Rows (now rows) n ⌝ }
-    ensures { λ r. ⌜ r ≡ neighbourBy (λ i. siblingRow e (now (s .entry)) (now (rows .entry)) (now (attrs .entry)) n i) n key (rowOfKey (now (rows .entry)) n key) ⌝ }
+    ensures { λ r. ⌜
+        r ≡ neighbourBy (λ i. siblingRow e (now (s .entry)) (now (rows .entry)) (now (attrs .entry)) n i) n key (rowOfKey (now (rows .entry)) n key)
+        ⌝ }
 {
     match find_row(rows, n, key) {
         Found::At(i) => answer(n, sibling_row(s, e, rows, attrs, n, i)),
@@ -73,7 +75,9 @@ pub fn next_tag(
     counts: Counts,
     key: u32,
 ) -> Neighbour
-    ensures { λ r. ⌜ r ≡ nextOf settings (now (vendors .entry)) (now (sizes .entry)) (now (s .entry)) (now (rows .entry)) (now (attrs .entry)) counts key ⌝ }
+    ensures { λ r. ⌜
+        r ≡ nextTag settings (now (vendors .entry)) (now (sizes .entry)) (now (s .entry)) (now (rows .entry)) (now (attrs .entry)) counts key
+        ⌝ }
 {
     match check_table(s, settings, vendors, sizes, rows, attrs, counts) {
         Check::Passed => next_by_key(rows, counts.rows, key),
@@ -92,7 +96,9 @@ pub fn next_sibling(
     counts: Counts,
     key: u32,
 ) -> Neighbour
-    ensures { λ r. ⌜ r ≡ siblingOf settings (now (vendors .entry)) (now (sizes .entry)) (now (s .entry)) (now (rows .entry)) (now (attrs .entry)) counts key ⌝ }
+    ensures { λ r. ⌜
+        r ≡ nextSibling settings (now (vendors .entry)) (now (sizes .entry)) (now (s .entry)) (now (rows .entry)) (now (attrs .entry)) counts key
+        ⌝ }
 {
     match check_table(s, settings, vendors, sizes, rows, attrs, counts) {
         Check::Passed => {

@@ -25,7 +25,8 @@ use tables::row::Counts;
 use tables::row::attr_at;
 use tables::row::ends_of;
 ghost use mathlib.Core.Path.{_≡_};
-ghost use Rattle.links.specs.Typed.{lookedIn, attributeBy, blockForm, spotAt, spotIn, placeOf, asValue, asWidened, wordAt, valueBy, partAs, partOf, toldWords, Handed};
+ghost use Rattle.links.specs.Typed.{lookedIn, attributeOfKey, blockForm, spotAt, spotIn, placeOfKey, asValue, asWidened, wordAt, valueOfKey};
+ghost use Rattle.links.specs.Typed.{partAs, partOf, toldWords, Handed};
 
 // The attribute that was looked for; or the row has none.
 pub enum Looked {
@@ -73,7 +74,10 @@ fn look(
     key: u32,
     wanted: Wanted,
 ) -> Looked
-    ensures { λ r. ⌜ r ≡ attributeBy settings (now (vendors .entry)) (now (sizes .entry)) (now (s .entry)) (now (rows .entry)) (now (attrs .entry)) counts key wanted ⌝ }
+    ensures { λ r. ⌜
+        r ≡ attributeOfKey settings (now (vendors .entry)) (now (sizes .entry)) (now (s .entry)) (now (rows .entry))
+        (now (attrs .entry)) counts key wanted
+        ⌝ }
 {
     match row_of(s, settings, vendors, sizes, rows, attrs, counts, key) {
         Keyed::Row(i) => look_in(rows, attrs, i, wanted),
@@ -93,7 +97,10 @@ pub fn attribute(
     key: u32,
     number: u16,
 ) -> Looked
-    ensures { λ r. ⌜ r ≡ attributeBy settings (now (vendors .entry)) (now (sizes .entry)) (now (s .entry)) (now (rows .entry)) (now (attrs .entry)) counts key (Wanted.Number number) ⌝ }
+    ensures { λ r. ⌜
+        r ≡ attributeOfKey settings (now (vendors .entry)) (now (sizes .entry)) (now (s .entry)) (now (rows .entry)) (now (attrs .entry)) counts key
+        (Wanted.Number number)
+        ⌝ }
 {
     let wanted = Wanted::Number(number as u32);
     look(
@@ -120,7 +127,10 @@ pub fn type_attribute(
     counts: Counts,
     key: u32,
 ) -> Looked
-    ensures { λ r. ⌜ r ≡ attributeBy settings (now (vendors .entry)) (now (sizes .entry)) (now (s .entry)) (now (rows .entry)) (now (attrs .entry)) counts key Wanted.Type ⌝ }
+    ensures { λ r. ⌜
+        r ≡ attributeOfKey settings (now (vendors .entry)) (now (sizes .entry)) (now (s .entry)) (now (rows .entry))
+        (now (attrs .entry)) counts key Wanted.Type
+        ⌝ }
 {
     look(
         s,
@@ -175,7 +185,10 @@ fn place_of(
     number: u16,
     form: FormKind,
 ) -> Placed
-    ensures { λ r. ⌜ r ≡ placeOf settings (now (vendors .entry)) (now (sizes .entry)) (now (s .entry)) (now (rows .entry)) (now (attrs .entry)) counts key number form ⌝ }
+    ensures { λ r. ⌜
+        r ≡ placeOfKey settings (now (vendors .entry)) (now (sizes .entry)) (now (s .entry)) (now (rows .entry))
+        (now (attrs .entry)) counts key number form
+        ⌝ }
 {
     match row_of(s, settings, vendors, sizes, rows, attrs, counts, key) {
         Keyed::Row(i) => {
@@ -234,7 +247,10 @@ fn value_of(
     number: u16,
     form: FormKind,
 ) -> Value
-    ensures { λ r. ⌜ r ≡ valueBy settings (now (vendors .entry)) (now (sizes .entry)) (now (s .entry)) (now (rows .entry)) (now (attrs .entry)) counts key number form ⌝ }
+    ensures { λ r. ⌜
+        r ≡ valueOfKey settings (now (vendors .entry)) (now (sizes .entry)) (now (s .entry)) (now (rows .entry))
+        (now (attrs .entry)) counts key number form
+        ⌝ }
 {
     match place_of(
         s,
@@ -266,7 +282,10 @@ pub fn address_attribute(
     key: u32,
     number: u16,
 ) -> Value
-    ensures { λ r. ⌜ r ≡ valueBy settings (now (vendors .entry)) (now (sizes .entry)) (now (s .entry)) (now (rows .entry)) (now (attrs .entry)) counts key number FormKind.Addr ⌝ }
+    ensures { λ r. ⌜
+        r ≡ valueOfKey settings (now (vendors .entry)) (now (sizes .entry)) (now (s .entry)) (now (rows .entry))
+        (now (attrs .entry)) counts key number FormKind.Addr
+        ⌝ }
 {
     value_of(
         s,
@@ -294,7 +313,10 @@ pub fn reference_attribute(
     key: u32,
     number: u16,
 ) -> Value
-    ensures { λ r. ⌜ r ≡ valueBy settings (now (vendors .entry)) (now (sizes .entry)) (now (s .entry)) (now (rows .entry)) (now (attrs .entry)) counts key number FormKind.Ref ⌝ }
+    ensures { λ r. ⌜
+        r ≡ valueOfKey settings (now (vendors .entry)) (now (sizes .entry)) (now (s .entry)) (now (rows .entry))
+        (now (attrs .entry)) counts key number FormKind.Ref
+        ⌝ }
 {
     value_of(
         s,
@@ -322,7 +344,10 @@ pub fn data2_attribute(
     key: u32,
     number: u16,
 ) -> Value
-    ensures { λ r. ⌜ r ≡ valueBy settings (now (vendors .entry)) (now (sizes .entry)) (now (s .entry)) (now (rows .entry)) (now (attrs .entry)) counts key number FormKind.Data2 ⌝ }
+    ensures { λ r. ⌜
+        r ≡ valueOfKey settings (now (vendors .entry)) (now (sizes .entry)) (now (s .entry)) (now (rows .entry))
+        (now (attrs .entry)) counts key number FormKind.Data2
+        ⌝ }
 {
     value_of(
         s,
@@ -350,7 +375,10 @@ pub fn data4_attribute(
     key: u32,
     number: u16,
 ) -> Value
-    ensures { λ r. ⌜ r ≡ valueBy settings (now (vendors .entry)) (now (sizes .entry)) (now (s .entry)) (now (rows .entry)) (now (attrs .entry)) counts key number FormKind.Data4 ⌝ }
+    ensures { λ r. ⌜
+        r ≡ valueOfKey settings (now (vendors .entry)) (now (sizes .entry)) (now (s .entry)) (now (rows .entry))
+        (now (attrs .entry)) counts key number FormKind.Data4
+        ⌝ }
 {
     value_of(
         s,
@@ -425,7 +453,10 @@ fn hand<'a>(
     form: FormKind,
     told: &mut [u64; 3],
 ) -> &'a [u8]
-    ensures { λ r. ⌜ Handed form (now (s .entry)) (placeOf settings (now (vendors .entry)) (now (sizes .entry)) (now (s .entry)) (now (rows .entry)) (now (attrs .entry)) counts key number form) (now r) (now (told .exit)) ⌝ }
+    ensures { λ r. ⌜
+        Handed form (now (s .entry)) (placeOfKey settings (now (vendors .entry)) (now (sizes .entry)) (now (s .entry)) (now (rows .entry))
+        (now (attrs .entry)) counts key number form) (now r) (now (told .exit))
+        ⌝ }
 {
     let placed = place_of(
         s,
@@ -456,7 +487,10 @@ pub fn string_attribute<'a>(
     number: u16,
     told: &mut [u64; 3],
 ) -> &'a [u8]
-    ensures { λ r. ⌜ Handed FormKind.String (now (s .entry)) (placeOf settings (now (vendors .entry)) (now (sizes .entry)) (now (s .entry)) (now (rows .entry)) (now (attrs .entry)) counts key number FormKind.String) (now r) (now (told .exit)) ⌝ }
+    ensures { λ r. ⌜
+        Handed FormKind.String (now (s .entry)) (placeOfKey settings (now (vendors .entry)) (now (sizes .entry)) (now (s .entry)) (now (rows .entry))
+        (now (attrs .entry)) counts key number FormKind.String) (now r) (now (told .exit))
+        ⌝ }
 {
     hand(
         s,
@@ -496,7 +530,11 @@ pub fn block_attribute<'a>(
     number: u16,
     told: &mut [u64; 3],
 ) -> &'a [u8]
-    ensures { λ r. ⌜ Handed (blockForm number) (now (s .entry)) (placeOf settings (now (vendors .entry)) (now (sizes .entry)) (now (s .entry)) (now (rows .entry)) (now (attrs .entry)) counts key number (blockForm number)) (now r) (now (told .exit)) ⌝ }
+    ensures { λ r. ⌜
+        Handed (blockForm number) (now (s .entry))
+        (placeOfKey settings (now (vendors .entry)) (now (sizes .entry)) (now (s .entry)) (now (rows .entry)) (now (attrs .entry)) counts key number
+        (blockForm number)) (now r) (now (told .exit))
+        ⌝ }
 {
     let form = block_form(number);
     hand(

@@ -9,11 +9,11 @@ use Rattle.format.specs.Refusal.{numberOf}
 use Rattle.format.specs.declared.refusal.Reason.the-variants as reason
 use Rattle.format.specs.declared.settings.Settings.{Settings}
 use Rattle.format.specs.declared.settings.Producer.the-variants.{Other}
-use Rattle.entries.specs.Section.{readSection}
+use Rattle.entries.specs.Section.{readDebugSection}
 use Rattle.entries.specs.declared.section.Section.{Section}
 use Rattle.entries.specs.declared.section.Section.the-variants.{Read, Refused, Room}
 use Rattle.tables.specs.declared.row.Counts.{Counts}
-use Rattle.tree.specs.Tree.{treeOf}
+use Rattle.tree.specs.Tree.{listTree}
 use Rattle.tree.specs.declared.listing.Listing.{Listing}
 use Rattle.tree.specs.declared.listing.Listing.the-variants as listing
 use Rattle.listing.specs.Text.{refusalText, listingText}
@@ -31,6 +31,7 @@ listingSizes = replicate 28 4
 unfoldable pub rowRoom : List ℕ
 rowRoom = replicate 5120 0
 
+-- and for attributes
 unfoldable pub attrRoom : List ℕ
 attrRoom = replicate 8192 0
 
@@ -40,11 +41,11 @@ placeRoom = replicate 2048 0
 
 -- a section read into lent tables
 abbrev pub listingRead : List ℕ → List ℕ → List ℕ → Outcomes Section ℕ ℕ
-listingRead s rows attrs = readSection listingSettings [] listingSizes s rows attrs
+listingRead s rows attrs = readDebugSection listingSettings [] listingSizes s rows attrs
 
 -- the tree of such tables, into lent room
 abbrev pub listingTree : List ℕ → List ℕ → List ℕ → Counts → List ℕ → Outcome Listing ℕ
-listingTree s rows attrs counts room = treeOf listingSettings [] listingSizes s rows attrs counts room
+listingTree s rows attrs counts room = listTree listingSettings [] listingSizes s rows attrs counts room
 
 -- refusal 8, at 0
 abbrev pub roomText : List ℕ

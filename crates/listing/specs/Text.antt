@@ -10,6 +10,7 @@ use Rattle.tables.specs.Row.{rowAt}
 abbrev pub space : List ℕ
 space = 32 ∷ []
 
+-- the end of a line
 abbrev pub newline : List ℕ
 newline = 10 ∷ []
 
@@ -17,9 +18,11 @@ newline = 10 ∷ []
 abbrev pub rowsWord : List ℕ
 rowsWord = 114 ∷ 111 ∷ 119 ∷ 115 ∷ 32 ∷ []
 
+-- 'refused '
 abbrev pub refusedWord : List ℕ
 refusedWord = 114 ∷ 101 ∷ 102 ∷ 117 ∷ 115 ∷ 101 ∷ 100 ∷ 32 ∷ []
 
+-- ' at '
 abbrev pub atWord : List ℕ
 atWord = 32 ∷ 97 ∷ 116 ∷ 32 ∷ []
 

@@ -11,7 +11,9 @@ ghost use Rattle.listing.specs.Text.{Printed};
 // The lines of the table's n rows into the page from a place on; `room` has a row's depth and its parent. Answers the place after them.
 pub fn write_rows(rows: &[u32], room: &[u32], n: usize, page: &mut [u8], at: usize) -> usize
     requires { ⌜ at + suc n * lineLimit < 2 ^ 64 ⌝ }
-    ensures { λ r. ⌜ Put (rowsText (now (rows .entry)) (now (room .entry)) 0 n) at r (now (page .entry)) (now (page .exit)) × (r ≤ at + n * lineLimit) ⌝ }
+    ensures { λ r. ⌜
+        Put (rowsText (now (rows .entry)) (now (room .entry)) 0 n) at r (now (page .entry)) (now (page .exit)) × (r ≤ at + n * lineLimit)
+        ⌝ }
 {
     let mut next = at;
     let mut i = 0;

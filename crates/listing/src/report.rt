@@ -20,7 +20,8 @@ ghost use Rattle.listing.specs.Text.{refusalText};
 ghost use Rattle.listing.specs.Text.{Printed};
 ghost use Rattle.format.specs.Refusal.{numberOf};
 ghost use Rattle.listing.specs.Inside.Report.{FewRead, FewListed};
-ghost use Rattle.listing.specs.Report.{listingSettings, listingRead, listingTree, roomText, placesText, treeText, answerText, reportText, inputText};
+ghost use Rattle.listing.specs.Report.{listingSettings, listingRead, listingTree, roomText, placesText, treeText, answerText, reportText};
+ghost use Rattle.listing.specs.Report.{inputText};
 
 // Big-endian, erased entries out, no vendor numbers.
 fn listing_settings() -> Settings
@@ -42,7 +43,9 @@ fn listing_settings() -> Settings
 
 // The section into the tables.
 fn read_tables(section: &[u8], rows: &mut [u32], attrs: &mut [u32]) -> Section
-    ensures { λ r. ⌜ BothGiven (listingRead (now (section .entry)) (now (rows .entry)) (now (attrs .entry))) r (now (rows .exit)) (now (attrs .exit)) ⌝ }
+    ensures { λ r. ⌜
+        BothGiven (listingRead (now (section .entry)) (now (rows .entry)) (now (attrs .entry))) r (now (rows .exit)) (now (attrs .exit))
+        ⌝ }
 {
     let vendors = [0u16; 0];
     let sizes = [4u32; 28];
@@ -78,7 +81,9 @@ fn read_places(
     counts: Counts,
     room: &mut [u32],
 ) -> Listing
-    ensures { λ r. ⌜ Given (listingTree (now (section .entry)) (now (rows .entry)) (now (attrs .entry)) counts (now (room .entry))) r (now (room .exit)) ⌝ }
+    ensures { λ r. ⌜
+        Given (listingTree (now (section .entry)) (now (rows .entry)) (now (attrs .entry)) counts (now (room .entry))) r (now (room .exit))
+        ⌝ }
 {
     let vendors = [0u16; 0];
     let sizes = [4u32; 28];
@@ -115,7 +120,9 @@ fn report_tree(
     page: &mut [u8],
 ) -> usize
     requires { ⌜ counts .rows ≤ 1024 ⌝ }
-    ensures { λ r. ⌜ Printed (treeText (now (section .entry)) (now (rows .entry)) (now (attrs .entry)) counts) r (now (page .entry)) (now (page .exit)) ⌝ }
+    ensures { λ r. ⌜
+        Printed (treeText (now (section .entry)) (now (rows .entry)) (now (attrs .entry)) counts) r (now (page .entry)) (now (page .exit))
+        ⌝ }
 {
     let mut room = [0u32; 2048];
     let answer = read_places(section, rows, attrs, counts, &mut room);
@@ -131,7 +138,9 @@ fn report_answer(
     page: &mut [u8],
 ) -> usize
     requires { ⌜ FewRead answer ⌝ }
-    ensures { λ r. ⌜ Printed (answerText (now (section .entry)) (now (rows .entry)) (now (attrs .entry)) answer) r (now (page .entry)) (now (page .exit)) ⌝ }
+    ensures { λ r. ⌜
+        Printed (answerText (now (section .entry)) (now (rows .entry)) (now (attrs .entry)) answer) r (now (page .entry)) (now (page .exit))
+        ⌝ }
 {
     match answer {
         Section::Read(counts) => report_tree(section, rows, attrs, counts, page),

@@ -26,6 +26,7 @@ fn signed_of(n: u32, half: u32) -> i32
     }
 }
 
+// The byte at a place in two's complement.
 pub fn i8_at(s: &[u8], at: usize) -> ReadSigned
     ensures { λ r. ⌜ r ≡ readAt (λ n. ReadSigned.Value (signedOf 1 n)) ReadSigned.Short Endian.Big 1 (now (s .entry)) at ⌝ }
 {
@@ -36,6 +37,7 @@ pub fn i8_at(s: &[u8], at: usize) -> ReadSigned
     }
 }
 
+// The same of 2 bytes.
 pub fn i16_at(s: &[u8], at: usize, e: Endian) -> ReadSigned
     ensures { λ r. ⌜ r ≡ readAt (λ n. ReadSigned.Value (signedOf 2 n)) ReadSigned.Short e 2 (now (s .entry)) at ⌝ }
 {
@@ -46,6 +48,7 @@ pub fn i16_at(s: &[u8], at: usize, e: Endian) -> ReadSigned
     }
 }
 
+// The same of 4 bytes.
 pub fn i32_at(s: &[u8], at: usize, e: Endian) -> ReadSigned
     ensures { λ r. ⌜ r ≡ readAt (λ n. ReadSigned.Value (signedOf 4 n)) ReadSigned.Short e 4 (now (s .entry)) at ⌝ }
 {

@@ -73,6 +73,7 @@ fn whole64(s: &[u8], at: usize, e: Endian) -> u64
     }
 }
 
+// The byte at a place; or it is not there.
 pub fn u8_at(s: &[u8], at: usize) -> Read8
     ensures { λ r. ⌜ r ≡ readAt Read8.Value Read8.Short Endian.Big 1 (now (s .entry)) at ⌝ }
 {
@@ -83,6 +84,7 @@ pub fn u8_at(s: &[u8], at: usize) -> Read8
     }
 }
 
+// The number of 2 bytes at a place, in an endianness; or they are not all there.
 pub fn u16_at(s: &[u8], at: usize, e: Endian) -> Read16
     ensures { λ r. ⌜ r ≡ readAt Read16.Value Read16.Short e 2 (now (s .entry)) at ⌝ }
 {
@@ -93,6 +95,7 @@ pub fn u16_at(s: &[u8], at: usize, e: Endian) -> Read16
     }
 }
 
+// The same of 4 bytes.
 pub fn u32_at(s: &[u8], at: usize, e: Endian) -> Read32
     ensures { λ r. ⌜ r ≡ readAt Read32.Value Read32.Short e 4 (now (s .entry)) at ⌝ }
 {
@@ -103,6 +106,7 @@ pub fn u32_at(s: &[u8], at: usize, e: Endian) -> Read32
     }
 }
 
+// The same of 8 bytes.
 pub fn u64_at(s: &[u8], at: usize, e: Endian) -> Read64
     ensures { λ r. ⌜ r ≡ readAt Read64.Value Read64.Short e 8 (now (s .entry)) at ⌝ }
 {

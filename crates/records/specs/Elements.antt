@@ -1,5 +1,5 @@
--- The element list of an enumeration (document 01, 'Types, records, sizes'): pairs of a value and a zero-ended name. Sizes 1, 2, 4 give signed values; with any
--- other size, or ByteSize not yet seen, only names are read and nothing is listed. Bytes that are missing are 17.
+-- The element list of an enumeration (document 01, 'Types, records, sizes'): pairs of a value and a zero-ended name. Sizes 1, 2, 4 give signed
+-- values; with any other size, or ByteSize not yet seen, only names are read and nothing is listed. Bytes that are missing are 17.
 use Prim.Native.Nat.{ℕ, zero, suc, _+_, _-_}
 use mathlib.Core.Bool.{true, false, cond}
 use mathlib.Core.List.{List, [], _∷_}
@@ -62,13 +62,14 @@ pub data Elements : Type 0 where
   missing : Elements
 
 -- one element more, before the others
-unfoldable pub andThen : Listed → Elements → Elements
-andThen x (are xs) = are (x ∷ xs)
-andThen x missing = missing
+unfoldable pub elementsThen : Listed → Elements → Elements
+elementsThen x (are xs) = are (x ∷ xs)
+elementsThen x missing = missing
 
 -- an element, `next` reading on from a place; the block stands at `base` of the section
 unfoldable pub elementThen : ℕ → (ℕ → Elements) → Element → Elements
-elementThen base next (element.Is value place length next′) = andThen (record { value = value; place = base + place; length = length }) (next next′)
+elementThen base next (element.Is value place length next′) =
+    elementsThen (record { value = value; place = base + place; length = length }) (next next′)
 elementThen base next (element.Name next′) = next next′
 elementThen base next element.Missing = missing
 

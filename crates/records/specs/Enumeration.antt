@@ -1,5 +1,5 @@
--- Enumerations (document 01, 'Types, records, sizes'; the Rust's `process_enumeration_tag`): attributes in their order, each list going by the ByteSize last seen
--- before it; then no children; then a ByteSize is needed. GCC reverses the list.
+-- Enumerations (document 01, 'Types, records, sizes'; the Rust's `process_enumeration_tag`): attributes in their order, each list going by the
+-- ByteSize last seen before it; then no children; then a ByteSize is needed. GCC reverses the list.
 use Prim.Native.Nat.{ℕ, zero, suc, _+_, _/_, _-_}
 use mathlib.Core.Bool.{Bool, true, false, cond, _&&_}
 use mathlib.Core.List.{List, [], _∷_, _++_}
@@ -18,7 +18,7 @@ use Rattle.attributes.specs.Parts.{blockAt}
 use Rattle.tables.specs.Check.{refusedAt}
 use Rattle.tables.specs.declared.row.Counts.{Counts}
 use Rattle.links.specs.Links.{childWalk}
-use Rattle.tables.specs.Keyed.{inRow}
+use Rattle.tables.specs.Keyed.{inRowOfKey}
 use Rattle.records.specs.Taken.{special}
 use Rattle.records.specs.Scan.{runOf, attributeAt, numberAt, faultAt}
 use Rattle.records.specs.Fields.{lastFrom, wordBy, byteSized}
@@ -37,13 +37,13 @@ use Rattle.records.specs.declared.enumeration.EnumerationRead.the-varian
 -- what the attributes list, or a refusal
 pub data Lists : Type 0 where
   listed : List Listed → Lists
-  refused : Refusal → Lists
+  listsRefused : Refusal → Lists
 
 -- those of one list, and `rest`
 unfoldable pub joined : ℕ → Elements → Lists → Lists
 joined key (are xs) (listed ys) = listed (xs ++ ys)
-joined key (are xs) (refused why) = refused why
-joined key missing rest = refused (refusedAt key reason.Block)
+joined key (are xs) (listsRefused why) = listsRefused why
+joined key missing rest = listsRefused (refusedAt key reason.Block)
 
 module _ (s attrs : List ℕ) (run : Run) where
   -- the ByteSize last seen before attribute j
@@ -61,7 +61,7 @@ module _ (settings : Settings) (s attrs : List ℕ) (run : Run) where
   unfoldable pub listsFrom : ℕ → ℕ → Lists
   listsFrom j zero = listed []
   listsFrom j (suc m) =
-      unless (faultAt (settings .roles) record′.Enumeration run s attrs j) refused
+      unless (faultAt (settings .roles) record′.Enumeration run s attrs j) listsRefused
       (elim (special record′.Enumeration (numberAt (settings .roles) record′.Enumeration run s attrs j)) [
         | true ↦ joined (run .key) (listAt s attrs run j) (listsFrom (suc j) m)
         | false ↦ listsFrom (suc j) m
@@ -89,8 +89,8 @@ abbrev pub enumerationIs : ℕ → Name → ℕ → EnumerationWhole
 enumerationIs members name size = whole.Is (record { name = name; «byte_size» = size; members = members })
 
 -- a ByteSize is needed
-unfoldable pub sizedBy : List ℕ → List ℕ → Run → ℕ → EnumerationWhole
-sizedBy s attrs run members = byteSized whole.Refused (enumerationIs members) s attrs run
+unfoldable pub enumerationSized : List ℕ → List ℕ → Run → ℕ → EnumerationWhole
+enumerationSized s attrs run members = byteSized whole.Refused (enumerationIs members) s attrs run
 
 module _ (settings : Settings) (s rows attrs : List ℕ) (n i : ℕ) where
   -- the row's attributes
@@ -105,12 +105,12 @@ module _ (settings : Settings) (s rows attrs : List ℕ) (n i : ℕ) where
   unfoldable pub enumerationEnd : ℕ → EnumerationWhole
   enumerationEnd members =
       unless (childlessFault rows i (childWalk (settings .endian) s rows attrs n i)) whole.Refused
-      (sizedBy s attrs theRun members)
+      (enumerationSized s attrs theRun members)
 
   -- the enumeration with what was listed
   unfoldable pub listedBy : Lists → EnumerationWhole
   listedBy (listed xs) = enumerationEnd (length xs)
-  listedBy (refused why) = whole.Refused why
+  listedBy (listsRefused why) = whole.Refused why
 
   -- name, size and how many members
   unfoldable pub enumerationAt : EnumerationWhole
@@ -122,16 +122,19 @@ module _ (settings : Settings) (s rows attrs : List ℕ) (n i : ℕ) where
 unfoldable pub listInto : Producer → List ℤ → List ℕ → Lists → EnumerationRead → Outcomes EnumerationRead ℤ ℕ
 listInto producer values names (listed xs) answer =
     outcomes answer (sets values 0 (valuesOf (inOrder producer xs))) (sets names 0 (namesOf (inOrder producer xs)))
-listInto producer values names (refused why) answer = outcomes answer values names
+listInto producer values names (listsRefused why) answer = outcomes answer values names
 
 -- a member is one value, and two words of names
-unfoldable pub intoRooms : Producer → List ℤ → List ℕ → Lists → EnumerationWhole → Outcomes EnumerationRead ℤ ℕ
-intoRooms producer values names lists (whole.Is e) =
-    cond (leb (e .members) (length values) && leb (e .members) (length names / 2)) (listInto producer values names lists (Is e)) (outcomes (Room (e .members)) values names)
-intoRooms producer values names lists (whole.Refused why) = outcomes (Refused why) values names
+unfoldable pub enumerationInto : Producer → List ℤ → List ℕ → Lists → EnumerationWhole → Outcomes EnumerationRead ℤ ℕ
+enumerationInto producer values names lists (whole.Is e) =
+    cond (leb (e .members) (length values) && leb (e .members) (length names / 2)) (listInto producer values names lists (Is e))
+    (outcomes (Room (e .members)) values names)
+enumerationInto producer values names lists (whole.Refused why) = outcomes (Refused why) values names
 
 -- the enumeration of a key
-unfoldable pub enumerationBy : Settings → List ℕ → List ℕ → List ℕ → List ℕ → List ℕ → Counts → ℕ → List ℤ → List ℕ → Outcomes EnumerationRead ℤ ℕ
-enumerationBy settings vendors sizes s rows attrs counts key values names =
-    inRow settings vendors sizes s rows attrs counts key (λ why. outcomes (Refused why) values names)
-    (λ i. intoRooms (settings .producer) values names (rowLists settings s rows attrs (counts .rows) i) (enumerationAt settings s rows attrs (counts .rows) i))
+unfoldable pub processEnumerationTag : Settings → List ℕ → List ℕ → List ℕ → List ℕ → List ℕ → Counts → ℕ → List ℤ → List ℕ
+    → Outcomes EnumerationRead ℤ ℕ
+processEnumerationTag settings vendors sizes s rows attrs counts key values names =
+    inRowOfKey settings vendors sizes s rows attrs counts key (λ why. outcomes (Refused why) values names)
+    (λ i. enumerationInto (settings .producer) values names (rowLists settings s rows attrs (counts .rows) i)
+    (enumerationAt settings s rows attrs (counts .rows) i))

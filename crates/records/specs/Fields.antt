@@ -9,8 +9,8 @@ use Rattle.format.specs.declared.refusal.Refusal.{Refusal}
 use Rattle.format.specs.declared.refusal.Reason.the-variants as reason
 use Rattle.attributes.specs.Text.{zeroFrom}
 use Rattle.attributes.specs.Parts.{blockAt}
-use Rattle.blocks.specs.Location.{offsetOf, addressOf}
-use Rattle.blocks.specs.Types.{typeAt}
+use Rattle.blocks.specs.Location.{processOffset, processAddress}
+use Rattle.blocks.specs.Types.{processType}
 use Rattle.blocks.specs.declared.location.Located.{Located}
 use Rattle.blocks.specs.declared.location.Located.the-variants as located
 use Rattle.blocks.specs.declared.types.Typed.{Typed}
@@ -76,7 +76,7 @@ replaced key (typed.Refused why) = typed.Refused (refusedAt key (why .reason))
 -- a record needs its type: 15 without
 unfoldable pub typeBy : List ℕ → List ℕ → Run → Found → Typed
 typeBy s attrs run (found.At k) =
-    replaced (run .key) (typeAt (run .ends) s (attributeAt attrs k .number) (attributeAt attrs k .value))
+    replaced (run .key) (processType (run .ends) s (attributeAt attrs k .number) (attributeAt attrs k .value))
 typeBy s attrs run found.Nothing = typed.Refused (refusedAt (run .key) reason.Missing)
 
 -- the type that the last type attribute says
@@ -92,7 +92,7 @@ asOffset key (located.Refused why) = need.Refused (refusedAt key (why .reason))
 
 -- the offset that a location says
 unfoldable pub offsetIn : Run → List ℕ → Needed
-offsetIn run block = asOffset (run .key) (offsetOf (run .ends .section) block)
+offsetIn run block = asOffset (run .key) (processOffset (run .ends .section) block)
 
 -- a member needs its offset: 15 without
 unfoldable pub offsetBy : List ℕ → List ℕ → Run → Found → Needed
@@ -110,7 +110,7 @@ asAddress (located.Refused why) = word.Nothing
 
 -- the address that a location says
 unfoldable pub addressIn : Run → List ℕ → Word
-addressIn run block = asAddress (addressOf (run .ends .section) block)
+addressIn run block = asAddress (processAddress (run .ends .section) block)
 
 -- the address of an attribute of the table
 unfoldable pub addressBy : List ℕ → List ℕ → Run → Found → Word
@@ -146,6 +146,7 @@ wordOf s attrs run number = wordBy s attrs run (lastOf (sought.Number number) at
 unfoldable pub roleName : List ℕ → List ℕ → Run → ℕ → Name
 roleName s attrs run role = cond (eqb role 0) name.Nothing (nameOf s attrs run role)
 
+-- the same of a number
 unfoldable pub roleWord : List ℕ → List ℕ → Run → ℕ → Word
 roleWord s attrs run role = cond (eqb role 0) word.Nothing (wordOf s attrs run role)
 
@@ -158,7 +159,8 @@ needed key word.Nothing = need.Refused (refusedAt key reason.Missing)
 
 -- what one of the three attributes says; nothing but their numbers is looked at
 unfoldable pub visibilityBy : ℕ → Visibility
-visibilityBy number = cond (eqb number attribute.Private) visibility.Private (cond (eqb number attribute.Protected) visibility.Protected visibility.Public)
+visibilityBy number =
+    cond (eqb number attribute.Private) visibility.Private (cond (eqb number attribute.Protected) visibility.Protected visibility.Public)
 
 -- public where nothing is said
 unfoldable pub visibilityIn : List ℕ → Found → Visibility

@@ -1,5 +1,5 @@
--- What stands before the fields of a record, in this order (document 01's refusal numbers): 12 a kind of row that the record does not take; its attributes;
--- 9 and 16 its children. A fault's place is the row's key.
+-- What stands before the fields of a record, in this order (document 01's refusal numbers): 12 a kind of row that the record does not take; its
+-- attributes; 9 and 16 its children. A fault's place is the row's key.
 use Prim.Native.Nat.{ℕ}
 use mathlib.Core.Bool.{Bool, true, false, cond, _&&_, _||_}
 use mathlib.Core.List.{List}

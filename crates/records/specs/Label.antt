@@ -6,7 +6,7 @@ use Rattle.format.specs.declared.settings.Settings.{Settings}
 use Rattle.format.specs.declared.refusal.Reason.the-variants as reason
 use Rattle.tables.specs.Check.{refusedAt}
 use Rattle.tables.specs.declared.row.Counts.{Counts}
-use Rattle.tables.specs.Keyed.{inRow}
+use Rattle.tables.specs.Keyed.{inRowOfKey}
 use Rattle.records.specs.Scan.{runOf}
 use Rattle.records.specs.Fields.{nameOf, wordOf, needed}
 use Rattle.records.specs.Front.{frontOf, unless}
@@ -26,9 +26,11 @@ module _ (s attrs : List ℕ) (run : Run) where
   labelPlaced text (need.Is address) = Is (record { name = text; address = address })
   labelPlaced text (need.Refused why) = Refused why
 
+  -- with its name, the address is looked up
   unfoldable pub labelNamed : Text → LabelRead
   labelNamed text = labelPlaced text (needed (run .key) (wordOf s attrs run attribute.LowPc))
 
+  -- 15 without a name
   unfoldable pub nameTaken : Name → LabelRead
   nameTaken (name.Is text) = labelNamed text
   nameTaken name.Nothing = Refused (refusedAt (run .key) reason.Missing)
@@ -43,6 +45,6 @@ labelAt settings s rows attrs n i =
     unless (frontOf settings s rows attrs n record′.Label i) Refused (labelFields s attrs (runOf (settings .endian) rows i))
 
 -- the label of a key
-unfoldable pub labelBy : Settings → List ℕ → List ℕ → List ℕ → List ℕ → List ℕ → Counts → ℕ → LabelRead
-labelBy settings vendors sizes s rows attrs counts key =
-    inRow settings vendors sizes s rows attrs counts key Refused (labelAt settings s rows attrs (counts .rows))
+unfoldable pub processSubroutineLabelTag : Settings → List ℕ → List ℕ → List ℕ → List ℕ → List ℕ → Counts → ℕ → LabelRead
+processSubroutineLabelTag settings vendors sizes s rows attrs counts key =
+    inRowOfKey settings vendors sizes s rows attrs counts key Refused (labelAt settings s rows attrs (counts .rows))

@@ -9,7 +9,7 @@ use Rattle.blocks.specs.declared.types.Typed.{Typed}
 use Rattle.blocks.specs.declared.types.Typed.the-variants as typed
 use Rattle.tables.specs.Check.{refusedAt}
 use Rattle.tables.specs.declared.row.Counts.{Counts}
-use Rattle.tables.specs.Keyed.{inRow}
+use Rattle.tables.specs.Keyed.{inRowOfKey}
 use Rattle.records.specs.Scan.{runOf}
 use Rattle.records.specs.Fields.{nameOf, typeOf, offsetField, wordOf, visibilityOf}
 use Rattle.records.specs.Front.{frontOf, unless}
@@ -46,16 +46,20 @@ module _ (s attrs : List ℕ) (run : Run) where
       })
   withBits of offset (read.Refused why) = Refused why
 
+  -- with type and offset, the bits are looked up
   unfoldable pub memberWith : «Type» → ℕ → MemberRead
   memberWith of offset = withBits of offset (bitsBy (run .key) (wordOf s attrs run attribute.BitSize) (wordOf s attrs run attribute.BitOffset))
 
+  -- an offset that is refused refuses the member
   unfoldable pub placedBy : «Type» → Needed → MemberRead
   placedBy of (need.Is offset) = memberWith of offset
   placedBy of (need.Refused why) = Refused why
 
+  -- with its type, the offset is looked up
   unfoldable pub memberPlaced : «Type» → MemberRead
   memberPlaced of = placedBy of (offsetField s attrs run)
 
+  -- a type that is refused refuses the member
   unfoldable pub typedBy : Typed → MemberRead
   typedBy (typed.Is of) = memberPlaced of
   typedBy (typed.Refused why) = Refused why
@@ -70,6 +74,6 @@ memberAt settings s rows attrs n i =
     unless (frontOf settings s rows attrs n record′.Member i) Refused (memberFields s attrs (runOf (settings .endian) rows i))
 
 -- the member of a key
-unfoldable pub memberBy : Settings → List ℕ → List ℕ → List ℕ → List ℕ → List ℕ → Counts → ℕ → MemberRead
-memberBy settings vendors sizes s rows attrs counts key =
-    inRow settings vendors sizes s rows attrs counts key Refused (memberAt settings s rows attrs (counts .rows))
+unfoldable pub processStructureMemberTag : Settings → List ℕ → List ℕ → List ℕ → List ℕ → List ℕ → Counts → ℕ → MemberRead
+processStructureMemberTag settings vendors sizes s rows attrs counts key =
+    inRowOfKey settings vendors sizes s rows attrs counts key Refused (memberAt settings s rows attrs (counts .rows))

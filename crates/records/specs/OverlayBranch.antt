@@ -1,4 +1,5 @@
--- Overlay branches (the Rust's `process_overlay_branch`): a name and a number by their roles, a first and a last address are needed. There is no child test.
+-- Overlay branches (the Rust's `process_overlay_branch`): a name and a number by their roles, a first and a last address are needed. There is no
+-- child test.
 use Prim.Native.Nat.{ℕ}
 use mathlib.Core.List.{List}
 use Rattle.format.specs.AttributeKind as attribute
@@ -7,7 +8,7 @@ use Rattle.format.specs.declared.settings.Settings.{Settings}
 use Rattle.format.specs.declared.refusal.Reason.the-variants as reason
 use Rattle.tables.specs.Check.{refusedAt}
 use Rattle.tables.specs.declared.row.Counts.{Counts}
-use Rattle.tables.specs.Keyed.{inRow}
+use Rattle.tables.specs.Keyed.{inRowOfKey}
 use Rattle.records.specs.Scan.{runOf}
 use Rattle.records.specs.Fields.{roleName, roleWord, wordOf, needed}
 use Rattle.records.specs.Front.{headOf, unless}
@@ -34,23 +35,29 @@ module _ (s attrs : List ℕ) (run : Run) where
       })
   endTaken text id start (need.Refused why) = Refused why
 
+  -- the last address is looked up
   unfoldable pub overlayEnded : Text → ℕ → ℕ → OverlayBranchRead
   overlayEnded text id start = endTaken text id start (needed (run .key) (wordOf s attrs run attribute.HighPc))
 
+  -- a first address that is missing refuses
   unfoldable pub startTaken : Text → ℕ → Needed → OverlayBranchRead
   startTaken text id (need.Is start) = overlayEnded text id start
   startTaken text id (need.Refused why) = Refused why
 
+  -- the first address is looked up
   unfoldable pub overlayBegun : Text → ℕ → OverlayBranchRead
   overlayBegun text id = startTaken text id (needed (run .key) (wordOf s attrs run attribute.LowPc))
 
+  -- a number that is missing refuses
   unfoldable pub idTaken : Text → Needed → OverlayBranchRead
   idTaken text (need.Is id) = overlayBegun text id
   idTaken text (need.Refused why) = Refused why
 
+  -- the number is looked up, by its role
   unfoldable pub overlayNumbered : ℕ → Text → OverlayBranchRead
   overlayNumbered role text = idTaken text (needed (run .key) (roleWord s attrs run role))
 
+  -- a name that is missing refuses
   unfoldable pub overlayNamed : ℕ → Name → OverlayBranchRead
   overlayNamed role (name.Is text) = overlayNumbered role text
   overlayNamed role name.Nothing = Refused (refusedAt (run .key) reason.Missing)
@@ -65,6 +72,6 @@ overlayAt settings s rows attrs i =
     unless (headOf settings s rows attrs record′.OverlayBranch i) Refused (overlayFields s attrs (runOf (settings .endian) rows i) (settings .roles))
 
 -- the overlay branch of a key
-unfoldable pub overlayBy : Settings → List ℕ → List ℕ → List ℕ → List ℕ → List ℕ → Counts → ℕ → OverlayBranchRead
-overlayBy settings vendors sizes s rows attrs counts key =
-    inRow settings vendors sizes s rows attrs counts key Refused (overlayAt settings s rows attrs)
+unfoldable pub processOverlayBranch : Settings → List ℕ → List ℕ → List ℕ → List ℕ → List ℕ → Counts → ℕ → OverlayBranchRead
+processOverlayBranch settings vendors sizes s rows attrs counts key =
+    inRowOfKey settings vendors sizes s rows attrs counts key Refused (overlayAt settings s rows attrs)

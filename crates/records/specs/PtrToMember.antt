@@ -7,7 +7,7 @@ use Rattle.blocks.specs.declared.types.Type.{«Type»}
 use Rattle.blocks.specs.declared.types.Typed.{Typed}
 use Rattle.blocks.specs.declared.types.Typed.the-variants as typed
 use Rattle.tables.specs.declared.row.Counts.{Counts}
-use Rattle.tables.specs.Keyed.{inRow}
+use Rattle.tables.specs.Keyed.{inRowOfKey}
 use Rattle.records.specs.Scan.{runOf}
 use Rattle.records.specs.Fields.{typeOf, wordOf, needed}
 use Rattle.records.specs.Front.{frontOf, unless}
@@ -24,9 +24,11 @@ module _ (s attrs : List ℕ) (run : Run) where
   ptrContained of (need.Is key) = Is (record { of = of; containing = key })
   ptrContained of (need.Refused why) = Refused why
 
+  -- with its type, the containing type is looked up
   unfoldable pub ptrTyped : «Type» → PtrToMemberRead
   ptrTyped of = ptrContained of (needed (run .key) (wordOf s attrs run attribute.ContainingType))
 
+  -- a type that is refused refuses the record
   unfoldable pub typeTaken : Typed → PtrToMemberRead
   typeTaken (typed.Is of) = ptrTyped of
   typeTaken (typed.Refused why) = Refused why
@@ -41,6 +43,6 @@ ptrAt settings s rows attrs n i =
     unless (frontOf settings s rows attrs n record′.PtrToMember i) Refused (ptrFields s attrs (runOf (settings .endian) rows i))
 
 -- the pointer to member of a key
-unfoldable pub ptrBy : Settings → List ℕ → List ℕ → List ℕ → List ℕ → List ℕ → Counts → ℕ → PtrToMemberRead
-ptrBy settings vendors sizes s rows attrs counts key =
-    inRow settings vendors sizes s rows attrs counts key Refused (ptrAt settings s rows attrs (counts .rows))
+unfoldable pub processPtrToMemberTag : Settings → List ℕ → List ℕ → List ℕ → List ℕ → List ℕ → Counts → ℕ → PtrToMemberRead
+processPtrToMemberTag settings vendors sizes s rows attrs counts key =
+    inRowOfKey settings vendors sizes s rows attrs counts key Refused (ptrAt settings s rows attrs (counts .rows))

@@ -1,6 +1,6 @@
--- The scan over a row's attributes, one for all records (document 01, 'Types, records, sizes' and its refusal numbers): attributes in their order, each of which
--- the record must take (13), in the form that is expected (14), and whose type or location must be one (17, 18). The first fault met counts; its place is the
--- row's key.
+-- The scan over a row's attributes, one for all records (document 01, 'Types, records, sizes' and its refusal numbers): attributes in their order,
+-- each of which the record must take (13), in the form that is expected (14), and whose type or location must be one (17, 18). The first fault met
+-- counts; its place is the row's key.
 use Prim.Native.Nat.{ℕ, zero, suc, _+_, _%_}
 use mathlib.Core.Bool.{Bool, cond, _||_}
 use mathlib.Core.List.{List, [], _∷_}
@@ -8,14 +8,15 @@ use lib.Dec.{eqb}
 use Rattle.numbers.specs.declared.Endian.{Endian}
 use Rattle.format.specs.Lookup.{Line, _means_, lookup}
 use Rattle.format.specs.FormKind.{formOf, isForm}
-use Rattle.format.specs.AttributeKind.{Location, Name, FundType, ModFundType, UserDefType, ModUDType, ByteSize, BitOffset, BitSize, ElementList, LowPc, HighPc, Member, ContainingType, Specification}
+use Rattle.format.specs.AttributeKind.{Location, Name, FundType, ModFundType, UserDefType, ModUDType, ByteSize, BitOffset, BitSize, ElementList}
+use Rattle.format.specs.AttributeKind.{LowPc, HighPc, Member, ContainingType, Specification}
 use Rattle.format.specs.declared.form_kind.FormKind.{FormKind}
 use Rattle.format.specs.declared.form_kind.FormKind.the-variants.{Addr, Ref, Block2, Block4, Data2, Data4, String}
 use Rattle.format.specs.declared.settings.Roles.{Roles}
 use Rattle.format.specs.declared.refusal.Reason.the-variants as reason
 use Rattle.attributes.specs.Parts.{blockAt}
-use Rattle.blocks.specs.Location.{offsetOf, addressOf}
-use Rattle.blocks.specs.Types.{typeAt}
+use Rattle.blocks.specs.Location.{processOffset, processAddress}
+use Rattle.blocks.specs.Types.{processType}
 use Rattle.blocks.specs.declared.location.Located.{Located}
 use Rattle.blocks.specs.declared.location.Located.the-variants as located
 use Rattle.blocks.specs.declared.types.Typed.{Typed}
@@ -79,25 +80,26 @@ unfoldable pub typedFault : ℕ → Typed → Fault
 typedFault key (typed.Is t) = Clear
 typedFault key (typed.Refused why) = Refused (refusedAt key (why .reason))
 
+-- a location that is refused, placed at the row
 unfoldable pub locatedFault : ℕ → Located → Fault
 locatedFault key (located.Is x) = Clear
 locatedFault key (located.Refused why) = Refused (refusedAt key (why .reason))
 
 -- a location is an address for a variable, an offset for all others
 unfoldable pub locationFault : Record → ℕ → Endian → List ℕ → Fault
-locationFault record′.Member key e block = locatedFault key (offsetOf e block)
-locationFault record′.Union key e block = locatedFault key (offsetOf e block)
-locationFault record′.Enumeration key e block = locatedFault key (offsetOf e block)
-locationFault record′.Typedef key e block = locatedFault key (offsetOf e block)
-locationFault record′.Variable key e block = locatedFault key (addressOf e block)
-locationFault record′.Label key e block = locatedFault key (offsetOf e block)
-locationFault record′.PtrToMember key e block = locatedFault key (offsetOf e block)
-locationFault record′.OverlayBranch key e block = locatedFault key (offsetOf e block)
+locationFault record′.Member key e block = locatedFault key (processOffset e block)
+locationFault record′.Union key e block = locatedFault key (processOffset e block)
+locationFault record′.Enumeration key e block = locatedFault key (processOffset e block)
+locationFault record′.Typedef key e block = locatedFault key (processOffset e block)
+locationFault record′.Variable key e block = locatedFault key (processAddress e block)
+locationFault record′.Label key e block = locatedFault key (processOffset e block)
+locationFault record′.PtrToMember key e block = locatedFault key (processOffset e block)
+locationFault record′.OverlayBranch key e block = locatedFault key (processOffset e block)
 
 -- what is wrong with the value of a type attribute or of a location; other values are not looked at here
 unfoldable pub contentFault : Record → Run → List ℕ → Attribute → Fault
 contentFault r run s a =
-    cond (isType (a .number)) (typedFault (run .key) (typeAt (run .ends) s (a .number) (a .value)))
+    cond (isType (a .number)) (typedFault (run .key) (processType (run .ends) s (a .number) (a .value)))
     (cond (eqb (a .number) Location) (locationFault r (run .key) (run .ends .section) (blockAt (run .ends .«data») 2 s (a .value))) Clear)
 
 -- ---- an attribute, and all of them

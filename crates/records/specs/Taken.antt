@@ -4,8 +4,9 @@ use mathlib.Core.Bool.{Bool, false, _||_}
 use mathlib.Core.List.{List, [], _∷_}
 use lib.Dec.{eqb}
 use Rattle.format.specs.Settings.{plays}
-use Rattle.format.specs.Lookup.{member}
-use Rattle.format.specs.AttributeKind.{Sibling, Name, FundType, ModFundType, UserDefType, ModUDType, Location, ByteSize, BitSize, BitOffset, ElementList, LowPc, HighPc, ContainingType, Private, Protected, Public, Specification}
+use Rattle.format.specs.Lookup.{isOn}
+use Rattle.format.specs.AttributeKind.{Sibling, Name, FundType, ModFundType, UserDefType, ModUDType, Location, ByteSize, BitSize, BitOffset}
+use Rattle.format.specs.AttributeKind.{ElementList, LowPc, HighPc, ContainingType, Private, Protected, Public, Specification}
 use Rattle.format.specs.AttributeKind as attribute
 use Rattle.format.specs.declared.settings.Roles.{Roles}
 use Rattle.records.specs.declared.taken.Record.{Record}
@@ -47,7 +48,7 @@ roleTaken roles OverlayBranch number = plays (roles .«overlay_name») number ||
 
 -- the record takes an attribute of this number
 unfoldable pub takes : Roles → Record → ℕ → Bool
-takes roles r number = member number (takenBy r) || roleTaken roles r number
+takes roles r number = isOn number (takenBy r) || roleTaken roles r number
 
 -- an attribute that the record reads itself: an enumeration's list, a typedef's specification
 unfoldable pub special : Record → ℕ → Bool

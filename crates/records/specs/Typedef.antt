@@ -1,6 +1,6 @@
--- Typedefs (document 01, 'Types, records, sizes'; the Rust's `process_typedef_tag`): attributes in their order; a specification fills what is missing at that
--- point, later attributes overwrite. So the last name of the row itself counts, without one that of the first specification; a type likewise. Each specification
--- is read whole. So many may be followed one after the other: 10 at the row past the limit, cycles too.
+-- Typedefs (document 01, 'Types, records, sizes'; the Rust's `process_typedef_tag`): attributes in their order; a specification fills what is
+-- missing at that point, later attributes overwrite. So the last name of the row itself counts, without one that of the first specification; a type
+-- likewise. Each specification is read whole. So many may be followed one after the other: 10 at the row past the limit, cycles too.
 use Prim.Native.Nat.{ℕ, zero, suc, _+_, _-_}
 use mathlib.Core.Bool.{true, false, cond}
 use mathlib.Core.List.{List}
@@ -19,7 +19,7 @@ use Rattle.tables.specs.declared.row.Counts.{Counts}
 use Rattle.tables.specs.declared.find.Found.{Found}
 use Rattle.tables.specs.declared.find.Found.the-variants as found
 use Rattle.links.specs.Links.{childWalk}
-use Rattle.tables.specs.Keyed.{inRow}
+use Rattle.tables.specs.Keyed.{inRowOfKey}
 use Rattle.records.specs.Taken.{special}
 use Rattle.records.specs.Scan.{runOf, attributeAt, numberAt, faultAt}
 use Rattle.records.specs.Fields.{lastOf, nameOf, typeBy}
@@ -63,9 +63,11 @@ module _ (s attrs : List ℕ) (run : Run) where
   withType text (typed.Is of) = Is (record { name = text; of = of })
   withType text (typed.Refused why) = Refused why
 
+  -- with its name, the type is looked up
   unfoldable pub typedefWith : Filling → Text → TypedefRead
   typedefWith f text = withType text (typedefType (lastOf sought.Type attrs run) f)
 
+  -- 15 without a name
   unfoldable pub withName : Filling → Name → TypedefRead
   withName f (name.Is text) = typedefWith f text
   withName f name.Nothing = Refused (refusedAt (run .key) reason.Missing)
@@ -78,7 +80,8 @@ module _ (settings : Settings) (s rows attrs : List ℕ) (n : ℕ) where
   -- after the attributes: no children, then name and type
   unfoldable pub typedefEnd : ℕ → Filling → TypedefRead
   typedefEnd i f =
-      unless (childlessFault rows i (childWalk (settings .endian) s rows attrs n i)) Refused (typedefFields s attrs (runOf (settings .endian) rows i) f)
+      unless (childlessFault rows i (childWalk (settings .endian) s rows attrs n i)) Refused
+      (typedefFields s attrs (runOf (settings .endian) rows i) f)
 
 -- ---- specifications
 
@@ -120,14 +123,16 @@ module _ (settings : Settings) (s rows attrs : List ℕ) (n : ℕ) where
   attributesFrom below levels i run j zero f = typedefEnd settings s rows attrs n i f
   attributesFrom below levels i run j (suc m) f =
       elim (special record′.Typedef (numberAt (settings .roles) record′.Typedef run s attrs j)) [
-        | true ↦ filledBy (λ g. attributesFrom below levels i run (suc j) m g) f (readSpecified below (specified settings s rows attrs n run levels j))
+        | true ↦ filledBy (λ g. attributesFrom below levels i run (suc j) m g) f
+            (readSpecified below (specified settings s rows attrs n run levels j))
         | false ↦ unless (faultAt (settings .roles) record′.Typedef run s attrs j) Refused (attributesFrom below levels i run (suc j) m f)
       ]
 
   -- the typedef at row i, a typedef's row, where so many specifications may still be followed
   unfoldable pub typedefRun : ℕ → ℕ → TypedefRead
   typedefRun zero i =
-      attributesFrom (λ r. Refused (refusedAt (rowAt rows r .key) reason.Depth)) zero i (runOf (settings .endian) rows i) 0 (runOf (settings .endian) rows i .count)
+      attributesFrom (λ r. Refused (refusedAt (rowAt rows r .key) reason.Depth)) zero i (runOf (settings .endian) rows i) 0
+      (runOf (settings .endian) rows i .count)
       filling.Nothing
   typedefRun (suc levels) i =
       attributesFrom (typedefRun levels) (suc levels) i (runOf (settings .endian) rows i) 0 (runOf (settings .endian) rows i .count) filling.Nothing
@@ -137,6 +142,6 @@ module _ (settings : Settings) (s rows attrs : List ℕ) (n : ℕ) where
   typedefAt i = unless (kindFault settings rows record′.Typedef i) Refused (typedefRun specificationLimit i)
 
 -- the typedef of a key
-unfoldable pub typedefOf : Settings → List ℕ → List ℕ → List ℕ → List ℕ → List ℕ → Counts → ℕ → TypedefRead
-typedefOf settings vendors sizes s rows attrs counts key =
-    inRow settings vendors sizes s rows attrs counts key Refused (typedefAt settings s rows attrs (counts .rows))
+unfoldable pub processTypedefTag : Settings → List ℕ → List ℕ → List ℕ → List ℕ → List ℕ → Counts → ℕ → TypedefRead
+processTypedefTag settings vendors sizes s rows attrs counts key =
+    inRowOfKey settings vendors sizes s rows attrs counts key Refused (typedefAt settings s rows attrs (counts .rows))

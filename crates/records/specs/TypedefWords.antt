@@ -6,7 +6,7 @@ use lib.Dec.{eqb}
 use Rattle.format.specs.AttributeKind as attribute
 use Rattle.format.specs.declared.settings.Settings.{Settings}
 use Rattle.format.specs.declared.refusal.Reason.the-variants as reason
-use Rattle.blocks.specs.Types.{typeAt}
+use Rattle.blocks.specs.Types.{processType}
 use Rattle.blocks.specs.declared.types.Type.{«Type»}
 use Rattle.blocks.specs.declared.types.Typed.{Typed}
 use Rattle.blocks.specs.declared.types.Typed.the-variants as typed
@@ -40,6 +40,7 @@ pub record Known : Type 0 where
   pub name : Name
   pub of : Held
 
+-- nothing is known yet
 unfoldable pub unknown : Known
 unknown = record { name = name.Nothing; of = nothing }
 
@@ -48,19 +49,21 @@ unfoldable pub nameFilled : Name → Text → Name
 nameFilled (name.Is text) other = name.Is text
 nameFilled name.Nothing other = name.Is other
 
+-- the same of a type
 unfoldable pub typeFilled : Held → «Type» → Held
 typeFilled (holds t) other = holds t
 typeFilled nothing other = holds (typed.Is other)
 
-unfoldable pub filled : Known → Typedef → Known
-filled known t = record { name = nameFilled (known .name) (t .name); of = typeFilled (known .of) (t .of) }
+-- what a specification fills
+unfoldable pub filledIn : Known → Typedef → Known
+filledIn known t = record { name = nameFilled (known .name) (t .name); of = typeFilled (known .of) (t .of) }
 
 -- an attribute overwrites what it says: a name, a type, or nothing of both
 unfoldable pub overwritten : List ℕ → Run → Attribute → Known → Known
 overwritten s run a known =
     record {
       name = cond (eqb (a .number) attribute.Name) (name.Is (textOf s (a .value))) (known .name);
-      of = cond (isType (a .number)) (holds (replaced (run .key) (typeAt (run .ends) s (a .number) (a .value)))) (known .of);
+      of = cond (isType (a .number)) (holds (replaced (run .key) (processType (run .ends) s (a .number) (a .value)))) (known .of);
     }
 
 -- at the end: 15 where the name or the type is missing
@@ -69,17 +72,20 @@ saidType key text (holds (typed.Is of)) = Is (record { name = text; of = of })
 saidType key text (holds (typed.Refused why)) = Refused why
 saidType key text nothing = Refused (refusedAt key reason.Missing)
 
+-- name first, then type
 unfoldable pub said : ℕ → Name → Held → TypedefRead
 said key (name.Is text) of = saidType key text of
 said key name.Nothing of = Refused (refusedAt key reason.Missing)
 
 module _ (settings : Settings) (s rows attrs : List ℕ) (n : ℕ) where
+  -- after the attributes: no children, then name and type
   unfoldable pub wordsEnd : ℕ → Known → TypedefRead
   wordsEnd i known =
       unless (childlessFault rows i (childWalk (settings .endian) s rows attrs n i)) Refused (said (rowAt rows i .key) (known .name) (known .of))
 
+  -- a specification that was read, and what follows
   unfoldable pub wordsFilled : (Known → TypedefRead) → Known → TypedefRead → TypedefRead
-  wordsFilled next known (Is t) = next (filled known t)
+  wordsFilled next known (Is t) = next (filledIn known t)
   wordsFilled next known (Refused why) = Refused why
 
   -- m attributes from number j on, in their order
@@ -96,6 +102,7 @@ module _ (settings : Settings) (s rows attrs : List ℕ) (n : ℕ) where
   -- the typedef at row i, where so many specifications may still be followed
   unfoldable pub wordsRun : ℕ → ℕ → TypedefRead
   wordsRun zero i =
-      wordsFrom (λ r. Refused (refusedAt (rowAt rows r .key) reason.Depth)) zero i (runOf (settings .endian) rows i) 0 (runOf (settings .endian) rows i .count) unknown
+      wordsFrom (λ r. Refused (refusedAt (rowAt rows r .key) reason.Depth)) zero i (runOf (settings .endian) rows i) 0
+      (runOf (settings .endian) rows i .count) unknown
   wordsRun (suc levels) i =
       wordsFrom (wordsRun levels) (suc levels) i (runOf (settings .endian) rows i) 0 (runOf (settings .endian) rows i .count) unknown

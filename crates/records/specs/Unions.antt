@@ -1,5 +1,5 @@
--- Unions (document 01, 'Types, records, sizes'; the Rust's `process_union_tag`): attributes, then the children in walk order, of which Member rows are read whole,
--- rows that define a type are passed over and any other is 16 at the union; then a ByteSize is needed.
+-- Unions (document 01, 'Types, records, sizes'; the Rust's `process_union_tag`): attributes, then the children in walk order, of which Member rows
+-- are read whole, rows that define a type are passed over and any other is 16 at the union; then a ByteSize is needed.
 use Prim.Native.Nat.{ℕ, _/_}
 use mathlib.Core.Bool.{Bool, cond}
 use mathlib.Core.List.{List, [], _∷_, _++_}
@@ -7,7 +7,7 @@ use lib.ListN.{length}
 use lib.Seq.{sets}
 use lib.Dec.{eqb, leb}
 use Rattle.lent.specs.Outcome.{Outcome, outcome}
-use Rattle.format.specs.Lookup.{member}
+use Rattle.format.specs.Lookup.{isOn}
 use Rattle.format.specs.TagKind as tag
 use Rattle.format.specs.declared.settings.Settings.{Settings}
 use Rattle.format.specs.declared.refusal.Refusal.{Refusal}
@@ -17,7 +17,7 @@ use Rattle.tables.specs.Check.{refusedAt}
 use Rattle.tables.specs.declared.row.Counts.{Counts}
 use Rattle.links.specs.Walk.{Walk, ends, endless}
 use Rattle.links.specs.Links.{childWalk, nonNull}
-use Rattle.tables.specs.Keyed.{inRow}
+use Rattle.tables.specs.Keyed.{inRowOfKey}
 use Rattle.records.specs.Scan.{runOf}
 use Rattle.records.specs.Fields.{byteSized}
 use Rattle.records.specs.Front.{headOf, unless}
@@ -37,14 +37,15 @@ use Rattle.records.specs.declared.unions.UnionRead.the-variants.{Is, Ref
 -- children that only define types
 unfoldable pub ignoredKinds : List ℕ
 ignoredKinds =
-    tag.ArrayType ∷ tag.ClassType ∷ tag.EnumerationType ∷ tag.StructureType ∷ tag.SubroutineType ∷ tag.Typedef ∷ tag.UnionType ∷ tag.PtrToMemberType ∷ []
+    tag.ArrayType ∷ tag.ClassType ∷ tag.EnumerationType ∷ tag.StructureType ∷ tag.SubroutineType ∷ tag.Typedef ∷ tag.UnionType ∷
+    tag.PtrToMemberType ∷ []
 
 -- a child of this kind is passed over
 unfoldable pub ignored : ℕ → Bool
 unfolding ignoredKinds
-ignored kind = member kind ignoredKinds
+ignored kind = isOn kind ignoredKinds
 
--- a member with its row's number
+-- a isOn with its row's number
 pub record Placed : Type 0 where
   pub row : ℕ
   pub member : Member
@@ -52,24 +53,24 @@ pub record Placed : Type 0 where
 -- the members among children, or a refusal
 pub data Members : Type 0 where
   members : List Placed → Members
-  refused : Refusal → Members
+  membersRefused : Refusal → Members
 
--- one member more, before the others
+-- one isOn more, before the others
 unfoldable pub andMember : ℕ → Member → Members → Members
 andMember c m (members ms) = members (record { row = c; member = m } ∷ ms)
-andMember c m (refused why) = refused why
+andMember c m (membersRefused why) = membersRefused why
 
--- a child that was read as a member, and those after it
+-- a child that was read as a isOn, and those after it
 unfoldable pub memberThen : ℕ → MemberRead → Members → Members
 memberThen c (read.Is m) rest = andMember c m rest
-memberThen c (read.Refused why) rest = refused why
+memberThen c (read.Refused why) rest = membersRefused why
 
 module _ (settings : Settings) (s rows attrs : List ℕ) (n : ℕ) where
   -- child c of the union with this key, and those after it
   unfoldable pub childThen : ℕ → ℕ → Members → Members
   childThen key c rest =
       cond (eqb (rowAt rows c .kind) tag.Member) (memberThen c (memberAt settings s rows attrs n c) rest)
-      (cond (ignored (rowAt rows c .kind)) rest (refused (refusedAt key reason.Child)))
+      (cond (ignored (rowAt rows c .kind)) rest (membersRefused (refusedAt key reason.Child)))
 
   -- children one after the other
   unfoldable pub membersFrom : ℕ → List ℕ → Members
@@ -79,7 +80,7 @@ module _ (settings : Settings) (s rows attrs : List ℕ) (n : ℕ) where
   -- the walk is done before any child is looked at: 9 where it never ends
   unfoldable pub membersBy : ℕ → Walk → Members
   membersBy key (ends cs) = membersFrom key (nonNull rows cs)
-  membersBy key endless = refused (refusedAt key reason.Link)
+  membersBy key endless = membersRefused (refusedAt key reason.Link)
 
   -- the members of row i
   unfoldable pub rowMembers : ℕ → Members
@@ -90,14 +91,14 @@ abbrev pub unionIs : ℕ → Name → ℕ → UnionWhole
 unionIs many name size = whole.Is (record { name = name; «byte_size» = size; members = many })
 
 -- a ByteSize is needed
-unfoldable pub sizedBy : List ℕ → List ℕ → Run → ℕ → UnionWhole
-sizedBy s attrs run many = byteSized whole.Refused (unionIs many) s attrs run
+unfoldable pub unionSized : List ℕ → List ℕ → Run → ℕ → UnionWhole
+unionSized s attrs run many = byteSized whole.Refused (unionIs many) s attrs run
 
 module _ (settings : Settings) (s rows attrs : List ℕ) (n i : ℕ) where
   -- the union with these members
   unfoldable pub membersTaken : Members → UnionWhole
-  membersTaken (members ms) = sizedBy s attrs (runOf (settings .endian) rows i) (length ms)
-  membersTaken (refused why) = whole.Refused why
+  membersTaken (members ms) = unionSized s attrs (runOf (settings .endian) rows i) (length ms)
+  membersTaken (membersRefused why) = whole.Refused why
 
   -- name, size and how many members
   unfoldable pub unionAt : UnionWhole
@@ -113,15 +114,15 @@ membersWords (m ∷ ms) = memberWords (m .row) (m .member) ++ membersWords ms
 -- the members into the room; nothing is written on a refusal
 unfoldable pub membersInto : List ℕ → Members → UnionRead → Outcome UnionRead ℕ
 membersInto room (members ms) answer = outcome answer (sets room 0 (membersWords ms))
-membersInto room (refused why) answer = outcome answer room
+membersInto room (membersRefused why) answer = outcome answer room
 
 -- if they fit
-unfoldable pub intoRoom : List ℕ → Members → UnionWhole → Outcome UnionRead ℕ
-intoRoom room ms (whole.Is u) = cond (leb (u .members) (length room / memberWidth)) (membersInto room ms (Is u)) (outcome (Room (u .members)) room)
-intoRoom room ms (whole.Refused why) = outcome (Refused why) room
+unfoldable pub unionInto : List ℕ → Members → UnionWhole → Outcome UnionRead ℕ
+unionInto room ms (whole.Is u) = cond (leb (u .members) (length room / memberWidth)) (membersInto room ms (Is u)) (outcome (Room (u .members)) room)
+unionInto room ms (whole.Refused why) = outcome (Refused why) room
 
 -- the union of a key
-unfoldable pub unionBy : Settings → List ℕ → List ℕ → List ℕ → List ℕ → List ℕ → Counts → ℕ → List ℕ → Outcome UnionRead ℕ
-unionBy settings vendors sizes s rows attrs counts key room =
-    inRow settings vendors sizes s rows attrs counts key (λ why. outcome (Refused why) room)
-    (λ i. intoRoom room (rowMembers settings s rows attrs (counts .rows) i) (unionAt settings s rows attrs (counts .rows) i))
+unfoldable pub processUnionTag : Settings → List ℕ → List ℕ → List ℕ → List ℕ → List ℕ → Counts → ℕ → List ℕ → Outcome UnionRead ℕ
+processUnionTag settings vendors sizes s rows attrs counts key room =
+    inRowOfKey settings vendors sizes s rows attrs counts key (λ why. outcome (Refused why) room)
+    (λ i. unionInto room (rowMembers settings s rows attrs (counts .rows) i) (unionAt settings s rows attrs (counts .rows) i))

@@ -10,7 +10,7 @@ use Rattle.blocks.specs.declared.types.Typed.{Typed}
 use Rattle.blocks.specs.declared.types.Typed.the-variants as typed
 use Rattle.tables.specs.Row.{rowAt}
 use Rattle.tables.specs.declared.row.Counts.{Counts}
-use Rattle.tables.specs.Keyed.{inRow}
+use Rattle.tables.specs.Keyed.{inRowOfKey}
 use Rattle.records.specs.Scan.{runOf}
 use Rattle.records.specs.Fields.{nameOf, roleName, typeOf, addressField}
 use Rattle.records.specs.Front.{frontOf, unless}
@@ -43,6 +43,6 @@ variableAt settings s rows attrs n i =
     (variableFields s attrs (runOf (settings .endian) rows i) (settings .roles .mangled) (eqb (rowAt rows i .kind) tag.LocalVariable))
 
 -- the variable of a key
-unfoldable pub variableBy : Settings → List ℕ → List ℕ → List ℕ → List ℕ → List ℕ → Counts → ℕ → VariableRead
-variableBy settings vendors sizes s rows attrs counts key =
-    inRow settings vendors sizes s rows attrs counts key Refused (variableAt settings s rows attrs (counts .rows))
+unfoldable pub processVariableTag : Settings → List ℕ → List ℕ → List ℕ → List ℕ → List ℕ → Counts → ℕ → VariableRead
+processVariableTag settings vendors sizes s rows attrs counts key =
+    inRowOfKey settings vendors sizes s rows attrs counts key Refused (variableAt settings s rows attrs (counts .rows))

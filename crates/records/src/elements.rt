@@ -14,7 +14,7 @@ use numbers::signed::i32_at;
 ghost use mathlib.Core.Path.{_≡_};
 ghost use Prim.Native.Nat.{_+_, _^_, _<_};
 ghost use Rattle.records.specs.Elements.{listWidth, valueAt, nameFrom, namedFrom, elementAt, elementsIn};
-ghost use Rattle.records.specs.Inside.Elements.{slotOf, listedAs, Stored, Addable, asLists, StoredFrom};
+ghost use Rattle.records.specs.Inside.Elements.{slotOf, listedAs, ElementsStored, Addable, asLists, StoredFrom};
 
 // A value and the name at `place`, of `length` bytes; where the next element begins.
 pub enum Element {
@@ -133,7 +133,9 @@ fn put_element(
     place: usize,
     length: usize,
 )
-    ensures { λ _. ⌜ Stored slot (listedAs value place length) (now (values .entry)) (now (values .exit)) (now (names .entry)) (now (names .exit)) ⌝ }
+    ensures { λ _. ⌜
+        ElementsStored slot (listedAs value place length) (now (values .entry)) (now (values .exit)) (now (names .entry)) (now (names .exit))
+        ⌝ }
 {
     put_value(values, slot, value);
     if slot < names.len() {
@@ -155,7 +157,10 @@ pub(crate) fn read_list(
     names: &mut [u64],
 ) -> Counted
     requires { ⌜ Addable base width (now block) k ⌝ }
-    ensures { λ r. ⌜ StoredFrom (asLists key (elementsIn width e base (now (block .entry)))) slots k r (now (values .entry)) (now (values .exit)) (now (names .entry)) (now (names .exit)) ⌝ }
+    ensures { λ r. ⌜
+        StoredFrom (asLists key (elementsIn width e base (now (block .entry)))) slots k r (now (values .entry)) (now (values .exit))
+        (now (names .entry)) (now (names .exit))
+        ⌝ }
 {
     let mut at: usize = 0;
     let mut count = k;

@@ -38,9 +38,10 @@ ghost use lib.ListN.{length};
 ghost use Rattle.lent.specs.Outcome.{BothGiven};
 ghost use Rattle.links.specs.Inside.Children.{Asked};
 ghost use Rattle.format.specs.Limits.{sectionLimit};
-ghost use Rattle.records.specs.Enumeration.{sizeBefore, isGcc, sizedBy, enumerationEnd, rowLists, enumerationAt, listsFrom, intoRooms, enumerationBy};
+ghost use Rattle.records.specs.Enumeration.{sizeBefore, isGcc, enumerationSized, enumerationEnd, rowLists, enumerationAt, listsFrom};
+ghost use Rattle.records.specs.Enumeration.{enumerationInto, processEnumerationTag};
 ghost use Rattle.records.specs.Inside.Elements.{StoredFrom};
-ghost use Rattle.records.specs.Inside.Enumeration.{Countable, oneList, Stepping, Steps, AskedShort, WholeStored};
+ghost use Rattle.records.specs.Inside.Enumeration.{Countable, oneList, Stepping, Steps, AskedShort, EnumerationStored};
 
 pub struct Enumeration {
     pub name: Name,
@@ -98,7 +99,10 @@ fn list_at(
     names: &mut [u64],
 ) -> Counted
     requires { ⌜ Countable (now s) j count ⌝ }
-    ensures { λ r. ⌜ StoredFrom (oneList settings (now (s .entry)) (now (attrs .entry)) run j) slots count r (now (values .entry)) (now (values .exit)) (now (names .entry)) (now (names .exit)) ⌝ }
+    ensures { λ r. ⌜
+        StoredFrom (oneList settings (now (s .entry)) (now (attrs .entry)) run j) slots count r (now (values .entry)) (now (values .exit))
+        (now (names .entry)) (now (names .exit))
+        ⌝ }
 {
     let k = run.first as usize + j as usize;
     let attribute = attribute_at(attrs, k);
@@ -130,7 +134,10 @@ fn list_step(
     names: &mut [u64],
 ) -> Step
     requires { ⌜ Stepping (now s) run j count ⌝ }
-    ensures { λ r. ⌜ Steps settings (now (s .entry)) (now (attrs .entry)) run slots j count r (now (values .entry)) (now (values .exit)) (now (names .entry)) (now (names .exit)) ⌝ }
+    ensures { λ r. ⌜
+        Steps settings (now (s .entry)) (now (attrs .entry)) run slots j count r (now (values .entry)) (now (values .exit)) (now (names .entry))
+        (now (names .exit))
+        ⌝ }
 {
     let roles = settings.roles;
     match scan_from(s, roles, attrs, Record::Enumeration, run, j) {
@@ -171,7 +178,10 @@ fn read_lists(
     names: &mut [u64],
 ) -> Counted
     requires { ⌜ length (now s) < sectionLimit ⌝ }
-    ensures { λ r. ⌜ StoredFrom (listsFrom settings (now (s .entry)) (now (attrs .entry)) run 0 (run .count)) slots 0 r (now (values .entry)) (now (values .exit)) (now (names .entry)) (now (names .exit)) ⌝ }
+    ensures { λ r. ⌜
+        StoredFrom (listsFrom settings (now (s .entry)) (now (attrs .entry)) run 0 (run .count)) slots 0 r (now (values .entry)) (now (values .exit))
+        (now (names .entry)) (now (names .exit))
+        ⌝ }
 {
     let count = run.count as usize;
     let mut j: usize = 0;
@@ -189,7 +199,7 @@ fn read_lists(
 }
 
 fn enumeration_sized(s: &[u8], attrs: &[u32], run: Run, members: usize) -> EnumerationWhole
-    ensures { λ r. ⌜ r ≡ sizedBy (now (s .entry)) (now (attrs .entry)) run members ⌝ }
+    ensures { λ r. ⌜ r ≡ enumerationSized (now (s .entry)) (now (attrs .entry)) run members ⌝ }
 {
     match needs(last_word(s, attrs, run, BYTE_SIZE), run.key) {
         Needed::Is(size) => EnumerationWhole::Is(Enumeration {
@@ -237,7 +247,11 @@ fn read_enumeration(
     names: &mut [u64],
 ) -> EnumerationWhole
     requires { ⌜ AskedShort (now s) (now rows) n i ⌝ }
-    ensures { λ r. ⌜ WholeStored (enumerationAt settings (now (s .entry)) (now (rows .entry)) (now (attrs .entry)) n i) (rowLists settings (now (s .entry)) (now (rows .entry)) (now (attrs .entry)) n i) slots r (now (values .entry)) (now (values .exit)) (now (names .entry)) (now (names .exit)) ⌝ }
+    ensures { λ r. ⌜
+        EnumerationStored (enumerationAt settings (now (s .entry)) (now (rows .entry)) (now (attrs .entry)) n i)
+        (rowLists settings (now (s .entry)) (now (rows .entry)) (now (attrs .entry)) n i) slots r (now (values .entry)) (now (values .exit))
+        (now (names .entry)) (now (names .exit))
+        ⌝ }
 {
     match kind_fault(settings, rows, i, Record::Enumeration) {
         Fault::Clear => {
@@ -297,7 +311,11 @@ fn give_enumeration(
     names: &mut [u64],
 ) -> EnumerationRead
     requires { ⌜ AskedShort (now s) (now rows) n i ⌝ }
-    ensures { λ r. ⌜ BothGiven (intoRooms (settings .producer) (now (values .entry)) (now (names .entry)) (rowLists settings (now (s .entry)) (now (rows .entry)) (now (attrs .entry)) n i) (enumerationAt settings (now (s .entry)) (now (rows .entry)) (now (attrs .entry)) n i)) r (now (values .exit)) (now (names .exit)) ⌝ }
+    ensures { λ r. ⌜
+        BothGiven (enumerationInto (settings .producer) (now (values .entry)) (now (names .entry))
+        (rowLists settings (now (s .entry)) (now (rows .entry)) (now (attrs .entry)) n i)
+        (enumerationAt settings (now (s .entry)) (now (rows .entry)) (now (attrs .entry)) n i)) r (now (values .exit)) (now (names .exit))
+        ⌝ }
 {
     match enumeration_at(s, settings, rows, attrs, n, i) {
         EnumerationWhole::Is(found) => {
@@ -330,7 +348,10 @@ pub fn process_enumeration_tag(
     values: &mut [i32],
     names: &mut [u64],
 ) -> EnumerationRead
-    ensures { λ r. ⌜ BothGiven (enumerationBy settings (now (vendors .entry)) (now (sizes .entry)) (now (s .entry)) (now (rows .entry)) (now (attrs .entry)) counts key (now (values .entry)) (now (names .entry))) r (now (values .exit)) (now (names .exit)) ⌝ }
+    ensures { λ r. ⌜
+        BothGiven (processEnumerationTag settings (now (vendors .entry)) (now (sizes .entry)) (now (s .entry)) (now (rows .entry))
+        (now (attrs .entry)) counts key (now (values .entry)) (now (names .entry))) r (now (values .exit)) (now (names .exit))
+        ⌝ }
 {
     match row_of(s, settings, vendors, sizes, rows, attrs, counts, key) {
         Keyed::Row(i) => {

@@ -23,7 +23,8 @@ use tables::find::Found;
 ghost use mathlib.Core.Path.{_≡_};
 ghost use Rattle.attributes.specs.Parts.{partAt};
 ghost use Rattle.records.specs.Scan.{attributeAt};
-ghost use Rattle.records.specs.Fields.{isSought, lastFrom, lastOf, textOf, nameOf, replaced, typeBy, typeOf, offsetIn, offsetField, addressIn, addressField, asWord, wordIn, wordBy, wordOf, roleName, roleWord, needed, visibilityBy, visibilityOf};
+ghost use Rattle.records.specs.Fields.{isSought, lastFrom, lastOf, textOf, nameOf, replaced, typeBy, typeOf, offsetIn, offsetField, addressIn};
+ghost use Rattle.records.specs.Fields.{addressField, asWord, wordIn, wordBy, wordOf, roleName, roleWord, needed, visibilityBy, visibilityOf};
 
 // The kinds of attributes of which the last counts.
 pub enum Sought {
@@ -103,6 +104,7 @@ fn text_of(s: &[u8], at: usize) -> Text
     }
 }
 
+// The text of the last attribute of this number.
 pub fn last_name(s: &[u8], attrs: &[u32], run: Run, number: u16) -> Name
     ensures { λ r. ⌜ r ≡ nameOf (now (s .entry)) (now (attrs .entry)) run number ⌝ }
 {

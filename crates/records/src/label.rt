@@ -21,7 +21,7 @@ use tables::keyed::row_of;
 use tables::row::Counts;
 ghost use mathlib.Core.Path.{_≡_};
 ghost use Rattle.links.specs.Inside.Children.{Asked};
-ghost use Rattle.records.specs.Label.{labelNamed, labelFields, labelAt, labelBy};
+ghost use Rattle.records.specs.Label.{labelNamed, labelFields, labelAt, processSubroutineLabelTag};
 
 pub struct Label {
     pub name: Text,
@@ -84,7 +84,10 @@ pub fn process_subroutine_label_tag(
     counts: Counts,
     key: u32,
 ) -> LabelRead
-    ensures { λ r. ⌜ r ≡ labelBy settings (now (vendors .entry)) (now (sizes .entry)) (now (s .entry)) (now (rows .entry)) (now (attrs .entry)) counts key ⌝ }
+    ensures { λ r. ⌜
+        r ≡ processSubroutineLabelTag settings (now (vendors .entry)) (now (sizes .entry)) (now (s .entry)) (now (rows .entry))
+        (now (attrs .entry)) counts key
+        ⌝ }
 {
     match row_of(s, settings, vendors, sizes, rows, attrs, counts, key) {
         Keyed::Row(i) => label_at(s, settings, rows, attrs, counts.rows, i),

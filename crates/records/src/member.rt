@@ -28,7 +28,7 @@ use tables::keyed::row_of;
 use tables::row::Counts;
 ghost use mathlib.Core.Path.{_≡_};
 ghost use Rattle.links.specs.Inside.Children.{Asked};
-ghost use Rattle.records.specs.Member.{bitsBy, memberWith, memberPlaced, memberFields, memberAt, memberBy};
+ghost use Rattle.records.specs.Member.{bitsBy, memberWith, memberPlaced, memberFields, memberAt, processStructureMemberTag};
 
 // The bits of a bit field, if it is one.
 pub enum Bits {
@@ -140,7 +140,10 @@ pub fn process_structure_member_tag(
     counts: Counts,
     key: u32,
 ) -> MemberRead
-    ensures { λ r. ⌜ r ≡ memberBy settings (now (vendors .entry)) (now (sizes .entry)) (now (s .entry)) (now (rows .entry)) (now (attrs .entry)) counts key ⌝ }
+    ensures { λ r. ⌜
+        r ≡ processStructureMemberTag settings (now (vendors .entry)) (now (sizes .entry)) (now (s .entry)) (now (rows .entry))
+        (now (attrs .entry)) counts key
+        ⌝ }
 {
     match row_of(s, settings, vendors, sizes, rows, attrs, counts, key) {
         Keyed::Row(i) => member_at(s, settings, rows, attrs, counts.rows, i),

@@ -9,7 +9,8 @@ use lent::words::put_words;
 ghost use mathlib.Core.Path.{_≡_};
 ghost use Prim.Native.Nat.{_*_};
 ghost use lib.Seq.{sets};
-ghost use Rattle.records.specs.MemberWords.{nameFlag, namePlace, nameLength, kindTag, kindNumber, boolWord, bitsFlag, bitsSize, bitsOffset, visibilityWord, wordFlag, wordNumber, memberWords, memberWidth};
+ghost use Rattle.records.specs.MemberWords.{nameFlag, namePlace, nameLength, kindTag, kindNumber, boolWord, bitsFlag, bitsSize, bitsOffset};
+ghost use Rattle.records.specs.MemberWords.{visibilityWord, wordFlag, wordNumber, memberWords, memberWidth};
 
 // The words of a member's record.
 pub const MEMBER_WIDTH: usize = 16;
@@ -23,6 +24,7 @@ fn name_flag(name: Name) -> u64
     }
 }
 
+// Where a name stands, 0 without one.
 pub fn name_place(name: Name) -> u64
     ensures { λ r. ⌜ r ≡ namePlace name ⌝ }
 {
@@ -32,6 +34,7 @@ pub fn name_place(name: Name) -> u64
     }
 }
 
+// How long it is, 0 without one.
 pub fn name_length(name: Name) -> u64
     ensures { λ r. ⌜ r ≡ nameLength name ⌝ }
 {

@@ -24,7 +24,7 @@ use tables::keyed::Keyed;
 use tables::keyed::row_of;
 use tables::row::Counts;
 ghost use mathlib.Core.Path.{_≡_};
-ghost use Rattle.records.specs.OverlayBranch.{overlayEnded, overlayBegun, overlayNumbered, overlayFields, overlayAt, overlayBy};
+ghost use Rattle.records.specs.OverlayBranch.{overlayEnded, overlayBegun, overlayNumbered, overlayFields, overlayAt, processOverlayBranch};
 
 pub struct OverlayBranch {
     pub name: Text,
@@ -120,7 +120,10 @@ pub fn process_overlay_branch(
     counts: Counts,
     key: u32,
 ) -> OverlayBranchRead
-    ensures { λ r. ⌜ r ≡ overlayBy settings (now (vendors .entry)) (now (sizes .entry)) (now (s .entry)) (now (rows .entry)) (now (attrs .entry)) counts key ⌝ }
+    ensures { λ r. ⌜
+        r ≡ processOverlayBranch settings (now (vendors .entry)) (now (sizes .entry)) (now (s .entry)) (now (rows .entry))
+        (now (attrs .entry)) counts key
+        ⌝ }
 {
     match row_of(s, settings, vendors, sizes, rows, attrs, counts, key) {
         Keyed::Row(i) => overlay_at(s, settings, rows, attrs, i),

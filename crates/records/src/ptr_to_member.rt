@@ -18,7 +18,7 @@ use tables::keyed::row_of;
 use tables::row::Counts;
 ghost use mathlib.Core.Path.{_≡_};
 ghost use Rattle.links.specs.Inside.Children.{Asked};
-ghost use Rattle.records.specs.PtrToMember.{ptrTyped, ptrFields, ptrAt, ptrBy};
+ghost use Rattle.records.specs.PtrToMember.{ptrTyped, ptrFields, ptrAt, processPtrToMemberTag};
 
 // The type that is pointed to, and the key of the type that contains it.
 pub struct PtrToMember {
@@ -82,7 +82,10 @@ pub fn process_ptr_to_member_tag(
     counts: Counts,
     key: u32,
 ) -> PtrToMemberRead
-    ensures { λ r. ⌜ r ≡ ptrBy settings (now (vendors .entry)) (now (sizes .entry)) (now (s .entry)) (now (rows .entry)) (now (attrs .entry)) counts key ⌝ }
+    ensures { λ r. ⌜
+        r ≡ processPtrToMemberTag settings (now (vendors .entry)) (now (sizes .entry)) (now (s .entry)) (now (rows .entry))
+        (now (attrs .entry)) counts key
+        ⌝ }
 {
     match row_of(s, settings, vendors, sizes, rows, attrs, counts, key) {
         Keyed::Row(i) => ptr_to_member_at(s, settings, rows, attrs, counts.rows, i),

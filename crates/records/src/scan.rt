@@ -24,7 +24,8 @@ use tables::row::row_at;
 ghost use mathlib.Core.Path.{_≡_};
 ghost use Prim.Native.Nat.{_-_};
 ghost use Rattle.tables.specs.Check.{refusedAt};
-ghost use Rattle.records.specs.Scan.{runOf, attributeAt, expected, expectedForm, isType, typedFault, locatedFault, locationFault, contentFault, formFault, attributeFault, faultAt, faultsFrom};
+ghost use Rattle.records.specs.Scan.{runOf, attributeAt, expected, expectedForm, isType, typedFault, locatedFault, locationFault, contentFault};
+ghost use Rattle.records.specs.Scan.{formFault, attributeFault, faultAt, faultsFrom};
 ghost use Rattle.records.specs.Inside.Scan.{scanFrom, Plain};
 
 // A row's attributes: where they begin, how many there are; its key; the endiannesses.
@@ -53,6 +54,7 @@ pub enum Scan {
     Refused(Refusal),
 }
 
+// Row i's attributes, its key and its endiannesses.
 pub fn run_of(e: Endian, rows: &[u32], i: usize) -> Run
     ensures { λ r. ⌜ r ≡ runOf e (now (rows .entry)) i ⌝ }
 {
@@ -66,6 +68,7 @@ pub fn run_of(e: Endian, rows: &[u32], i: usize) -> Run
     }
 }
 
+// Attribute k of the table.
 pub fn attribute_at(attrs: &[u32], k: usize) -> Attribute
     ensures { λ r. ⌜ r ≡ attributeAt (now (attrs .entry)) k ⌝ }
 {
@@ -76,6 +79,7 @@ pub fn attribute_at(attrs: &[u32], k: usize) -> Attribute
     }
 }
 
+// A refusal at a row.
 pub fn refused(reason: Reason, key: u32) -> Refusal
     ensures { λ r. ⌜ r ≡ refusedAt key reason ⌝ }
 {

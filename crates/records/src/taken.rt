@@ -21,7 +21,7 @@ use format::attribute_kind::USER_DEF_TYPE;
 use format::lookup::on_list;
 use format::settings::Roles;
 ghost use mathlib.Core.Path.{_≡_};
-ghost use Rattle.format.specs.Lookup.{member};
+ghost use Rattle.format.specs.Lookup.{isOn};
 ghost use Rattle.format.specs.Settings.{plays};
 ghost use Rattle.records.specs.Taken.{takenBy, roleTaken, takes, special};
 
@@ -84,7 +84,7 @@ const OVERLAY_BRANCH_TAKES: [u16; 5] = [SIBLING, MEMBER, LOW_PC, HIGH_PC, NAME];
 
 // `process_structure_member_tag`. Members are most of what is read, so theirs is no list to go through.
 fn member_takes(number: u16) -> bool
-    ensures { λ r. ⌜ r ≡ member number (takenBy Record.Member) ⌝ }
+    ensures { λ r. ⌜ r ≡ isOn number (takenBy Record.Member) ⌝ }
 {
     match number {
         SIBLING => true,
@@ -106,7 +106,7 @@ fn member_takes(number: u16) -> bool
 }
 
 fn is_taken(which: Record, number: u16) -> bool
-    ensures { λ r. ⌜ r ≡ member number (takenBy which) ⌝ }
+    ensures { λ r. ⌜ r ≡ isOn number (takenBy which) ⌝ }
 {
     match which {
         Record::Member => member_takes(number),

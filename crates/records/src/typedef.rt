@@ -34,7 +34,8 @@ use tables::row::Counts;
 ghost use mathlib.Core.Path.{_≡_};
 ghost use Rattle.links.specs.Inside.Links.{Rows};
 ghost use Rattle.links.specs.Inside.Children.{Asked};
-ghost use Rattle.records.specs.Typedef.{firstFilling, typedefName, typedefType, typedefWith, typedefFields, typedefEnd, specifiedRow, specifiedBy, specified, typedefRun, typedefAt, typedefOf};
+ghost use Rattle.records.specs.Typedef.{firstFilling, typedefName, typedefType, typedefWith, typedefFields, typedefEnd, specifiedRow};
+ghost use Rattle.records.specs.Typedef.{specifiedBy, specified, typedefRun, typedefAt, processTypedefTag};
 ghost use Rattle.records.specs.Inside.Typedef.{pauseFrom};
 
 pub struct Typedef {
@@ -289,7 +290,10 @@ pub fn process_typedef_tag(
     counts: Counts,
     key: u32,
 ) -> TypedefRead
-    ensures { λ r. ⌜ r ≡ typedefOf settings (now (vendors .entry)) (now (sizes .entry)) (now (s .entry)) (now (rows .entry)) (now (attrs .entry)) counts key ⌝ }
+    ensures { λ r. ⌜
+        r ≡ processTypedefTag settings (now (vendors .entry)) (now (sizes .entry)) (now (s .entry)) (now (rows .entry))
+        (now (attrs .entry)) counts key
+        ⌝ }
 {
     match row_of(s, settings, vendors, sizes, rows, attrs, counts, key) {
         Keyed::Row(i) => typedef_at(s, settings, rows, attrs, counts.rows, i),

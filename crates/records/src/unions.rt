@@ -32,8 +32,8 @@ use tables::row::row_at;
 ghost use mathlib.Core.Path.{_≡_};
 ghost use Rattle.lent.specs.Outcome.{Given};
 ghost use Rattle.links.specs.Inside.Children.{Asked};
-ghost use Rattle.records.specs.Unions.{ignored, sizedBy, membersFrom, rowMembers, unionAt, intoRoom, unionBy};
-ghost use Rattle.records.specs.Inside.Unions.{TakeAsked, Takes, EndsAt, MembersStored, WholeStored};
+ghost use Rattle.records.specs.Unions.{ignored, unionSized, membersFrom, rowMembers, unionAt, unionInto, processUnionTag};
+ghost use Rattle.records.specs.Inside.Unions.{TakeAsked, TakesMember, EndsAt, MembersStored, UnionStored};
 ghost use Rattle.links.specs.Inside.Kids.{kidsOf};
 ghost use Rattle.tables.specs.Row.{rowAt};
 
@@ -86,7 +86,9 @@ fn take_child(
     k: usize,
 ) -> Counted
     requires { ⌜ TakeAsked (now rows) n c k ⌝ }
-    ensures { λ r. ⌜ Takes settings (now (s .entry)) (now (rows .entry)) (now (attrs .entry)) n key c k r (now (room .entry)) (now (room .exit)) ⌝ }
+    ensures { λ r. ⌜
+        TakesMember settings (now (s .entry)) (now (rows .entry)) (now (attrs .entry)) n key c k r (now (room .entry)) (now (room .exit))
+        ⌝ }
 {
     let row = row_at(rows, c);
     if row.kind == 0x0d {
@@ -115,7 +117,10 @@ fn take_children(
     room: &mut [u64],
 ) -> Counted
     requires { ⌜ EndsAt (settings .endian) (now s) (now rows) (now attrs) n i ⌝ }
-    ensures { λ r. ⌜ MembersStored (membersFrom settings (now (s .entry)) (now (rows .entry)) (now (attrs .entry)) n (rowAt (now (rows .entry)) i .key) (kidsOf (settings .endian) (now (s .entry)) (now (rows .entry)) (now (attrs .entry)) n i)) r (now (room .entry)) (now (room .exit)) ⌝ }
+    ensures { λ r. ⌜
+        MembersStored (membersFrom settings (now (s .entry)) (now (rows .entry)) (now (attrs .entry)) n (rowAt (now (rows .entry)) i .key)
+        (kidsOf (settings .endian) (now (s .entry)) (now (rows .entry)) (now (attrs .entry)) n i)) r (now (room .entry)) (now (room .exit))
+        ⌝ }
 {
     let e = settings.endian;
     let row = row_at(rows, i);
@@ -153,7 +158,9 @@ fn union_members(
     room: &mut [u64],
 ) -> Counted
     requires { ⌜ Asked (now rows) n i ⌝ }
-    ensures { λ r. ⌜ MembersStored (rowMembers settings (now (s .entry)) (now (rows .entry)) (now (attrs .entry)) n i) r (now (room .entry)) (now (room .exit)) ⌝ }
+    ensures { λ r. ⌜
+        MembersStored (rowMembers settings (now (s .entry)) (now (rows .entry)) (now (attrs .entry)) n i) r (now (room .entry)) (now (room .exit))
+        ⌝ }
 {
     let e = settings.endian;
     let row = row_at(rows, i);
@@ -164,7 +171,7 @@ fn union_members(
 }
 
 fn union_sized(s: &[u8], attrs: &[u32], run: Run, members: usize) -> UnionWhole
-    ensures { λ r. ⌜ r ≡ sizedBy (now (s .entry)) (now (attrs .entry)) run members ⌝ }
+    ensures { λ r. ⌜ r ≡ unionSized (now (s .entry)) (now (attrs .entry)) run members ⌝ }
 {
     match needs(last_word(s, attrs, run, BYTE_SIZE), run.key) {
         Needed::Is(size) => UnionWhole::Is(Union {
@@ -187,7 +194,10 @@ fn read_union(
     room: &mut [u64],
 ) -> UnionWhole
     requires { ⌜ Asked (now rows) n i ⌝ }
-    ensures { λ r. ⌜ WholeStored (unionAt settings (now (s .entry)) (now (rows .entry)) (now (attrs .entry)) n i) (rowMembers settings (now (s .entry)) (now (rows .entry)) (now (attrs .entry)) n i) r (now (room .entry)) (now (room .exit)) ⌝ }
+    ensures { λ r. ⌜
+        UnionStored (unionAt settings (now (s .entry)) (now (rows .entry)) (now (attrs .entry)) n i)
+        (rowMembers settings (now (s .entry)) (now (rows .entry)) (now (attrs .entry)) n i) r (now (room .entry)) (now (room .exit))
+        ⌝ }
 {
     match head_fault(s, settings, rows, attrs, i, Record::Union) {
         Fault::Clear => match union_members(s, settings, rows, attrs, n, i, room) {
@@ -229,7 +239,10 @@ fn give_union(
     room: &mut [u64],
 ) -> UnionRead
     requires { ⌜ Asked (now rows) n i ⌝ }
-    ensures { λ r. ⌜ Given (intoRoom (now (room .entry)) (rowMembers settings (now (s .entry)) (now (rows .entry)) (now (attrs .entry)) n i) (unionAt settings (now (s .entry)) (now (rows .entry)) (now (attrs .entry)) n i)) r (now (room .exit)) ⌝ }
+    ensures { λ r. ⌜
+        Given (unionInto (now (room .entry)) (rowMembers settings (now (s .entry)) (now (rows .entry)) (now (attrs .entry)) n i)
+        (unionAt settings (now (s .entry)) (now (rows .entry)) (now (attrs .entry)) n i)) r (now (room .exit))
+        ⌝ }
 {
     match union_at(s, settings, rows, attrs, n, i) {
         UnionWhole::Is(found) => {
@@ -256,7 +269,10 @@ pub fn process_union_tag(
     key: u32,
     room: &mut [u64],
 ) -> UnionRead
-    ensures { λ r. ⌜ Given (unionBy settings (now (vendors .entry)) (now (sizes .entry)) (now (s .entry)) (now (rows .entry)) (now (attrs .entry)) counts key (now (room .entry))) r (now (room .exit)) ⌝ }
+    ensures { λ r. ⌜
+        Given (processUnionTag settings (now (vendors .entry)) (now (sizes .entry)) (now (s .entry)) (now (rows .entry))
+        (now (attrs .entry)) counts key (now (room .entry))) r (now (room .exit))
+        ⌝ }
 {
     match row_of(s, settings, vendors, sizes, rows, attrs, counts, key) {
         Keyed::Row(i) => give_union(s, settings, rows, attrs, counts.rows, i, room),

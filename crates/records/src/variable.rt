@@ -21,7 +21,7 @@ use tables::row::Counts;
 use tables::row::row_at;
 ghost use mathlib.Core.Path.{_≡_};
 ghost use Rattle.links.specs.Inside.Children.{Asked};
-ghost use Rattle.records.specs.Variable.{variableFields, variableAt, variableBy};
+ghost use Rattle.records.specs.Variable.{variableFields, variableAt, processVariableTag};
 
 pub struct Variable {
     pub name: Name,
@@ -86,7 +86,10 @@ pub fn process_variable_tag(
     counts: Counts,
     key: u32,
 ) -> VariableRead
-    ensures { λ r. ⌜ r ≡ variableBy settings (now (vendors .entry)) (now (sizes .entry)) (now (s .entry)) (now (rows .entry)) (now (attrs .entry)) counts key ⌝ }
+    ensures { λ r. ⌜
+        r ≡ processVariableTag settings (now (vendors .entry)) (now (sizes .entry)) (now (s .entry)) (now (rows .entry))
+        (now (attrs .entry)) counts key
+        ⌝ }
 {
     match row_of(s, settings, vendors, sizes, rows, attrs, counts, key) {
         Keyed::Row(i) => variable_at(s, settings, rows, attrs, counts.rows, i),

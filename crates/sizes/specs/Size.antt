@@ -1,7 +1,7 @@
--- Sizes (document 01, 'Types, records, sizes'; the Rust's `Type::size` and `UserDefinedType::size`). The size of a type and of the entry it names call each
--- other: here the entry's size is a function of "the size of a type", and the levels that are left fall from an entry to those it names.
--- The tests in their order: 1, 2, 3; of the entry 11, 10, 12; what its row refuses, all of it read whole; what the sizes that it asks for refuse, and 20.
--- `sizeOfKey` and `sizeOfType`, at the end, are the public calls.
+-- Sizes (document 01, 'Types, records, sizes'; the Rust's `Type::size` and `UserDefinedType::size`). The size of a type and of the entry it names
+-- call each other: here the entry's size is a function of "the size of a type", and the levels that are left fall from an entry to those it names.
+-- The tests in their order: 1, 2, 3; of the entry 11, 10, 12; what its row refuses, all of it read whole; what the sizes that it asks for refuse,
+-- and 20. `sizeOfKey` and `sizeOfType`, at the end, are the public calls.
 use Prim.Native.Nat.{ℕ, zero, suc, _+_, _*_, _-_}
 use mathlib.Core.Bool.{Bool, true, false, cond}
 use mathlib.Core.List.{List, [], _∷_}
@@ -16,7 +16,7 @@ use Rattle.format.specs.Limits.{depthLimit}
 use Rattle.format.specs.declared.settings.Settings.{Settings}
 use Rattle.format.specs.declared.refusal.Reason.the-variants as reason
 use Rattle.attributes.specs.Parts.{blockAt}
-use Rattle.blocks.specs.Subscript.{subscriptOf}
+use Rattle.blocks.specs.Subscript.{nextSubscript}
 use Rattle.blocks.specs.Subscripts.{countSubscripts}
 use Rattle.blocks.specs.declared.types.Type.{«Type»}
 use Rattle.blocks.specs.declared.types.TypeKind.{TypeKind}
@@ -37,7 +37,7 @@ use Rattle.records.specs.Scan.{runOf, attributeAt, faultsFrom}
 use Rattle.records.specs.Fields.{lastOf, wordOf}
 use Rattle.records.specs.Front.{unless}
 use Rattle.records.specs.Member.{memberAt}
-use Rattle.records.specs.Unions.{Placed, Members, members, refused, memberThen, unionAt}
+use Rattle.records.specs.Unions.{Placed, Members, members, membersRefused, memberThen, unionAt}
 use Rattle.records.specs.Enumeration.{enumerationAt}
 use Rattle.records.specs.PtrToMember.{ptrAt}
 use Rattle.records.specs.declared.scan.Run.{Run}
@@ -63,7 +63,8 @@ sizeLimit = 0xFFFFFFFF
 
 -- ---- a type
 
--- a fundamental type's size is its line of the settings' table; 18 at 0 for a number that has none: no type that was read is one, but a caller may make it
+-- a fundamental type's size is its line of the settings' table; 18 at 0 for a number that has none: no type that was read is one, but a caller may
+-- make it
 unfoldable pub fundamentalSize : List ℕ → ℕ → Sized
 fundamentalSize sizes number =
     cond (ltb (indexOf number fundTypes) (length sizes)) (Is (getD sizes (indexOf number fundTypes) 0)) (Refused (refusedAt 0 reason.Number))
@@ -101,7 +102,7 @@ module _ (e : Endian) (key : ℕ) where
   productFrom (suc turns) size block =
       elim (eqb (length block) 0) [
         | true ↦ Is size
-        | false ↦ subscriptThen (λ used product. productFrom turns product (drop used block)) size (subscriptOf e block)
+        | false ↦ subscriptThen (λ used product. productFrom turns product (drop used block)) size (nextSubscript e block)
       ]
 
   -- the whole block: a subscript takes at least a byte, so there are no more of them than bytes
@@ -131,7 +132,8 @@ module _ (s attrs : List ℕ) (run : Run) where
 
   -- the size by the SubscrData that counts; 15 at an array without one
   unfoldable pub lastSize : («Type» → Sized) → Found → Sized
-  lastSize typeSize (found.At k) = countedSize (run .ends .section) (run .key) typeSize (subscriptBlock k) (countSubscripts (run .ends .section) (subscriptBlock k))
+  lastSize typeSize (found.At k) =
+      countedSize (run .ends .section) (run .key) typeSize (subscriptBlock k) (countSubscripts (run .ends .section) (subscriptBlock k))
   lastSize typeSize found.Nothing = Refused (refusedAt (run .key) reason.Missing)
 
   -- an array's size: each SubscrData is read, in their order, before any size is taken; children are not walked
@@ -143,22 +145,22 @@ module _ (s attrs : List ℕ) (run : Run) where
 
 module _ (settings : Settings) (s rows attrs : List ℕ) (n : ℕ) where
   -- child c and those after it: a Member row is read whole, any other is passed over (in a union some are 16)
-  unfoldable pub childThen : ℕ → Members → Members
-  childThen c rest = cond (eqb (rowAt rows c .kind) tag.Member) (memberThen c (memberAt settings s rows attrs n c) rest) rest
+  unfoldable pub memberChildThen : ℕ → Members → Members
+  memberChildThen c rest = cond (eqb (rowAt rows c .kind) tag.Member) (memberThen c (memberAt settings s rows attrs n c) rest) rest
 
-  -- children one after the other: the first Member that is refused counts, where its record places it
-  unfoldable pub membersFrom : List ℕ → Members
-  membersFrom [] = members []
-  membersFrom (c ∷ cs) = childThen c (membersFrom cs)
+  -- children one after the other: the first Member that is membersRefused counts, where its record places it
+  unfoldable pub memberRowsFrom : List ℕ → Members
+  memberRowsFrom [] = members []
+  memberRowsFrom (c ∷ cs) = memberChildThen c (memberRowsFrom cs)
 
   -- the walk is done before any child is looked at: 9 at the structure where it never ends; null entries are left out
-  unfoldable pub membersBy : ℕ → Walk → Members
-  membersBy key (ends cs) = membersFrom (nonNull rows cs)
-  membersBy key endless = refused (refusedAt key reason.Link)
+  unfoldable pub memberRowsBy : ℕ → Walk → Members
+  memberRowsBy key (ends cs) = memberRowsFrom (nonNull rows cs)
+  memberRowsBy key endless = membersRefused (refusedAt key reason.Link)
 
   -- the members of row i, in walk order
   unfoldable pub membersOf : ℕ → Members
-  membersOf i = membersBy (rowAt rows i .key) (childWalk (settings .endian) s rows attrs n i)
+  membersOf i = memberRowsBy (rowAt rows i .key) (childWalk (settings .endian) s rows attrs n i)
 
 -- a ByteSize of its own, else its type's size
 unfoldable pub sizeOr : («Type» → Sized) → «Type» → Word → Sized
@@ -192,11 +194,11 @@ module _ (rows : List ℕ) (typeSize : «Type» → Sized) where
   -- a structure's size: what its Member records refuse comes first, ByteSize or not
   unfoldable pub membersSize : Word → Members → Sized
   membersSize size (members ms) = sizeOrEnds ms size
-  membersSize size (refused why) = Refused why
+  membersSize size (membersRefused why) = Refused why
 
 -- ---- the other entries that have a size
 
--- an enumeration, read whole: its ByteSize, without which it is refused (15)
+-- an enumeration, read whole: its ByteSize, without which it is membersRefused (15)
 unfoldable pub enumerationSize : EnumerationWhole → Sized
 enumerationSize (enumeration.Is e) = Is (e .«byte_size»)
 enumerationSize (enumeration.Refused why) = Refused why

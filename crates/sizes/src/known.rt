@@ -54,6 +54,7 @@ fn put_size(known: &mut [u64], i: usize, size: u32)
     put_three(known, i * KNOWN_WIDTH, 0, size as u64, 0);
 }
 
+// Row i is refused, as is known now.
 pub fn put_refusal(known: &mut [u64], i: usize, why: Refusal)
     requires { ⌜ i * knownWidth + knownWidth ≤ length (now known) ⌝ }
     ensures { λ _. ⌜ PutKnown i (Refused why) (now (known .entry)) (now (known .exit)) ⌝ }

@@ -43,7 +43,8 @@ ghost use Rattle.records.specs.PtrToMember.{ptrAt};
 ghost use Rattle.records.specs.Unions.{unionAt};
 ghost use Rattle.records.specs.Inside.Unions.{EndsAt};
 ghost use Rattle.sizes.specs.Inside.Kept.{faultKept, FaultsKept, RowsKept, StructureAsked};
-ghost use Rattle.sizes.specs.Inside.Prepare.{SmallPlace, memberFault, membersFault, structureFault, preparedArray, preparedStructure, preparedEnumeration, preparedUnion, preparedPointer, preparedRow};
+ghost use Rattle.sizes.specs.Inside.Prepare.{SmallPlace, memberFault, membersFault, structureFault, preparedArray, preparedStructure};
+ghost use Rattle.sizes.specs.Inside.Prepare.{preparedEnumeration, preparedUnion, preparedPointer, preparedRow};
 
 // How a row comes to its size.
 pub enum Shape {
@@ -65,6 +66,7 @@ pub enum Prepared {
     Refused(Refusal),
 }
 
+// How a row of this kind comes to its size.
 pub fn shape_of(kind: u32) -> Shape
     ensures { λ r. ⌜ r ≡ shapeOf kind ⌝ }
 {
@@ -82,6 +84,7 @@ pub fn shape_of(kind: u32) -> Shape
     }
 }
 
+// Is it a structure or a class?
 pub fn is_structure(kind: u32) -> bool
     ensures { λ r. ⌜ r ≡ isStructure (shapeOf kind) ⌝ }
 {
@@ -187,7 +190,10 @@ fn members_fault(
     i: usize,
 ) -> Fault
     requires { ⌜ EndsAt (settings .endian) (now s) (now rows) (now attrs) n i × FaultsKept settings (now s) (now rows) (now attrs) n (now kept) ⌝ }
-    ensures { λ r. ⌜ r ≡ membersFault settings (now (s .entry)) (now (rows .entry)) (now (attrs .entry)) n (kidsOf (settings .endian) (now (s .entry)) (now (rows .entry)) (now (attrs .entry)) n i) ⌝ }
+    ensures { λ r. ⌜
+        r ≡ membersFault settings (now (s .entry)) (now (rows .entry)) (now (attrs .entry)) n
+        (kidsOf (settings .endian) (now (s .entry)) (now (rows .entry)) (now (attrs .entry)) n i)
+        ⌝ }
 {
     let e = settings.endian;
     let end = kept_sibling(s, e, rows, attrs, n, kept, i);

@@ -34,7 +34,8 @@ ghost use Rattle.links.specs.Inside.Kids.{kidsOf};
 ghost use Rattle.records.specs.Inside.Enumeration.{AskedShort};
 ghost use Rattle.sizes.specs.Size.{fundamentalSize, rowSize, sizeOfKey, sizeOfType};
 ghost use Rattle.sizes.specs.Inside.Kept.{AllKept, MemberAsked};
-ghost use Rattle.sizes.specs.Inside.Size.{Ready, EndsShort, memberAdded, grown, arrayProduct, childEnd, endsOver, entryFrom, typeFrom};
+ghost use Rattle.sizes.specs.Inside.Size.{TableReady, EndsShort, memberAdded, grown, arrayProduct, childEnd, endsOver, entrySizeFrom};
+ghost use Rattle.sizes.specs.Inside.Size.{typeSizeFrom};
 
 // A fundamental type's line of the settings' table; 18 at 0 for a number that has none.
 pub fn fundamental_size(sizes: &[u32], number: u16) -> Sized
@@ -95,8 +96,10 @@ pub(crate) fn type_size(
     levels: usize,
     of: Type,
 ) -> Sized
-    requires { ⌜ Ready (now s) (now rows) n × AllKept settings (now sizes) (now s) (now rows) (now attrs) n (now known) (now kept) ⌝ }
-    ensures { λ r. ⌜ r ≡ typeFrom settings (now (sizes .entry)) (now (s .entry)) (now (rows .entry)) (now (attrs .entry)) n (now (known .entry)) levels of ⌝ }
+    requires { ⌜ TableReady (now s) (now rows) n × AllKept settings (now sizes) (now s) (now rows) (now attrs) n (now known) (now kept) ⌝ }
+    ensures { λ r. ⌜
+        r ≡ typeSizeFrom settings (now (sizes .entry)) (now (s .entry)) (now (rows .entry)) (now (attrs .entry)) n (now (known .entry)) levels of
+        ⌝ }
 {
     if of.pointer {
         return Sized::Is(4);
@@ -123,8 +126,10 @@ pub(crate) fn entry_size(
     levels: usize,
     key: u32,
 ) -> Sized
-    requires { ⌜ Ready (now s) (now rows) n × AllKept settings (now sizes) (now s) (now rows) (now attrs) n (now known) (now kept) ⌝ }
-    ensures { λ r. ⌜ r ≡ entryFrom settings (now (sizes .entry)) (now (s .entry)) (now (rows .entry)) (now (attrs .entry)) n (now (known .entry)) levels key ⌝ }
+    requires { ⌜ TableReady (now s) (now rows) n × AllKept settings (now sizes) (now s) (now rows) (now attrs) n (now known) (now kept) ⌝ }
+    ensures { λ r. ⌜
+        r ≡ entrySizeFrom settings (now (sizes .entry)) (now (s .entry)) (now (rows .entry)) (now (attrs .entry)) n (now (known .entry)) levels key
+        ⌝ }
 {
     match find_row(rows, n, key) {
         Found::At(i) => {
@@ -165,7 +170,10 @@ pub fn row_size(
     i: usize,
 ) -> Sized
     requires { ⌜ AskedShort (now s) (now rows) n i × AllKept settings (now sizes) (now s) (now rows) (now attrs) n (now known) (now kept) ⌝ }
-    ensures { λ r. ⌜ r ≡ rowSize settings (now (s .entry)) (now (rows .entry)) (now (attrs .entry)) n (typeFrom settings (now (sizes .entry)) (now (s .entry)) (now (rows .entry)) (now (attrs .entry)) n (now (known .entry)) levels) i ⌝ }
+    ensures { λ r. ⌜
+        r ≡ rowSize settings (now (s .entry)) (now (rows .entry)) (now (attrs .entry)) n
+        (typeSizeFrom settings (now (sizes .entry)) (now (s .entry)) (now (rows .entry)) (now (attrs .entry)) n (now (known .entry)) levels) i
+        ⌝ }
 {
     match prepare_row(s, settings, rows, attrs, n, kept, i) {
         Prepared::Size(size) => Sized::Is(size),
@@ -194,7 +202,10 @@ fn read_added(
     c: usize,
 ) -> Added
     requires { ⌜ MemberAsked settings (now sizes) (now s) (now rows) (now attrs) n (now known) (now kept) c ⌝ }
-    ensures { λ r. ⌜ r ≡ memberAdded settings (now (s .entry)) (now (rows .entry)) (now (attrs .entry)) n (typeFrom settings (now (sizes .entry)) (now (s .entry)) (now (rows .entry)) (now (attrs .entry)) n (now (known .entry)) levels) c ⌝ }
+    ensures { λ r. ⌜
+        r ≡ memberAdded settings (now (s .entry)) (now (rows .entry)) (now (attrs .entry)) n
+        (typeSizeFrom settings (now (sizes .entry)) (now (s .entry)) (now (rows .entry)) (now (attrs .entry)) n (now (known .entry)) levels) c
+        ⌝ }
 {
     match member_at(s, settings, rows, attrs, n, c) {
         MemberRead::Is(member) => {
@@ -229,7 +240,10 @@ pub fn member_added(
     c: usize,
 ) -> Added
     requires { ⌜ MemberAsked settings (now sizes) (now s) (now rows) (now attrs) n (now known) (now kept) c ⌝ }
-    ensures { λ r. ⌜ r ≡ memberAdded settings (now (s .entry)) (now (rows .entry)) (now (attrs .entry)) n (typeFrom settings (now (sizes .entry)) (now (s .entry)) (now (rows .entry)) (now (attrs .entry)) n (now (known .entry)) levels) c ⌝ }
+    ensures { λ r. ⌜
+        r ≡ memberAdded settings (now (s .entry)) (now (rows .entry)) (now (attrs .entry)) n
+        (typeSizeFrom settings (now (sizes .entry)) (now (s .entry)) (now (rows .entry)) (now (attrs .entry)) n (now (known .entry)) levels) c
+        ⌝ }
 {
     if kept.len() > 0 {
         return added_kept(known, kept, c);
@@ -252,7 +266,10 @@ fn child_end(
     largest: u32,
 ) -> Sized
     requires { ⌜ AskedShort (now s) (now rows) n c × AllKept settings (now sizes) (now s) (now rows) (now attrs) n (now known) (now kept) ⌝ }
-    ensures { λ r. ⌜ r ≡ childEnd settings (now (s .entry)) (now (rows .entry)) (now (attrs .entry)) n (typeFrom settings (now (sizes .entry)) (now (s .entry)) (now (rows .entry)) (now (attrs .entry)) n (now (known .entry)) levels) largest c ⌝ }
+    ensures { λ r. ⌜
+        r ≡ childEnd settings (now (s .entry)) (now (rows .entry)) (now (attrs .entry)) n
+        (typeSizeFrom settings (now (sizes .entry)) (now (s .entry)) (now (rows .entry)) (now (attrs .entry)) n (now (known .entry)) levels) largest c
+        ⌝ }
 {
     let row = row_at(rows, c);
     if row.kind != 0x0d {
@@ -277,8 +294,14 @@ fn ends_size(
     levels: usize,
     i: usize,
 ) -> Sized
-    requires { ⌜ EndsShort settings (now s) (now rows) (now attrs) n i × AllKept settings (now sizes) (now s) (now rows) (now attrs) n (now known) (now kept) ⌝ }
-    ensures { λ r. ⌜ r ≡ endsOver settings (now (s .entry)) (now (rows .entry)) (now (attrs .entry)) n (typeFrom settings (now (sizes .entry)) (now (s .entry)) (now (rows .entry)) (now (attrs .entry)) n (now (known .entry)) levels) 0 (kidsOf (settings .endian) (now (s .entry)) (now (rows .entry)) (now (attrs .entry)) n i) ⌝ }
+    requires { ⌜
+        EndsShort settings (now s) (now rows) (now attrs) n i × AllKept settings (now sizes) (now s) (now rows) (now attrs) n (now known) (now kept)
+        ⌝ }
+    ensures { λ r. ⌜
+        r ≡ endsOver settings (now (s .entry)) (now (rows .entry)) (now (attrs .entry)) n
+        (typeSizeFrom settings (now (sizes .entry)) (now (s .entry)) (now (rows .entry)) (now (attrs .entry)) n (now (known .entry)) levels) 0
+        (kidsOf (settings .endian) (now (s .entry)) (now (rows .entry)) (now (attrs .entry)) n i)
+        ⌝ }
 {
     let e = settings.endian;
     let end = kept_sibling(s, e, rows, attrs, n, kept, i);
@@ -327,7 +350,9 @@ pub fn size_of_key(
     counts: Counts,
     key: u32,
 ) -> Sized
-    ensures { λ r. ⌜ r ≡ sizeOfKey settings (now (vendors .entry)) (now (sizes .entry)) (now (s .entry)) (now (rows .entry)) (now (attrs .entry)) counts key ⌝ }
+    ensures { λ r. ⌜
+        r ≡ sizeOfKey settings (now (vendors .entry)) (now (sizes .entry)) (now (s .entry)) (now (rows .entry)) (now (attrs .entry)) counts key
+        ⌝ }
 {
     match check_table(s, settings, vendors, sizes, rows, attrs, counts) {
         Check::Passed => {
@@ -360,7 +385,9 @@ pub fn size_of_type(
     counts: Counts,
     of: Type,
 ) -> Sized
-    ensures { λ r. ⌜ r ≡ sizeOfType settings (now (vendors .entry)) (now (sizes .entry)) (now (s .entry)) (now (rows .entry)) (now (attrs .entry)) counts of ⌝ }
+    ensures { λ r. ⌜
+        r ≡ sizeOfType settings (now (vendors .entry)) (now (sizes .entry)) (now (s .entry)) (now (rows .entry)) (now (attrs .entry)) counts of
+        ⌝ }
 {
     match check_table(s, settings, vendors, sizes, rows, attrs, counts) {
         Check::Passed => {

@@ -23,7 +23,8 @@ refusedAt place why = record { reason = why; place = place }
 -- an answer that is given where all three tests pass; `refused` makes a refusal an answer
 unfoldable pub afterTests : {A : Type 0} → Bool → Bool → Bool → (Refusal → A) → A → A
 afterTests settings short table refused answer =
-    cond settings (cond short (cond table answer (refused (refusedAt 0 reason.Table))) (refused (refusedAt 0 reason.Long))) (refused (refusedAt 0 reason.Settings))
+    cond settings (cond short (cond table answer (refused (refusedAt 0 reason.Table))) (refused (refusedAt 0 reason.Long)))
+    (refused (refusedAt 0 reason.Settings))
 
 -- the same, the tests being those of settings, section and table
 unfoldable pub tested : {A : Type 0} → Settings → List ℕ → List ℕ → List ℕ → List ℕ → List ℕ → Counts → (Refusal → A) → A → A

@@ -16,6 +16,6 @@ rowBy key refused there (At i) = there i
 rowBy key refused there Nothing = refused (refusedAt key reason.Entry)
 
 -- an answer from the row of a key, after the tests; `refused` makes a refusal an answer
-unfoldable pub inRow : {A : Type 0} → Settings → List ℕ → List ℕ → List ℕ → List ℕ → List ℕ → Counts → ℕ → (Refusal → A) → (ℕ → A) → A
-inRow settings vendors sizes s rows attrs counts key refused there =
+unfoldable pub inRowOfKey : {A : Type 0} → Settings → List ℕ → List ℕ → List ℕ → List ℕ → List ℕ → Counts → ℕ → (Refusal → A) → (ℕ → A) → A
+inRowOfKey settings vendors sizes s rows attrs counts key refused there =
     tested settings vendors sizes s rows attrs counts refused (rowBy key refused there (rowOfKey rows (counts .rows) key))

@@ -1,5 +1,5 @@
--- Rows and attributes in lent words: `Row` (the words, and what they say), `Test` (the table test, refusal 3), `Find` (the row of a key), `Check` (the
--- tests that every public call makes first).
+-- Rows and attributes in lent words: `Row` (the words, and what they say), `Test` (the table test, refusal 3), `Find` (the row of a key), `Check`
+-- (the tests that every public call makes first).
 pub mod Row
 pub mod Test
 pub mod Find

@@ -1,4 +1,5 @@
--- Rows and attributes as words. A row is 5 words: key, kind, flags, first attribute, number of attributes. An attribute is 2: number, place of its value.
+-- Rows and attributes as words. A row is 5 words: key, kind, flags, first attribute, number of attributes. An attribute is 2: number, place of its
+-- value.
 use Prim.Native.Nat.{ℕ, zero, suc, _+_, _*_, _/_, _%_}
 use mathlib.Core.Bool.{Bool, cond}
 use mathlib.Core.List.{List, [], _∷_, _++_}
@@ -15,6 +16,7 @@ use Rattle.tables.specs.declared.row.Attr.{Attr}
 abbrev pub rowWidth : ℕ
 rowWidth = 5
 
+-- the words of an attribute
 abbrev pub attrWidth : ℕ
 attrWidth = 2
 
@@ -22,6 +24,7 @@ attrWidth = 2
 unfoldable pub rowWords : Row → List ℕ
 rowWords r = r .key ∷ r .kind ∷ r .flags ∷ r .first ∷ r .count ∷ []
 
+-- an attribute as words
 unfoldable pub attrWords : Attr → List ℕ
 attrWords a = a .number ∷ a .value ∷ []
 
@@ -30,6 +33,7 @@ unfoldable pub rowsWords : List Row → List ℕ
 rowsWords [] = []
 rowsWords (r ∷ rest) = rowWords r ++ rowsWords rest
 
+-- attributes one after the other
 unfoldable pub attrsWords : List Attr → List ℕ
 attrsWords [] = []
 attrsWords (a ∷ rest) = attrWords a ++ attrsWords rest
@@ -45,6 +49,7 @@ rowAt t i =
       count = getD t (i * rowWidth + 4) 0;
     }
 
+-- attribute i of a table
 unfoldable pub attrAt : List ℕ → ℕ → Attr
 attrAt t i = record { number = getD t (i * attrWidth) 0; value = getD t (i * attrWidth + 1) 0 }
 
@@ -53,6 +58,7 @@ unfoldable pub rowsFrom : List ℕ → ℕ → ℕ → List Row
 rowsFrom t i zero = []
 rowsFrom t i (suc n) = rowAt t i ∷ rowsFrom t (suc i) n
 
+-- n attributes of a table from i on
 unfoldable pub attrsFrom : List ℕ → ℕ → ℕ → List Attr
 attrsFrom t i zero = []
 attrsFrom t i (suc n) = attrAt t i ∷ attrsFrom t (suc i) n
@@ -61,6 +67,7 @@ attrsFrom t i (suc n) = attrAt t i ∷ attrsFrom t (suc i) n
 abbrev pub putRow : List ℕ → ℕ → Row → List ℕ
 putRow t i r = sets t (i * rowWidth) (rowWords r)
 
+-- a table with attribute i stored
 abbrev pub putAttr : List ℕ → ℕ → Attr → List ℕ
 putAttr t i a = sets t (i * attrWidth) (attrWords a)
 
@@ -68,6 +75,7 @@ putAttr t i a = sets t (i * attrWidth) (attrWords a)
 unfoldable pub erasedRow : ℕ → Bool
 erasedRow flags = eqb (flags % 2) 1
 
+-- the data endianness that flags say
 unfoldable pub endianOf : ℕ → Endian
 endianOf flags = cond (eqb (flags / 4 % 2) 1) Little Big
 

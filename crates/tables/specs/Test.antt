@@ -6,7 +6,7 @@ use mathlib.Core.List.{List}
 use lib.ListN.{length}
 use lib.Dec.{leb, ltb, eqb}
 use Rattle.numbers.specs.declared.Endian.{Endian}
-use Rattle.format.specs.Lookup.{member}
+use Rattle.format.specs.Lookup.{isOn}
 use Rattle.format.specs.TagKind.{tags}
 use Rattle.format.specs.Known.{known}
 use Rattle.format.specs.FormKind.{formOf}
@@ -43,7 +43,7 @@ module _ (s vendors : List ℕ) where
   -- a row whose key may be no lower than `least`, and whose run must begin at `run`: known kind and flags, a run inside the table
   unfoldable pub rowHolds : List ℕ → ℕ → ℕ → ℕ → Row → Bool
   rowHolds attrs total least run r =
-      leb least (r .key) && ltb (r .key) (length s) && member (r .kind) tags && leb (r .flags) 7 && eqb (r .first) run && leb (run + r .count) total
+      leb least (r .key) && ltb (r .key) (length s) && isOn (r .kind) tags && leb (r .flags) 7 && eqb (r .first) run && leb (run + r .count) total
       && runHolds (endianOf (r .flags)) attrs run (r .count)
 
   -- n rows of the table from i on: keys rise by 4 or more, runs are consecutive up to the last attribute
@@ -57,5 +57,5 @@ module _ (s vendors : List ℕ) where
   tableHolds rows attrs counts = fitting counts (length rows) (length attrs) && rowsHold rows attrs (counts .attrs) 0 (counts .rows) 0 0
 
   -- what passes: the crates above take this as what they require
-  pub record Checked (rows attrs : List ℕ) (counts : Counts) : Type 0 where
+  pub record TableHolds (rows attrs : List ℕ) (counts : Counts) : Type 0 where
     pub holds : tableHolds rows attrs counts ≡ true

@@ -20,6 +20,7 @@ fn refuse(reason: Reason) -> Check
     Check::Refused(Refusal { reason, place: 0 })
 }
 
+// The tests that every call on a table makes first: 1 settings, 2 long, 3 table.
 pub fn check_table(
     s: &[u8],
     settings: Settings,

@@ -10,7 +10,7 @@ use format::settings::Settings;
 ghost use mathlib.Core.Path.{_≡_};
 ghost use Rattle.tables.specs.Find.{rowOfKey};
 ghost use Rattle.tables.specs.Inside.Find.{Rising};
-ghost use Rattle.tables.specs.Keyed.{rowBy, inRow};
+ghost use Rattle.tables.specs.Keyed.{rowBy, inRowOfKey};
 
 // The row that has a key.
 pub enum Keyed {
@@ -43,7 +43,10 @@ pub fn row_of(
     counts: Counts,
     key: u32,
 ) -> Keyed
-    ensures { λ r. ⌜ r ≡ inRow settings (now (vendors .entry)) (now (sizes .entry)) (now (s .entry)) (now (rows .entry)) (now (attrs .entry)) counts key Keyed.Refused Keyed.Row ⌝ }
+    ensures { λ r. ⌜
+        r ≡ inRowOfKey settings (now (vendors .entry)) (now (sizes .entry)) (now (s .entry)) (now (rows .entry))
+        (now (attrs .entry)) counts key Keyed.Refused Keyed.Row
+        ⌝ }
 {
     match check_table(s, settings, vendors, sizes, rows, attrs, counts) {
         Check::Passed => find_key(rows, counts.rows, key),

@@ -7,6 +7,7 @@ use lent::cells::put_cell;
 ghost use mathlib.Core.Path.{_≡_};
 ghost use Rattle.tables.specs.Row.{putRow, putAttr};
 
+// Row i stored; what does not fit is not.
 pub fn put_row(rows: &mut [u32], i: usize, row: Row)
     ensures { λ _. ⌜ now (rows .exit) ≡ putRow (now (rows .entry)) i row ⌝ }
 {
@@ -20,6 +21,7 @@ pub fn put_row(rows: &mut [u32], i: usize, row: Row)
     }
 }
 
+// Attribute i stored; what does not fit is not.
 pub fn put_attr(attrs: &mut [u32], i: usize, attr: Attr)
     ensures { λ _. ⌜ now (attrs .exit) ≡ putAttr (now (attrs .entry)) i attr ⌝ }
 {

@@ -1,5 +1,5 @@
--- The tree of n rows, over one thing alone: the end of each row's reach. Row i's reach runs from row i up to, and not with, row `reach i`; where that is 0,
--- row i has a bad reference and no reach.
+-- The tree of n rows, over one thing alone: the end of each row's reach. Row i's reach runs from row i up to, and not with, row `reach i`; where
+-- that is 0, row i has a bad reference and no reach.
 use Prim.Native.Nat.{ℕ}
 use mathlib.Core.Bool.{Bool, not, _&&_, _||_}
 use lib.Dec.{leb, ltb, eqb}
@@ -35,5 +35,6 @@ module _ (n : ℕ) (reach : ℕ → ℕ) where
   unfoldable pub firstFault : ℕ
   firstFault = firstFrom faulty 0 n
 
+  -- the first row that lies too deep, n where there is none
   unfoldable pub firstDeep : ℕ
   firstDeep = firstFrom deep 0 n

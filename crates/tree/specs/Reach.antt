@@ -19,8 +19,8 @@ unfoldable pub laterRow : ℕ → Found → ℕ
 laterRow i (At j) = cond (ltb i j) j 0
 laterRow i Nothing = 0
 
--- row i's reach ends after it without a reference, after the last row where the reference names the section's end, else at the row it names, which must be a
--- later one: 0 is a bad reference
+-- row i's reach ends after it without a reference, after the last row where the reference names the section's end, else at the row it names, which
+-- must be a later one: 0 is a bad reference
 unfoldable pub reachBy : List ℕ → List ℕ → ℕ → ℕ → Reference → ℕ
 reachBy s rows n i (reference.To key) = cond (eqb key (length s)) n (laterRow i (rowOfKey rows n key))
 reachBy s rows n i reference.Nothing = suc i

@@ -6,16 +6,16 @@ use Rattle.lent.specs.Outcome.{Outcomes}
 use Rattle.format.specs.TagKind as tag
 use Rattle.format.specs.InputA.{settingsA as settings}
 use Rattle.tables.specs.declared.row.Row.{Row}
-use Rattle.entries.specs.Section.{readSection}
+use Rattle.entries.specs.Section.{readDebugSection}
 use Rattle.entries.specs.declared.section.Section.{Section}
 
 -- each size is 4, as in the listing program
-unfoldable pub sizes : List ℕ
-sizes = replicate 28 4
+unfoldable pub fourEach : List ℕ
+fourEach = replicate 28 4
 
 -- what reading a section into lent tables must come to
 abbrev pub reading : List ℕ → List ℕ → List ℕ → Outcomes Section ℕ ℕ
-reading s rows attrs = readSection settings [] sizes s rows attrs
+reading s rows attrs = readDebugSection settings [] fourEach s rows attrs
 
 -- an entry's row: big-endian, not erased
 abbrev pub rowOf : ℕ → ℕ → ℕ → ℕ → Row
@@ -27,8 +27,9 @@ rowOf key kind first count = record { key = key; kind = kind; flags = 0; first =
 abbrev pub nullSection : List ℕ
 nullSection = 0x00 ∷ 0x00 ∷ 0x00 ∷ 0x00 ∷ []
 
-abbrev pub nullRow : Row
-nullRow = rowOf 0 tag.Padding 0 0
+-- its row
+abbrev pub firstNull : Row
+firstNull = rowOf 0 tag.Padding 0 0
 
 -- a structure and a subroutine, each with an empty name: an ordinary entry has an attribute, and this is the shortest
 abbrev pub twoSection : List ℕ

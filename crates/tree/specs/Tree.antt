@@ -1,5 +1,5 @@
--- The tree listing, the public call: 1, 2, 3; 12 for an erased row, 9 for a row at fault, 10 for a row that lies too deep, each at the first such row in file
--- order; 8 with the count of rows; else the listing.
+-- The tree listing, the public call: 1, 2, 3; 12 for an erased row, 9 for a row at fault, 10 for a row that lies too deep, each at the first such
+-- row in file order; 8 with the count of rows; else the listing.
 use Prim.Native.Nat.{ℕ, zero, suc, _*_}
 use mathlib.Core.Bool.{cond}
 use mathlib.Core.List.{List, [], _∷_}
@@ -37,15 +37,15 @@ abbrev pub faultAtRow : List ℕ → List ℕ → ℕ → Reason → Outcome Lis
 faultAtRow rows room i why = outcome (Refused (refusedAt (rowAt rows i .key) why)) room
 
 -- the listing of n rows with these reaches, into lent room; nothing is written on a refusal
-unfoldable pub listed : List ℕ → ℕ → (ℕ → ℕ) → List ℕ → Outcome Listing ℕ
-listed rows n reach room =
+unfoldable pub listingOf : List ℕ → ℕ → (ℕ → ℕ) → List ℕ → Outcome Listing ℕ
+listingOf rows n reach room =
     cond (ltb (firstErased rows n) n) (faultAtRow rows room (firstErased rows n) reason.Kind)
     (cond (ltb (firstFault n reach) n) (faultAtRow rows room (firstFault n reach) reason.Link)
     (cond (ltb (firstDeep n reach) n) (faultAtRow rows room (firstDeep n reach) reason.Depth)
     (cond (leb (n * placeWidth) (length room)) (outcome (Listed n) (sets room 0 (placesFrom n reach 0 n))) (outcome (Room n) room))))
 
 -- `list_tree`: the tests, then the listing
-unfoldable pub treeOf : Settings → List ℕ → List ℕ → List ℕ → List ℕ → List ℕ → Counts → List ℕ → Outcome Listing ℕ
-treeOf settings vendors sizes s rows attrs counts room =
+unfoldable pub listTree : Settings → List ℕ → List ℕ → List ℕ → List ℕ → List ℕ → Counts → List ℕ → Outcome Listing ℕ
+listTree settings vendors sizes s rows attrs counts room =
     tested settings vendors sizes s rows attrs counts (λ why. outcome (Refused why) room)
-    (listed rows (counts .rows) (λ i. reachEnd (settings .endian) s rows attrs (counts .rows) i) room)
+    (listingOf rows (counts .rows) (λ i. reachEnd (settings .endian) s rows attrs (counts .rows) i) room)

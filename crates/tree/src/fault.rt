@@ -6,8 +6,8 @@ ghost use Prim.Native.Nat.{suc};
 ghost use Rattle.tables.specs.Inside.Find.{Rising};
 ghost use Rattle.links.specs.Inside.Links.{AtRow};
 ghost use Rattle.tree.specs.Reach.{reachEnd};
-ghost use Rattle.tree.specs.Inside.Fault.{Inside};
-ghost use Rattle.tree.specs.Inside.Passing.{chain, faultAt, faultFrom};
+ghost use Rattle.tree.specs.Inside.Fault.{ReachInside};
+ghost use Rattle.tree.specs.Inside.Passing.{chain, faultOfRow, faultFrom};
 
 // Along the rows inside row i's reach, which ends at `end`, from one to where its own reach ends: the first that goes past `end`, if it stands before b;
 // else b.
@@ -21,7 +21,7 @@ fn first_further(
     end: usize,
     b: usize,
 ) -> usize
-    requires { ⌜ Inside (now rows) n i end ⌝ }
+    requires { ⌜ ReachInside (now rows) n i end ⌝ }
     ensures { λ r. ⌜ r ≡ chain n (λ c. reachEnd e (now (s .entry)) (now (rows .entry)) (now (attrs .entry)) n c) end b n (suc i) ⌝ }
 {
     let mut c = i + 1;
@@ -45,7 +45,7 @@ fn first_further(
 // The first row at fault from row i on, where b is the first after it.
 fn fault_at(s: &[u8], e: Endian, rows: &[u32], attrs: &[u32], n: usize, i: usize, b: usize) -> usize
     requires { ⌜ AtRow (now rows) n i ⌝ }
-    ensures { λ r. ⌜ r ≡ faultAt n (λ c. reachEnd e (now (s .entry)) (now (rows .entry)) (now (attrs .entry)) n c) i b ⌝ }
+    ensures { λ r. ⌜ r ≡ faultOfRow n (λ c. reachEnd e (now (s .entry)) (now (rows .entry)) (now (attrs .entry)) n c) i b ⌝ }
 {
     let end = end_of(s, e, rows, attrs, n, i);
     if end == 0 {

@@ -18,7 +18,7 @@ ghost use Rattle.tables.specs.Check.{refusedAt};
 ghost use Rattle.tree.specs.Reach.{reachEnd};
 ghost use Rattle.tree.specs.Pick.{firstFrom};
 ghost use Rattle.tree.specs.Inside.Passing.{openDeep};
-ghost use Rattle.tree.specs.Tree.{firstErased, listed, treeOf};
+ghost use Rattle.tree.specs.Tree.{firstErased, listingOf, listTree};
 
 pub enum Listing {
     Listed(usize),
@@ -67,7 +67,10 @@ fn first_deep(s: &[u8], e: Endian, rows: &[u32], attrs: &[u32], n: usize) -> usi
 // All tests first, so that a refusal has written nothing.
 fn list(s: &[u8], e: Endian, rows: &[u32], attrs: &[u32], n: usize, room: &mut [u32]) -> Listing
     requires { ⌜ Rows (now rows) n ⌝ }
-    ensures { λ r. ⌜ Given (listed (now (rows .entry)) n (λ i. reachEnd e (now (s .entry)) (now (rows .entry)) (now (attrs .entry)) n i) (now (room .entry))) r (now (room .exit)) ⌝ }
+    ensures { λ r. ⌜
+        Given (listingOf (now (rows .entry)) n (λ i. reachEnd e (now (s .entry)) (now (rows .entry)) (now (attrs .entry)) n i) (now (room .entry))) r
+        (now (room .exit))
+        ⌝ }
 {
     let erased = first_erased(rows, n);
     if erased < n {
@@ -100,7 +103,10 @@ pub fn list_tree(
     counts: Counts,
     room: &mut [u32],
 ) -> Listing
-    ensures { λ r. ⌜ Given (treeOf settings (now (vendors .entry)) (now (sizes .entry)) (now (s .entry)) (now (rows .entry)) (now (attrs .entry)) counts (now (room .entry))) r (now (room .exit)) ⌝ }
+    ensures { λ r. ⌜
+        Given (listTree settings (now (vendors .entry)) (now (sizes .entry)) (now (s .entry)) (now (rows .entry)) (now (attrs .entry)) counts
+        (now (room .entry))) r (now (room .exit))
+        ⌝ }
 {
     match check_table(s, settings, vendors, sizes, rows, attrs, counts) {
         Check::Passed => {

@@ -61,7 +61,9 @@ pub(crate) fn list_rows(
     room: &mut [u32],
 ) -> usize
     requires { ⌜ Rows (now rows) n ⌝ }
-    ensures { λ r. ⌜ OpenListed (λ c. reachEnd e (now (s .entry)) (now (rows .entry)) (now (attrs .entry)) n c) n r (now (room .entry)) (now (room .exit)) ⌝ }
+    ensures { λ r. ⌜
+        OpenListed (λ c. reachEnd e (now (s .entry)) (now (rows .entry)) (now (attrs .entry)) n c) n r (now (room .entry)) (now (room .exit))
+        ⌝ }
 {
     let mut stack = [0u32; OPEN_LIMIT];
     let mut ends = [0u32; OPEN_LIMIT];

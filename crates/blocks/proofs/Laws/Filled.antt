@@ -12,8 +12,8 @@ use Rattle.lent.proofs.Laws.Filled.{sets-filled}
 use Rattle.lent.specs.Outcome.{Outcome, Given}
 use Rattle.numbers.proofs.Laws.Tests.{cond-all}
 use Rattle.numbers.specs.declared.Endian.{Endian}
-use Rattle.blocks.specs.Subscript.{subscriptOf}
-use Rattle.blocks.specs.Subscripts.{dimensionWords, Dimensions, elementOr, before, step, subscriptsFrom, wholeBlock, countSubscripts, intoRoom, readSubscripts}
+use Rattle.blocks.specs.Subscript.{nextSubscript}
+use Rattle.blocks.specs.Subscripts.{dimensionWords, Dimensions, elementOr, before, step, subscriptsFrom, wholeBlock, countSubscripts, dimensionsInto, processArraySubscriptData}
 use Rattle.blocks.specs.declared.types.Type.{«Type»}
 use Rattle.blocks.specs.declared.subscript.Subscript.{Subscript}
 use Rattle.blocks.specs.declared.subscript.Subscript.the-variants as subscript
@@ -58,9 +58,9 @@ from-complete e zero el n block = end-complete n el
 from-complete e (suc turns) el n block =
     let next : Element → ℕ → ℕ → Dimensions = λ el′ n′ used. subscriptsFrom e turns el′ n′ (drop used block) in
     let end : Dimensions = record { answer = elementOr n el; words = [] } in
-    elim (eqb (length block) 0) as (λ b. AllComplete n (elim b [ true ↦ end | false ↦ step next el n (subscriptOf e block) ])) [
+    elim (eqb (length block) 0) as (λ b. AllComplete n (elim b [ true ↦ end | false ↦ step next el n (nextSubscript e block) ])) [
       | true ↦ end-complete n el
-      | false ↦ step-complete next (λ el′ n′ used. from-complete e turns el′ n′ (drop used block)) el n (subscriptOf e block)
+      | false ↦ step-complete next (λ el′ n′ used. from-complete e turns el′ n′ (drop used block)) el n (nextSubscript e block)
     ]
 
 -- the theorem
@@ -80,8 +80,8 @@ Told words room room′ (subscripts.Refused why) = Unit
 Told words room room′ (subscripts.Room n) = Unit
 
 into-fills : (words room : List ℕ) (r : Counted) → ((t : «Type») (n : ℕ) → r ≡ counted.Are t n → length words ≡ n * 2)
-    → Told words room (intoRoom words room r .room) (intoRoom words room r .answer)
-unfolding intoRoom
+    → Told words room (dimensionsInto words room r .room) (dimensionsInto words room r .answer)
+unfolding dimensionsInto
 into-fills words room (counted.Are t n) p =
     cond-all (λ (o : Outcome Subscripts ℕ). Told words room (o .room) (o .answer)) (leb n (length room / 2))
     (λ h. let half : n ≤ length room / 2 = leb-true n (length room / 2) h in sets-filled words (n * 2) room (p t n refl) (omega arith) refl) (λ h. tt)
@@ -89,9 +89,9 @@ into-fills words room (counted.Refused why) p = tt
 
 -- the theorem of `subscripts::process_array_subscript_data`
 pub room-filled : (e : Endian) (block room : List ℕ) {t : «Type»} {n : ℕ} {room′ : List ℕ}
-    → Given (readSubscripts e block room) (subscripts.Read t n) room′ → Filled (wholeBlock e block .words) (n * 2) room room′
-unfolding readSubscripts
+    → Given (processArraySubscriptData e block room) (subscripts.Read t n) room′ → Filled (wholeBlock e block .words) (n * 2) room room′
+unfolding processArraySubscriptData
 room-filled e block room {room′ = room′} p =
     subst (λ (o : Subscripts). Told (wholeBlock e block .words) room room′ o) (sym (p .answer-is))
-    (subst (λ (u : List ℕ). Told (wholeBlock e block .words) room u (readSubscripts e block room .answer)) (sym (p .room-is))
+    (subst (λ (u : List ℕ). Told (wholeBlock e block .words) room u (processArraySubscriptData e block room .answer)) (sym (p .room-is))
     (into-fills (wholeBlock e block .words) room (countSubscripts e block) (λ t n q. words-many e block q)))

@@ -14,7 +14,7 @@ use Rattle.format.specs.declared.location_op.LocationOp.{LocationOp}
 use Rattle.format.specs.declared.location_op.LocationOp.the-variants.{Address, Const, Add}
 use Rattle.format.specs.declared.refusal.Refusal.{Refusal}
 use Rattle.format.specs.declared.refusal.Reason.the-variants as reason
-use Rattle.blocks.specs.Location.{refusedBlock, atomNumber, operandWidth, madeOf, operandAt, isRegister, isRegisterPlus, variableLocation, shapeOperand}
+use Rattle.blocks.specs.Location.{refusedBlock, atomNumber, operandWidth, madeOf, operandAt, isRegister, isRegisterPlus, processVariableLocation, shapeOperand}
 use Rattle.blocks.specs.declared.location.Located.the-variants as located
 use Rattle.blocks.specs.declared.location.VariableLocation.the-variants as variable
 
@@ -77,21 +77,21 @@ module _ (ops : List LocationOp) (e : Endian) (block : List ℕ) {made : Bool} (
   operand-refused h p = rw (← is, h) (ap located.Refused p)
 
 module _ (e : Endian) (block : List ℕ) {register : Bool} (is : register ≡ isRegister block) where
-  pub in-register : register ≡ true → {n : ℕ} → n ≡ operandAt e block 1 → variable.Register n ≡ variableLocation e block
-  unfolding variableLocation
+  pub in-register : register ≡ true → {n : ℕ} → n ≡ operandAt e block 1 → variable.Register n ≡ processVariableLocation e block
+  unfolding processVariableLocation
   in-register h p = rw (← is, h) (ap variable.Register p)
 
   module _ (no-register : register ≡ false) {address : Bool} (is-address : address ≡ madeOf (Address ∷ []) block 0) where
-    pub at-address : address ≡ true → {n : ℕ} → n ≡ operandAt e block 1 → variable.Address n ≡ variableLocation e block
-    unfolding variableLocation
+    pub at-address : address ≡ true → {n : ℕ} → n ≡ operandAt e block 1 → variable.Address n ≡ processVariableLocation e block
+    unfolding processVariableLocation
     at-address h p = rw (← is, no-register, ← is-address, h) (ap variable.Address p)
 
     module _ (no-address : address ≡ false) {plus : Bool} (is-plus : plus ≡ isRegisterPlus block) where
       pub at-register-plus : plus ≡ true → {r n : ℕ} → r ≡ operandAt e block 1 → n ≡ operandAt e block 6
-          → variable.RegisterPlus r n ≡ variableLocation e block
-      unfolding variableLocation
+          → variable.RegisterPlus r n ≡ processVariableLocation e block
+      unfolding processVariableLocation
       at-register-plus h p q = rw (← is, no-register, ← is-address, no-address, ← is-plus, h, p, q)
 
-      pub nowhere : plus ≡ false → {why : Refusal} → why ≡ refusedBlock reason.Block → variable.Refused why ≡ variableLocation e block
-      unfolding variableLocation
+      pub nowhere : plus ≡ false → {why : Refusal} → why ≡ refusedBlock reason.Block → variable.Refused why ≡ processVariableLocation e block
+      unfolding processVariableLocation
       nowhere h p = rw (← is, no-register, ← is-address, no-address, ← is-plus, h) (ap variable.Refused p)

@@ -10,7 +10,7 @@ use Rattle.format.specs.Modifier.{modifierOf}
 use Rattle.format.specs.declared.modifier.Modifier.{Modifier}
 use Rattle.format.specs.declared.refusal.Reason.the-variants as reason
 use Rattle.blocks.specs.Location.{refusedBlock}
-use Rattle.blocks.specs.Modifiers.{isKnown, isPointer, allKnown, anyPointer, modifiersOf}
+use Rattle.blocks.specs.Modifiers.{isKnown, isPointer, allKnown, anyPointer, processModifiers}
 use Rattle.blocks.specs.declared.modifiers.Modifiers.{Modifiers}
 use Rattle.blocks.specs.declared.modifiers.Modifiers.the-variants.{Known, Refused}
 
@@ -18,8 +18,8 @@ use Rattle.blocks.specs.declared.modifiers.Modifiers.the-variants.{Known
 unfoldable pub modifiersFrom : Bool → List ℕ → Modifiers
 modifiersFrom pointer ms = cond (allKnown ms) (Known (pointer || anyPointer ms)) (Refused (refusedBlock reason.Number))
 
-pub begin : (ms : List ℕ) → modifiersFrom false ms ≡ modifiersOf ms
-unfolding modifiersFrom modifiersOf
+pub begin : (ms : List ℕ) → modifiersFrom false ms ≡ processModifiers ms
+unfolding modifiersFrom processModifiers
 begin ms = refl
 
 module _ (block : List ℕ) (i : ℕ) (inside : i < length block) (pointer : Bool) {m : Modifier} (is : m ≡ modifierOf (getD block i 0)) {known : Bool}

@@ -19,7 +19,7 @@ use Rattle.numbers.specs.declared.Endian.{Endian}
 use Rattle.numbers.specs.declared.Endian.the-variants.{Big, Little}
 use Rattle.format.specs.declared.location_op.LocationOp.{LocationOp}
 use Rattle.format.specs.declared.location_op.LocationOp.the-variants.{Register, BaseRegister, Address, Const, Add, MwFpReg}
-use Rattle.blocks.specs.Location.{shapeOperand, atomNumber, operandWidth, madeOf, operandAt, isRegister, isRegisterPlus, offsetOf, addressOf, variableLocation}
+use Rattle.blocks.specs.Location.{shapeOperand, atomNumber, operandWidth, madeOf, operandAt, isRegister, isRegisterPlus, processOffset, processAddress, processVariableLocation}
 use Rattle.blocks.specs.Standard.{Atom, atom, writtenAtom, written, alone, plus, registerPlus}
 use Rattle.blocks.proofs.Laws.StandardRead.{atom-length}
 use Rattle.blocks.specs.declared.location.Located.{Located}
@@ -118,13 +118,13 @@ VariableIn e block (variable.RegisterPlus r n) = block ≡ written e (registerPl
 VariableIn e block (variable.Refused why) = Unit
 
 module _ (e : Endian) {block : List ℕ} (small : Bytes block) where
-  pub offset-only : {n : ℕ} → offsetOf e block ≡ located.Is n → block ≡ written e (plus n)
+  pub offset-only : {n : ℕ} → processOffset e block ≡ located.Is n → block ≡ written e (plus n)
   unfolding shapeOperand
   offset-only p =
       subst (LocatedIn e plus block) p
       (cond-all (LocatedIn e plus block) (madeOf (Const ∷ Add ∷ []) block 0) (λ h. plus-written e block small h) (λ h. tt))
 
-  pub address-only : {n : ℕ} → addressOf e block ≡ located.Is n → block ≡ written e (alone Address n)
+  pub address-only : {n : ℕ} → processAddress e block ≡ located.Is n → block ≡ written e (alone Address n)
   unfolding shapeOperand operandWidth
   address-only p =
       subst (LocatedIn e (alone Address) block) p
@@ -142,18 +142,18 @@ module _ (e : Endian) {block : List ℕ} (small : Bytes block) where
             ]
       ]
 
-  variable-in : VariableIn e block (variableLocation e block)
-  unfolding variableLocation operandWidth
+  variable-in : VariableIn e block (processVariableLocation e block)
+  unfolding processVariableLocation operandWidth
   variable-in =
       cond-all (VariableIn e block) (isRegister block) (λ h. in-register h)
       (λ h. cond-all (VariableIn e block) (madeOf (Address ∷ []) block 0) (λ k. alone-written e block small Address refl k)
       (λ k. cond-all (VariableIn e block) (isRegisterPlus block) (λ l. register-plus-written e block small l) (λ l. tt)))
 
-  pub register-only : {n : ℕ} → variableLocation e block ≡ variable.Register n → InRegister e block n
+  pub register-only : {n : ℕ} → processVariableLocation e block ≡ variable.Register n → InRegister e block n
   register-only p = subst (VariableIn e block) p variable-in
 
-  pub variable-address-only : {n : ℕ} → variableLocation e block ≡ variable.Address n → block ≡ written e (alone Address n)
+  pub variable-address-only : {n : ℕ} → processVariableLocation e block ≡ variable.Address n → block ≡ written e (alone Address n)
   variable-address-only p = subst (VariableIn e block) p variable-in
 
-  pub register-plus-only : {r n : ℕ} → variableLocation e block ≡ variable.RegisterPlus r n → block ≡ written e (registerPlus r n)
+  pub register-plus-only : {r n : ℕ} → processVariableLocation e block ≡ variable.RegisterPlus r n → block ≡ written e (registerPlus r n)
   register-plus-only p = subst (VariableIn e block) p variable-in

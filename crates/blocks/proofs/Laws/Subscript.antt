@@ -28,8 +28,8 @@ use Rattle.attributes.specs.Ahead.{ReadInside}
 use Rattle.attributes.proofs.Laws.Inside.{read-inside}
 use Rattle.attributes.specs.declared.read.Attribute.{Attribute}
 use Rattle.attributes.specs.declared.read.Attribute.the-variants as attribute
-use Rattle.blocks.specs.Location.{refusedBlock, offsetOf}
-use Rattle.blocks.specs.Subscript.{lowBound, knownIndex, indexed, oneMore, highBound, constBound, locationSize, asDimension, sizedDimension, sizedBy, highLocation, locationBound, elementOf, elementAs, elementAt, subscriptAs, subscriptOf}
+use Rattle.blocks.specs.Location.{refusedBlock, processOffset}
+use Rattle.blocks.specs.Subscript.{lowBound, knownIndex, indexed, oneMore, highBound, constBound, locationSize, asDimension, sizedDimension, highLocationBy, highLocation, locationBound, elementOf, elementAs, elementTypeAt, subscriptAs, nextSubscript}
 use Rattle.blocks.specs.declared.location.Located.{Located}
 use Rattle.blocks.specs.declared.location.Located.the-variants as located
 use Rattle.blocks.specs.declared.types.Type.{«Type»}
@@ -39,7 +39,7 @@ use Rattle.blocks.specs.declared.subscript.Index.{Index}
 use Rattle.blocks.specs.declared.subscript.Index.the-variants as index
 use Rattle.blocks.specs.declared.subscript.Subscript.{Subscript}
 use Rattle.blocks.specs.declared.subscript.Subscript.the-variants.{Dimension, Element, Refused}
-use Rattle.blocks.specs.Subscript.{Takes}
+use Rattle.blocks.specs.Subscript.{UsesInside}
 
 -- ---- index type and low bound
 
@@ -95,7 +95,7 @@ module _ (e : Endian) (location : List ℕ) where
   unfolding locationSize
   size-none z = rw (eq-eqb (length location) 0 z)
 
-  pub size-offset : {r : Located} → (length location ≡ 0 → ⊥) → r ≡ offsetOf e location → r ≡ locationSize e location
+  pub size-offset : {r : Located} → (length location ≡ 0 → ⊥) → r ≡ processOffset e location → r ≡ locationSize e location
   unfolding locationSize
   size-offset z h = h ∙ rw (ne-eqb (length location) 0 z)
 
@@ -110,12 +110,12 @@ module _ (e : Endian) (t : ℕ) (location : List ℕ) {told : Located} (is : tol
 
 module _ (e : Endian) (block : List ℕ) (t n : ℕ) where
   pub sized-there : {location : List ℕ} {r : Subscript} → there block 9 n ≡ true → location ≡ partAt block 9 n → r ≡ sizedDimension e t location
-      → r ≡ sizedBy e block t n
-  unfolding sizedBy
+      → r ≡ highLocationBy e block t n
+  unfolding highLocationBy
   sized-there h p q = q ∙ ap (sizedDimension e t) p ∙ rw h
 
-  pub sized-missing : {why : Refusal} → there block 9 n ≡ false → why ≡ refusedBlock reason.Block → Refused why ≡ sizedBy e block t n
-  unfolding sizedBy
+  pub sized-missing : {why : Refusal} → there block 9 n ≡ false → why ≡ refusedBlock reason.Block → Refused why ≡ highLocationBy e block t n
+  unfolding highLocationBy
   sized-missing h p = ap Refused p ∙ rw h
 
 -- ---- format 8
@@ -130,20 +130,20 @@ module _ (used : ℕ) {told is : Typed} (p : told ≡ is) where
   element-untyped q = ap (elementOf used) (sym q ∙ p)
 
 module _ (e : Endian) (block : List ℕ) {told : Attribute} (is : told ≡ readAttribute [] e block 1) where
-  pub element-of : {told′ : Attribute} {r : Subscript} → told ≡ told′ → r ≡ elementAs e block told′ → r ≡ elementAt e block
-  unfolding elementAt
+  pub element-of : {told′ : Attribute} {r : Subscript} → told ≡ told′ → r ≡ elementAs e block told′ → r ≡ elementTypeAt e block
+  unfolding elementTypeAt
   element-of q h = h ∙ ap (elementAs e block) (sym q ∙ is)
 
 -- ---- the subscript that a block begins with
 
 module _ (e : Endian) (block : List ℕ) where
-  pub no-subscript : {why : Refusal} → length block ≡ 0 → why ≡ refusedBlock reason.Block → Refused why ≡ subscriptOf e block
-  unfolding subscriptOf
+  pub no-subscript : {why : Refusal} → length block ≡ 0 → why ≡ refusedBlock reason.Block → Refused why ≡ nextSubscript e block
+  unfolding nextSubscript
   no-subscript z p = ap Refused p ∙ rw (eq-eqb (length block) 0 z)
 
   pub begins-with : {format : SubscriptFormat} {r : Subscript} → (length block ≡ 0 → ⊥) → format ≡ subscriptFormatOf (getD block 0 0)
-      → r ≡ subscriptAs e block format → r ≡ subscriptOf e block
-  unfolding subscriptOf
+      → r ≡ subscriptAs e block format → r ≡ nextSubscript e block
+  unfolding nextSubscript
   begins-with z p h = h ∙ ap (subscriptAs e block) p ∙ rw (ne-eqb (length block) 0 z)
 
 -- ---- what a subscript takes
@@ -156,38 +156,38 @@ length-part s from n h =
     rw h (length-take-le n (drop from s) (omega arith))
 
 module _ (e : Endian) (block : List ℕ) where
-  indexed-takes : (then : ℕ → Subscript) (i : Index) → ((t : ℕ) → Takes block (then t)) → Takes block (indexed then i)
+  indexed-takes : (then : ℕ → Subscript) (i : Index) → ((t : ℕ) → UsesInside block (then t)) → UsesInside block (indexed then i)
   unfolding indexed
   indexed-takes then (index.Is t) h = h t
   indexed-takes then (index.Refused why) h = tt
 
-  high-takes : (t : ℕ) → Takes block (highBound e block t)
+  high-takes : (t : ℕ) → UsesInside block (highBound e block t)
   unfolding highBound
   high-takes t =
-      read-all _ _ e 4 block 7 (Takes block) (λ h. let k : 7 + 4 ≤ length block = there-inside block 7 4 h in (omega arith, omega arith)) (λ h. tt)
+      read-all _ _ e 4 block 7 (UsesInside block) (λ h. let k : 7 + 4 ≤ length block = there-inside block 7 4 h in (omega arith, omega arith)) (λ h. tt)
 
-  dimension-takes : (t used : ℕ) (size : Located) → 1 ≤ used → used ≤ length block → Takes block (asDimension t used size)
+  dimension-takes : (t used : ℕ) (size : Located) → 1 ≤ used → used ≤ length block → UsesInside block (asDimension t used size)
   unfolding asDimension
   dimension-takes t used (located.Is size) h k = (h, k)
   dimension-takes t used (located.Refused why) h k = tt
 
-  sized-takes : (t n : ℕ) → Takes block (sizedBy e block t n)
-  unfolding sizedBy sizedDimension
+  sized-takes : (t n : ℕ) → UsesInside block (highLocationBy e block t n)
+  unfolding highLocationBy sizedDimension
   sized-takes t n =
-      cond-all (Takes block) (there block 9 n)
+      cond-all (UsesInside block) (there block 9 n)
       (λ h. let k : 9 + n ≤ length block = there-inside block 9 n h in
       let m : 9 + length (partAt block 9 n) ≤ length block = omega (arith, length-part block 9 n h) in dimension-takes t _ _ (omega arith) m) (λ h. tt)
 
-  location-takes : (t : ℕ) → Takes block (highLocation e block t)
+  location-takes : (t : ℕ) → UsesInside block (highLocation e block t)
   unfolding highLocation
-  location-takes t = read-all _ _ e 2 block 7 (Takes block) (λ h. sized-takes t (valueOf e 2 block 7)) (λ h. tt)
+  location-takes t = read-all _ _ e 2 block 7 (UsesInside block) (λ h. sized-takes t (valueOf e 2 block 7)) (λ h. tt)
 
-  typed-takes : (used : ℕ) (t : Typed) → 1 ≤ used → used ≤ length block → Takes block (elementOf used t)
+  typed-takes : (used : ℕ) (t : Typed) → 1 ≤ used → used ≤ length block → UsesInside block (elementOf used t)
   unfolding elementOf
   typed-takes used (typed.Is t) h k = (h, k)
   typed-takes used (typed.Refused why) h k = tt
 
-  element-takes : (a : Attribute) → readAttribute [] e block 1 ≡ a → Takes block (elementAs e block a)
+  element-takes : (a : Attribute) → readAttribute [] e block 1 ≡ a → UsesInside block (elementAs e block a)
   unfolding elementAs
   element-takes (attribute.Read number value next) p =
       let inside : ReadInside [] block 1 number value next = read-inside [] e block 1 p in
@@ -195,8 +195,8 @@ module _ (e : Endian) (block : List ℕ) where
   element-takes (attribute.Short field) p = tt
   element-takes (attribute.Unknown field) p = tt
 
-  as-takes : (f : SubscriptFormat) → Takes block (subscriptAs e block f)
-  unfolding subscriptAs constBound locationBound elementAt
+  as-takes : (f : SubscriptFormat) → UsesInside block (subscriptAs e block f)
+  unfolding subscriptAs constBound locationBound elementTypeAt
   as-takes FundTypeConstConst = indexed-takes _ _ high-takes
   as-takes FundTypeConstLocation = indexed-takes _ _ location-takes
   as-takes FundTypeLocationConst = tt
@@ -208,10 +208,10 @@ module _ (e : Endian) (block : List ℕ) where
   as-takes ElementType = element-takes _ refl
   as-takes Unknown = tt
 
-  takes : Takes block (subscriptOf e block)
-  unfolding subscriptOf
-  takes = cond-all (Takes block) (eqb (length block) 0) (λ h. tt) (λ h. as-takes _)
+  takes : UsesInside block (nextSubscript e block)
+  unfolding nextSubscript
+  takes = cond-all (UsesInside block) (eqb (length block) 0) (λ h. tt) (λ h. as-takes _)
 
   -- the theorem
-  pub used-inside : {r : Subscript} → subscriptOf e block ≡ r → Takes block r
-  used-inside p = subst (Takes block) p takes
+  pub used-inside : {r : Subscript} → nextSubscript e block ≡ r → UsesInside block r
+  used-inside p = subst (UsesInside block) p takes

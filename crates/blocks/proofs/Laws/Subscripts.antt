@@ -15,10 +15,10 @@ use Rattle.numbers.specs.declared.Endian.{Endian}
 use Rattle.format.specs.declared.refusal.Refusal.{Refusal}
 use Rattle.format.specs.declared.refusal.Reason.the-variants as reason
 use Rattle.blocks.specs.Location.{refusedBlock}
-use Rattle.blocks.specs.Subscript.{subscriptOf}
-use Rattle.blocks.specs.Subscript.{Takes}
+use Rattle.blocks.specs.Subscript.{nextSubscript}
+use Rattle.blocks.specs.Subscript.{UsesInside}
 use Rattle.blocks.proofs.Laws.Subscript.{used-inside}
-use Rattle.blocks.specs.Subscripts.{dimensionWords, Dimensions, elementOr, before, step, subscriptsFrom, wholeBlock, countSubscripts, intoRoom, readSubscripts}
+use Rattle.blocks.specs.Subscripts.{dimensionWords, Dimensions, elementOr, before, step, subscriptsFrom, wholeBlock, countSubscripts, dimensionsInto, processArraySubscriptData}
 use Rattle.blocks.specs.Inside.Subscripts.{Walked}
 use Rattle.blocks.specs.declared.types.Type.{«Type»}
 use Rattle.blocks.specs.declared.subscript.Subscript.{Subscript}
@@ -66,7 +66,7 @@ module _ (e : Endian) (el : Element) (n : ℕ) (block : List ℕ) where
 
   -- before it, one subscript and then the rest
   one-turn : (turns : ℕ) → 0 < length block → length block ≤ turns
-      → subscriptsFrom e turns el n block ≡ step (λ el′ n′ used. subscriptsFrom e (turns - 1) el′ n′ (drop used block)) el n (subscriptOf e block)
+      → subscriptsFrom e turns el n block ≡ step (λ el′ n′ used. subscriptsFrom e (turns - 1) el′ n′ (drop used block)) el n (nextSubscript e block)
   unfolding subscriptsFrom
   one-turn zero h k = absurd (omega arith)
   one-turn (suc turns) h k =
@@ -104,7 +104,7 @@ module _ {e : Endian} {block room₀ rest : List ℕ} {n : ℕ} {el : Element} {
         room-is = ap (λ (d : Dimensions). sets room (n * 2) (d .words)) (sym end) ∙ l .room-left;
       }
 
-  module _ (more : 0 < length rest) {told : Subscript} (is : told ≡ subscriptOf e rest) where
+  module _ (more : 0 < length rest) {told : Subscript} (is : told ≡ nextSubscript e rest) where
     -- the rest as a part that is handed on
     abbrev after : ℕ → List ℕ
     after used = take (length rest - used) (drop used rest)
@@ -118,7 +118,7 @@ module _ {e : Endian} {block room₀ rest : List ℕ} {n : ℕ} {el : Element} {
     turned : {r : Subscript} → told ≡ r → subscriptsFrom e (l .turns) el n rest ≡ step goesOn el n r
     turned p = one-turn e el n rest (l .turns) more (l .enough) ∙ ap (step goesOn el n) (sym is ∙ p)
 
-    inside : {r : Subscript} → told ≡ r → Takes rest r
+    inside : {r : Subscript} → told ≡ r → UsesInside rest r
     inside p = used-inside e rest (sym is ∙ p)
 
     pub dimension-inside : {index size used : ℕ} → told ≡ subscript.Dimension index size used → used ≤ length rest
@@ -190,26 +190,26 @@ module _ {e : Endian} {block room₀ rest : List ℕ} {n : ℕ} {el : Element} {
 -- ---- into lent room
 
 module _ (e : Endian) (block room : List ℕ) {told : Counted} (is : told ≡ countSubscripts e block) where
-  into : {t : Counted} → told ≡ t → intoRoom (wholeBlock e block .words) room t ≡ readSubscripts e block room
-  unfolding readSubscripts
-  into p = ap (intoRoom (wholeBlock e block .words) room) (sym p ∙ is)
+  into : {t : Counted} → told ≡ t → dimensionsInto (wholeBlock e block .words) room t ≡ processArraySubscriptData e block room
+  unfolding processArraySubscriptData
+  into p = ap (dimensionsInto (wholeBlock e block .words) room) (sym p ∙ is)
 
   -- an outcome that is known is the one that is told
-  outcome : {o : Outcome Subscripts ℕ} {t : Counted} → told ≡ t → o ≡ intoRoom (wholeBlock e block .words) room t
-      → Given (readSubscripts e block room) (o .answer) (o .room)
+  outcome : {o : Outcome Subscripts ℕ} {t : Counted} → told ≡ t → o ≡ dimensionsInto (wholeBlock e block .words) room t
+      → Given (processArraySubscriptData e block room) (o .answer) (o .room)
   outcome p q =
       record { answer-is = ap (λ (x : Outcome Subscripts ℕ). x .answer) (q ∙ into p); room-is = ap (λ (x : Outcome Subscripts ℕ). x .room) (q ∙ into p) }
 
   pub all-read : {t : «Type»} {n : ℕ} {r : Counted} {room′ : List ℕ} → told ≡ counted.Are t n → n ≤ length room / 2 → Walked e block r room room′
-      → Given (readSubscripts e block room) (subscripts.Read t n) room′
-  unfolding intoRoom
+      → Given (processArraySubscriptData e block room) (subscripts.Read t n) room′
+  unfolding dimensionsInto
   all-read {t} {n} {room′ = room′} p h w =
       outcome {o = record { answer = subscripts.Read t n; room = room′ }} p (rw (le-leb n (length room / 2) h, w .room-is))
 
-  pub no-room : {t : «Type»} {n : ℕ} → told ≡ counted.Are t n → length room / 2 < n → Given (readSubscripts e block room) (subscripts.Room n) room
-  unfolding intoRoom
+  pub no-room : {t : «Type»} {n : ℕ} → told ≡ counted.Are t n → length room / 2 < n → Given (processArraySubscriptData e block room) (subscripts.Room n) room
+  unfolding dimensionsInto
   no-room {n = n} p h = outcome {o = record { answer = subscripts.Room n; room = room }} p (rw (lt-leb n (length room / 2) h))
 
-  pub read-refused : {why : Refusal} → told ≡ counted.Refused why → Given (readSubscripts e block room) (subscripts.Refused why) room
-  unfolding intoRoom
+  pub read-refused : {why : Refusal} → told ≡ counted.Refused why → Given (processArraySubscriptData e block room) (subscripts.Refused why) room
+  unfolding dimensionsInto
   read-refused {why} p = outcome {o = record { answer = subscripts.Refused why; room = room }} p refl

@@ -20,8 +20,8 @@ use Rattle.format.specs.declared.refusal.Reason.the-variants as reason
 use Rattle.attributes.specs.Parts.{partAt, blockAt}
 use Rattle.attributes.specs.declared.decode.Endians.{Endians}
 use Rattle.blocks.specs.Location.{refusedBlock}
-use Rattle.blocks.specs.Modifiers.{modifiersOf}
-use Rattle.blocks.specs.Types.{withModifiers, modified, knownType, fundamental, fundType, userDefType, lastOf, modFundType, modUDType, typeAt}
+use Rattle.blocks.specs.Modifiers.{processModifiers}
+use Rattle.blocks.specs.Types.{withModifiers, modified, knownType, fundamental, fundType, userDefType, lastBytes, modFundType, modUDType, processType}
 use Rattle.blocks.specs.declared.modifiers.Modifiers.{Modifiers}
 use Rattle.blocks.specs.declared.modifiers.Modifiers.the-variants as modifiers
 use Rattle.blocks.specs.declared.types.TypeKind.{TypeKind}
@@ -31,7 +31,7 @@ use Rattle.blocks.specs.declared.types.Typed.the-variants.{Is, Refused}
 
 -- ---- modifiers, then a kind
 
-module _ (place : ℕ) (ms : List ℕ) (kind : TypeKind) {told : Modifiers} (is : told ≡ modifiersOf ms) where
+module _ (place : ℕ) (ms : List ℕ) (kind : TypeKind) {told : Modifiers} (is : told ≡ processModifiers ms) where
   pub modified-known : {pointer : Bool} → told ≡ modifiers.Known pointer
       → Is (record { kind = kind; place = place; count = length ms; pointer = pointer }) ≡ modified place ms kind
   unfolding modified withModifiers
@@ -53,28 +53,28 @@ module _ (place : ℕ) (ms : List ℕ) (n : ℕ) {told : FundType} (is : told �
 -- ---- a block whose last w bytes say the type
 
 module _ (w : ℕ) (e : Endian) (block : List ℕ) (type : List ℕ → ℕ → Typed) where
-  pub last-there : {n : ℕ} → w ≤ length block → Says e w block (length block - w) n → type (take (length block - w) block) n ≡ lastOf w e block type
-  unfolding lastOf
+  pub last-there : {n : ℕ} → w ≤ length block → Says e w block (length block - w) n → type (take (length block - w) block) n ≡ lastBytes w e block type
+  unfolding lastBytes
   last-there h q = rw (le-leb w (length block) h) (ap (type (take (length block - w) block)) (sym (q .is-value)))
 
-  pub last-missing : {why : Refusal} → length block < w → why ≡ refusedBlock reason.Block → Refused why ≡ lastOf w e block type
-  unfolding lastOf
+  pub last-missing : {why : Refusal} → length block < w → why ≡ refusedBlock reason.Block → Refused why ≡ lastBytes w e block type
+  unfolding lastBytes
   last-missing h p = rw (lt-leb w (length block) h) (ap Refused p)
 
   -- they are there where the block is long enough
-  pub last-short : {why : Refusal} → there block (length block - w) w ≡ false → why ≡ refusedBlock reason.Block → Refused why ≡ lastOf w e block type
+  pub last-short : {why : Refusal} → there block (length block - w) w ≡ false → why ≡ refusedBlock reason.Block → Refused why ≡ lastBytes w e block type
   unfolding there
   last-short h p = let k : length block < length block - w + w = leb-false (length block - w + w) (length block) h in last-missing (omega arith) p
 
 -- ---- by number
 
 module _ (ends : Endians) (s : List ℕ) (at : ℕ) where
-  pub type-of : {number n : ℕ} {r : Typed} → number ≡ n → r ≡ typeAt ends s n at → r ≡ typeAt ends s number at
-  type-of p h = h ∙ ap (λ (x : ℕ). typeAt ends s x at) (sym p)
+  pub type-of : {number n : ℕ} {r : Typed} → number ≡ n → r ≡ processType ends s n at → r ≡ processType ends s number at
+  type-of p h = h ∙ ap (λ (x : ℕ). processType ends s x at) (sym p)
 
   pub no-type : (number : ℕ) {why : Refusal} → (number ≡ 0x55 → ⊥) → (number ≡ 0x63 → ⊥) → (number ≡ 0x72 → ⊥) → (number ≡ 0x83 → ⊥)
-      → why ≡ refusedBlock reason.Block → Refused why ≡ typeAt ends s number at
-  unfolding typeAt
+      → why ≡ refusedBlock reason.Block → Refused why ≡ processType ends s number at
+  unfolding processType
   no-type number a b c d p = rw (ne-eqb number 0x55 a, ne-eqb number 0x63 b, ne-eqb number 0x72 c, ne-eqb number 0x83 d) (ap Refused p)
 
   none : Typed
@@ -85,8 +85,8 @@ module _ (ends : Endians) (s : List ℕ) (at : ℕ) where
   no-block w e h = reads-short (λ n. partAt s (at + w) n) [] e w s at (sym (not-there s at w h))
 
   -- past the end no attribute says a type
-  pub past-end : (number : ℕ) {why : Refusal} → length s < at → why ≡ refusedBlock reason.Block → Refused why ≡ typeAt ends s number at
-  unfolding typeAt fundType userDefType modFundType modUDType lastOf none
+  pub past-end : (number : ℕ) {why : Refusal} → length s < at → why ≡ refusedBlock reason.Block → Refused why ≡ processType ends s number at
+  unfolding processType fundType userDefType modFundType modUDType lastBytes none
   past-end number h p =
       ap Refused p
       ∙ cond-all (λ r. none ≡ r) (eqb number 0x55) (λ t. reads-short _ none _ 2 s at (sym (not-there s at 2 h)))

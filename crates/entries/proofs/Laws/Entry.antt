@@ -17,7 +17,7 @@ use Rattle.tables.specs.Row.{rowWords, rowsWords, attrsWords, putRow}
 use Rattle.tables.specs.declared.row.Attr.{Attr}
 use Rattle.entries.specs.Head.{headAt}
 use Rattle.entries.specs.Run.{Run, ran, failed}
-use Rattle.entries.specs.Entry.{Entry, stop, flip, littleFlag, flagOf, flagsOf, kindOf, ordinary, rooted, attributes, rootEndian, rootIn, entryFrom, entryAt}
+use Rattle.entries.specs.Entry.{Entry, stop, flip, littleFlag, flagOf, flagsOf, kindOf, ordinary, rooted, attributes, rootEndian, rootIn, entryFrom, readEntry}
 use Rattle.entries.specs.Inside.Promise.{HeadBounds, HeadRead, RunRead, RunStored, RunStores, runAnswer, farthest, Ready, advanced, NullRead, BodyReady, bodyAnswer, BodyStores, BodyRead, entryAnswer, EntryStores, EntryRead}
 use Rattle.entries.specs.declared.head.Head.{Head}
 use Rattle.entries.specs.declared.head.Head.the-variants as head
@@ -285,8 +285,8 @@ module _ (vendors : List ℕ) (global : ℕ) (s : List ℕ) (levels : ℕ) (isEr
 
 -- what an entry is goes by its head
 pub at-head : (vendors : List ℕ) (global : ℕ) (s : List ℕ) (erased : Bool) (levels : ℕ) (isErased : Bool) (e : Endian) (at a : ℕ) {r h : Head}
-    → r ≡ headAt erased s e at → r ≡ h → entryAt vendors global s erased levels isErased e at a ≡ entryFrom vendors global s levels isErased e at a h
-unfolding entryAt
+    → r ≡ headAt erased s e at → r ≡ h → readEntry vendors global s erased levels isErased e at a ≡ entryFrom vendors global s levels isErased e at a h
+unfolding readEntry
 at-head vendors global s erased levels isErased e at a p q = ap (entryFrom vendors global s levels isErased e at a) (sym p ∙ q)
 
 pub head-bounds : (s : List ℕ) (at : ℕ) {what r h : Head} → HeadRead s at what r → r ≡ h → HeadBounds s at h

@@ -26,12 +26,12 @@ use Rattle.tables.proofs.Laws.Checked.{attr-passes}
 use Rattle.tables.specs.declared.row.Row.{Row}
 use Rattle.tables.specs.declared.row.Attr.{Attr}
 use Rattle.tables.specs.declared.row.Counts.{Counts}
-use Rattle.entries.specs.Walk.{Walk, walked, refused, walkAt}
-use Rattle.entries.specs.Section.{wholeWalk, refusal, counts, stored, readSection}
+use Rattle.entries.specs.Walk.{Entries, entriesRead, entriesRefused, readTags}
+use Rattle.entries.specs.Section.{wholeWalk, refusal, counts, intoTables, readDebugSection}
 use Rattle.entries.proofs.Laws.KnownRun.{AllKnown, none-known, more-known}
 use Rattle.entries.proofs.Laws.RowsRead.{RowRead, RowsRead, no-rows, more-rows, WalkRows, walk-rows}
 use Rattle.entries.specs.declared.section.Section.the-variants.{Read, Room}
-use Rattle.entries.specs.Filled.{KeysRise, Filled}
+use Rattle.entries.specs.Filled.{KeysRise, TableFilled}
 use Rattle.entries.specs.declared.section.Section.{Section}
 
 -- ---- keys
@@ -50,11 +50,11 @@ rise-few top least (r ∷ rs) h rise =
 
 -- they so rise in the rows that a walk gives, from the place where it began
 pub keys-rise : (vendors : List ℕ) (global : ℕ) (erased : Bool) (s : List ℕ) (levels : ℕ) (isErased : Bool) (e : Endian) (end a at : ℕ) {rs : List Row}
-    {xs : List Attr} {place : ℕ} → walkAt vendors global erased s levels isErased e end a at ≡ walked rs xs place → KeysRise (length s) at rs
+    {xs : List Attr} {place : ℕ} → readTags vendors global erased s levels isErased e end a at ≡ entriesRead rs xs place → KeysRise (length s) at rs
 keys-rise vendors global erased s levels isErased e end a at whole =
     rows-rise (subst (WalkRows s vendors at a) whole (walk-rows s vendors global erased levels isErased e end a at))
 
-module _ (settings : Settings) (vendors s : List ℕ) {rs : List Row} {xs : List Attr} {place : ℕ} (whole : wholeWalk settings vendors s ≡ walked rs xs place) where
+module _ (settings : Settings) (vendors s : List ℕ) {rs : List Row} {xs : List Attr} {place : ℕ} (whole : wholeWalk settings vendors s ≡ entriesRead rs xs place) where
   -- the rows of the whole walk
   pub whole-rows : RowsRead s vendors 0 0 rs xs place
   unfolding wholeWalk
@@ -122,7 +122,7 @@ module _ (s vendors rows attrs : List ℕ) where
 module _ (settings : Settings) (vendors s rows attrs : List ℕ) (c : Counts) where
   -- an outcome that answers with these counts filled the tables
   abbrev Fills : Outcomes Section ℕ ℕ → Type 0
-  Fills o = o .answer ≡ Read c → Filled settings vendors s rows attrs c o
+  Fills o = o .answer ≡ Read c → TableFilled settings vendors s rows attrs c o
 
   -- a refusal answers no counts, nor does 8
   refused-fills : (why : Reason) (at : ℕ) → Fills (outcomes (refusal why at) rows attrs)
@@ -132,9 +132,9 @@ module _ (settings : Settings) (vendors s rows attrs : List ℕ) (c : Counts) wh
   room-fills n m p = let z : _≡_ {A = ℕ} 0 1 = cc in absurd (omega arith)
 
   -- what the walk gave, where it fits
-  stored-fills : (w : Walk) → wholeWalk settings vendors s ≡ w → Fills (stored w rows attrs)
-  unfolding stored
-  stored-fills (walked rs xs place) whole =
+  stored-fills : (w : Entries) → wholeWalk settings vendors s ≡ w → Fills (intoTables w rows attrs)
+  unfolding intoTables
+  stored-fills (entriesRead rs xs place) whole =
       let d : Counts = counts (length rs) (length xs) in
       cond-all Fills (fitting d (length rows) (length attrs))
       (λ t p. (let same : d ≡ c = cc in
@@ -152,11 +152,11 @@ module _ (settings : Settings) (vendors s rows attrs : List ℕ) (c : Counts) wh
         attrs-held = attrs-back attrs xs (room .attrs-lent);
       }))
       (λ t. room-fills (length rs) (length xs))
-  stored-fills (refused why at) whole = refused-fills why at
+  stored-fills (entriesRefused why at) whole = refused-fills why at
 
 -- ---- the theorems
 
-module _ {settings : Settings} {vendors s rows attrs : List ℕ} {c : Counts} {o : Outcomes Section ℕ ℕ} (filled : Filled settings vendors s rows attrs c o) where
+module _ {settings : Settings} {vendors s rows attrs : List ℕ} {c : Counts} {o : Outcomes Section ℕ ℕ} (filled : TableFilled settings vendors s rows attrs c o) where
   filled-few : c .rows * 4 ≤ length s
   filled-few =
       let few : 0 + length (filled .rs) * 4 ≤ length s =
@@ -176,10 +176,10 @@ module _ {settings : Settings} {vendors s rows attrs : List ℕ} {c : Counts} {o
       ∙ rw rows-counted
       (held-rows-pass s vendors (o .first) (o .second) (c .attrs) 0 (whole-rows settings vendors s (filled .whole)) (filled .rows-held) (filled .attrs-held) (omega arith))
 
-module _ (settings : Settings) (vendors sizes s rows attrs : List ℕ) (c : Counts) (answers : readSection settings vendors sizes s rows attrs .answer ≡ Read c) where
+module _ (settings : Settings) (vendors sizes s rows attrs : List ℕ) (c : Counts) (answers : readDebugSection settings vendors sizes s rows attrs .answer ≡ Read c) where
   -- an answer of counts filled the tables
-  pub answer-read : Filled settings vendors s rows attrs c (readSection settings vendors sizes s rows attrs)
-  unfolding readSection
+  pub answer-read : TableFilled settings vendors s rows attrs c (readDebugSection settings vendors sizes s rows attrs)
+  unfolding readDebugSection
   answer-read =
       let P : Outcomes Section ℕ ℕ → Type 0 = Fills settings vendors s rows attrs c in
       cond-all P (settingsHold settings vendors sizes)
@@ -191,5 +191,5 @@ module _ (settings : Settings) (vendors sizes s rows attrs : List ℕ) (c : Coun
   rows-at-most-quarter = filled-few answer-read
 
   -- and the table passes the test, with the same section and vendor list
-  pub filled-holds : tableHolds s vendors (readSection settings vendors sizes s rows attrs .first) (readSection settings vendors sizes s rows attrs .second) c ≡ true
+  pub filled-holds : tableHolds s vendors (readDebugSection settings vendors sizes s rows attrs .first) (readDebugSection settings vendors sizes s rows attrs .second) c ≡ true
   filled-holds = filled-passes answer-read

@@ -10,7 +10,7 @@ use borrow.Author.Tests.{le-leb, lt-leb, lt-ltb, le-ltb, eq-eqb, ne-eqb, leb-fal
 use Rattle.numbers.proofs.Laws.Tests.{cond-all}
 use Rattle.numbers.specs.Value.{readAt}
 use Rattle.numbers.specs.declared.Endian.{Endian}
-use Rattle.format.specs.Lookup.{member}
+use Rattle.format.specs.Lookup.{isOn}
 use Rattle.format.specs.TagKind.{tags}
 use Rattle.format.specs.TagKind as tag
 use Rattle.format.specs.declared.refusal.Reason.the-variants as reason
@@ -37,26 +37,26 @@ module _ (at size : ℕ) where
 
 -- a tag
 module _ (erased : Bool) (end kind : ℕ) where
-  pub tag-root : member kind tags ≡ true → kind ≡ tag.Padding → erased ≡ true → Root end ≡ tagHead erased end kind
+  pub tag-root : isOn kind tags ≡ true → kind ≡ tag.Padding → erased ≡ true → Root end ≡ tagHead erased end kind
   unfolding tagHead
   tag-root m p h = rw (m, eq-eqb kind tag.Padding p, h)
 
-  pub tag-skipped : member kind tags ≡ true → kind ≡ tag.Padding → erased ≡ false → Skipped end ≡ tagHead erased end kind
+  pub tag-skipped : isOn kind tags ≡ true → kind ≡ tag.Padding → erased ≡ false → Skipped end ≡ tagHead erased end kind
   unfolding tagHead
   tag-skipped m p h = rw (m, eq-eqb kind tag.Padding p, h)
 
-  pub tag-ordinary : member kind tags ≡ true → (kind ≡ tag.Padding → ⊥) → Ordinary kind end ≡ tagHead erased end kind
+  pub tag-ordinary : isOn kind tags ≡ true → (kind ≡ tag.Padding → ⊥) → Ordinary kind end ≡ tagHead erased end kind
   unfolding tagHead
   tag-ordinary m p = rw (m, ne-eqb kind tag.Padding p)
 
-  pub tag-unknown : member kind tags ≡ false → Refused reason.Tag ≡ tagHead erased end kind
+  pub tag-unknown : isOn kind tags ≡ false → Refused reason.Tag ≡ tagHead erased end kind
   unfolding tagHead
   tag-unknown m = rw m
 
   tag-bounds : (s : List ℕ) (at : ℕ) → at + 6 ≤ length s → at + 8 ≤ end → end ≤ at + 2 ^ 32 → HeadBounds s at (tagHead erased end kind)
   unfolding tagHead
   tag-bounds s at h k l =
-      cond-all (HeadBounds s at) (member kind tags)
+      cond-all (HeadBounds s at) (isOn kind tags)
       (λ m. cond-all (HeadBounds s at) (eqb kind tag.Padding)
       (λ p. cond-all (HeadBounds s at) erased (λ q. (h, l)) (λ q. (omega arith, omega arith, l))) (λ p. (h, l))) (λ m. tt)
 

@@ -24,7 +24,7 @@ use Rattle.attributes.specs.declared.read.Attribute.{Attribute}
 use Rattle.attributes.specs.declared.read.Attribute.the-variants.{Read, Short, Unknown}
 use Rattle.tables.proofs.Laws.Checked.{AttrKnown}
 use Rattle.tables.specs.declared.row.Attr.{Attr}
-use Rattle.entries.specs.Run.{Run, ran, failed, attr, first, readOn, runEnds, runFrom}
+use Rattle.entries.specs.Run.{Run, ran, failed, attr, first, readOn, runEnds, readRun}
 
 -- attributes of which each has a known number and a value that ends inside
 pub data AllKnown (s vendors : List ℕ) (e : Endian) : List Attr → Type 0 where
@@ -80,13 +80,13 @@ module _ (s vendors : List ℕ) (e : Endian) where
     seen high n = high || (root && eqb n number.HighPc)
 
     -- the theorem
-    pub run-known : (f : ℕ) (high : Bool) (at : ℕ) → RunKnown s vendors e at (runFrom vendors global s e root end f high at)
-    unfolding runFrom seen
+    pub run-known : (f : ℕ) (high : Bool) (at : ℕ) → RunKnown s vendors e at (readRun vendors global s e root end f high at)
+    unfolding readRun seen
     run-known zero high at = (none-known, le-refl at)
     run-known (suc f) high at =
         by-test (ltb at end)
-        (λ t. by-test (runEnds global s e high at) (λ u. rw (t, u, runFrom) (none-known, le-refl at))
-        (λ u. rw (t, u, runFrom)
-        (on-known at (readAttribute vendors e s at) (λ n next. runFrom vendors global s e root end f (seen high n) next) (attribute-known at)
+        (λ t. by-test (runEnds global s e high at) (λ u. rw (t, u, readRun) (none-known, le-refl at))
+        (λ u. rw (t, u, readRun)
+        (on-known at (readAttribute vendors e s at) (λ n next. readRun vendors global s e root end f (seen high n) next) (attribute-known at)
         (λ n next. run-known f (seen high n) next))))
-        (λ t. rw (t, runFrom) (none-known, le-refl at))
+        (λ t. rw (t, readRun) (none-known, le-refl at))

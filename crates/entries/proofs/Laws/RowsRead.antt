@@ -13,7 +13,7 @@ use Rattle.numbers.specs.Value.{valueOf}
 use Rattle.numbers.proofs.Laws.Value.{there-inside, read-all}
 use Rattle.numbers.specs.declared.Endian.{Endian}
 use Rattle.numbers.specs.declared.Endian.the-variants.{Big, Little}
-use Rattle.format.specs.Lookup.{member}
+use Rattle.format.specs.Lookup.{isOn}
 use Rattle.format.specs.TagKind.{tags}
 use Rattle.format.specs.TagKind as tag
 use Rattle.format.specs.declared.refusal.Reason.the-variants as reason
@@ -22,8 +22,8 @@ use Rattle.tables.specs.declared.row.Row.{Row}
 use Rattle.tables.specs.declared.row.Attr.{Attr}
 use Rattle.entries.specs.Head.{nullEnd, tagHead, sizeHead, headAt}
 use Rattle.entries.specs.Run.{Run, ran, failed}
-use Rattle.entries.specs.Entry.{Entry, next, inside, stop, row, flagOf, flagsOf, littleFlag, kindOf, ordinary, rooted, attributes, rootIn, entryFrom, entryAt}
-use Rattle.entries.specs.Walk.{Walk, walked, refused, join, andThen, onward, walkFrom, walkAt}
+use Rattle.entries.specs.Entry.{Entry, next, inside, stop, row, flagOf, flagsOf, littleFlag, kindOf, ordinary, rooted, attributes, rootIn, entryFrom, readEntry}
+use Rattle.entries.specs.Walk.{Entries, entriesRead, entriesRefused, join, entriesThen, onward, entriesFrom, readTags}
 use Rattle.entries.proofs.Laws.KnownRun.{AllKnown, none-known, RunKnown, by-test, run-known}
 use Rattle.entries.specs.declared.entry.Look.{Look}
 use Rattle.entries.specs.declared.entry.Look.the-variants.{Is, Short}
@@ -33,7 +33,7 @@ use Rattle.entries.specs.declared.head.Head.the-variants.{Null, Root, Re
 -- a row whose run begins at `run`, and its own attributes
 pub record RowRead (s vendors : List ℕ) (run : ℕ) (r : Row) (own : List Attr) : Type 0 where
   pub fits : r .key + 4 ≤ length s
-  pub is-tag : member (r .kind) tags ≡ true
+  pub is-tag : isOn (r .kind) tags ≡ true
   pub flags-small : r .flags ≤ 7
   pub run-begins : r .first ≡ run
   pub run-long : r .count ≡ length own
@@ -95,7 +95,7 @@ EntryRows s vendors at a (stop why) = Unit
 
 module _ (s vendors : List ℕ) (at a : ℕ) where
   -- the one row of an entry whose first four bytes are there
-  one-row : (isErased root : Bool) (e : Endian) (kind : ℕ) (xs : List Attr) {place : ℕ} → at + 4 ≤ length s → member kind tags ≡ true → AllKnown s vendors e xs
+  one-row : (isErased root : Bool) (e : Endian) (kind : ℕ) (xs : List Attr) {place : ℕ} → at + 4 ≤ length s → isOn kind tags ≡ true → AllKnown s vendors e xs
       → at + 4 ≤ place → RowsRead s vendors at a (row isErased root e at kind a xs ∷ []) xs place
   one-row isErased root e kind xs {place} room k known forward =
       let r : Row = row isErased root e at kind a xs in
@@ -111,14 +111,14 @@ module _ (s vendors : List ℕ) (at a : ℕ) where
       in
       subst (λ (own : List Attr). RowsRead s vendors at a (r ∷ []) own place) (append-nil xs) (more-rows (le-refl at) whole (no-rows forward))
 
-  ordinary-rows : (isErased : Bool) (e : Endian) (kind : ℕ) (r : Run) → at + 4 ≤ length s → member kind tags ≡ true → RunKnown s vendors e (at + 6) r
+  ordinary-rows : (isErased : Bool) (e : Endian) (kind : ℕ) (r : Run) → at + 4 ≤ length s → isOn kind tags ≡ true → RunKnown s vendors e (at + 6) r
       → EntryRows s vendors at a (ordinary isErased e at kind a r)
   unfolding ordinary kindOf
   ordinary-rows isErased e kind (ran xs high place) room k known = one-row isErased false e kind xs room k (known .0) (omega arith)
   ordinary-rows isErased e kind (failed why) room k known = tt
 
   rooted-rows : (e : Endian) (end : ℕ) (r : Run) → at + 4 ≤ length s → RunKnown s vendors e (at + 6) r → EntryRows s vendors at a (rooted e at end a r)
-  unfolding rooted kindOf tags member
+  unfolding rooted kindOf tags isOn
   rooted-rows e end (ran xs true place) room known = one-row true true e tag.Subroutine xs room refl (known .0) (omega arith)
   rooted-rows e end (ran xs false place) room known = one-row true true e tag.LocalVariable xs room refl (known .0) (omega arith)
   rooted-rows e end (failed why) room known = tt
@@ -145,7 +145,7 @@ module _ (s vendors : List ℕ) (at a : ℕ) where
       tag-rows : (erased : Bool) (size kind : ℕ) → 8 ≤ size → at + 4 ≤ length s → HeadRows (tagHead erased (at + size) kind)
       unfolding entryFrom tagHead attributes
       tag-rows erased size kind some room =
-          cond-all HeadRows (member kind tags)
+          cond-all HeadRows (isOn kind tags)
           (λ k. cond-all HeadRows (eqb kind tag.Padding)
           (λ p. cond-all HeadRows erased (λ on. root-begins levels isErased e (at + size) room) (λ off. no-rows (omega arith)))
           (λ p. ordinary-rows isErased e kind (attributes vendors global s e false (at + size) at) room k
@@ -153,7 +153,7 @@ module _ (s vendors : List ℕ) (at a : ℕ) where
           (λ k. tt)
 
       null-rows : (size : ℕ) → at + 4 ≤ length s → HeadRows (Null (nullEnd at size))
-      unfolding entryFrom nullEnd tags member
+      unfolding entryFrom nullEnd tags isOn
       null-rows size room =
           let forward : at + 4 ≤ nullEnd at size =
           cond-all (λ (place : ℕ). at + 4 ≤ place) (leb size 4) (λ few. le-refl (at + 4)) (λ many. (let four : 4 < size = leb-false size 4 many in omega arith))
@@ -161,8 +161,8 @@ module _ (s vendors : List ℕ) (at a : ℕ) where
           one-row isErased false e tag.Padding [] room refl none-known forward
 
       -- the theorem of one entry
-      pub entry-rows : (erased : Bool) → EntryRows s vendors at a (entryAt vendors global s erased levels isErased e at a)
-      unfolding entryFrom entryAt headAt sizeHead
+      pub entry-rows : (erased : Bool) → EntryRows s vendors at a (readEntry vendors global s erased levels isErased e at a)
+      unfolding entryFrom readEntry headAt sizeHead
       entry-rows erased =
           let size : ℕ = valueOf e 4 s at in
           read-all (sizeHead erased s e at) (Refused reason.Short) e 4 s at HeadRows
@@ -175,54 +175,54 @@ module _ (s vendors : List ℕ) (at a : ℕ) where
 -- ---- a walk
 
 -- a walk's rows, from its place on
-abbrev pub WalkRows : List ℕ → List ℕ → ℕ → ℕ → Walk → Type 0
-WalkRows s vendors at a (walked rs xs place) = RowsRead s vendors at a rs xs place
-WalkRows s vendors at a (refused why place) = Unit
+abbrev pub WalkRows : List ℕ → List ℕ → ℕ → ℕ → Entries → Type 0
+WalkRows s vendors at a (entriesRead rs xs place) = RowsRead s vendors at a rs xs place
+WalkRows s vendors at a (entriesRefused why place) = Unit
 
 module _ (s vendors : List ℕ) where
   -- rows read before, and a walk after them
-  join-rows : {at a place : ℕ} {rs : List Row} {xs : List Attr} (w : Walk) → RowsRead s vendors at a rs xs place → WalkRows s vendors place (a + length xs) w
+  join-rows : {at a place : ℕ} {rs : List Row} {xs : List Attr} (w : Entries) → RowsRead s vendors at a rs xs place → WalkRows s vendors place (a + length xs) w
       → WalkRows s vendors at a (join rs xs w)
   unfolding join
-  join-rows (walked rs′ xs′ last) before after = rows-then before after
-  join-rows (refused why last) before after = tt
+  join-rows (entriesRead rs′ xs′ last) before after = rows-then before after
+  join-rows (entriesRefused why last) before after = tt
 
   -- what follows is such from wherever it begins
-  abbrev Follows : (ℕ → ℕ → Walk) → Type 0
+  abbrev Follows : (ℕ → ℕ → Entries) → Type 0
   Follows k = (b at : ℕ) → WalkRows s vendors at b (k b at)
 
-  then-rows : (at a : ℕ) (w : Walk) (k : ℕ → ℕ → Walk) → WalkRows s vendors at a w → Follows k → WalkRows s vendors at a (andThen a w k)
-  unfolding andThen
-  then-rows at a (walked rs xs place) k before after = join-rows (k (a + length xs) place) before (after (a + length xs) place)
-  then-rows at a (refused why place) k before after = tt
+  then-rows : (at a : ℕ) (w : Entries) (k : ℕ → ℕ → Entries) → WalkRows s vendors at a w → Follows k → WalkRows s vendors at a (entriesThen a w k)
+  unfolding entriesThen
+  then-rows at a (entriesRead rs xs place) k before after = join-rows (k (a + length xs) place) before (after (a + length xs) place)
+  then-rows at a (entriesRefused why place) k before after = tt
 
-  onward-rows : (within : Endian → ℕ → ℕ → ℕ → Walk) → ((e : Endian) (end : ℕ) → Follows (within e end)) → (at a : ℕ) (x : Entry) (k : ℕ → ℕ → Walk)
+  onward-rows : (within : Endian → ℕ → ℕ → ℕ → Entries) → ((e : Endian) (end : ℕ) → Follows (within e end)) → (at a : ℕ) (x : Entry) (k : ℕ → ℕ → Entries)
       → EntryRows s vendors at a x → Follows k → WalkRows s vendors at a (onward within at a x k)
   unfolding onward
-  onward-rows within deeper at a (next rs xs place) k here after = then-rows at a (walked rs xs place) k here after
+  onward-rows within deeper at a (next rs xs place) k here after = then-rows at a (entriesRead rs xs place) k here after
   onward-rows within deeper at a (inside r xs place e end) k here after =
-      then-rows at a (walked (r ∷ []) xs place) (λ b at′. andThen b (within e end b at′) k) here
+      then-rows at a (entriesRead (r ∷ []) xs place) (λ b at′. entriesThen b (within e end b at′) k) here
       (λ b at′. then-rows at′ b (within e end b at′) k (deeper e end b at′) after)
   onward-rows within deeper at a (stop why) k here after = tt
 
   module _ (global : ℕ) (erased : Bool) where
     -- entries one after the other, given that what stands inside roots is such
-    from-rows : (within : Endian → ℕ → ℕ → ℕ → Walk) → ((e : Endian) (end : ℕ) → Follows (within e end)) → (levels : ℕ) (isErased : Bool) (e : Endian)
-        (end f : ℕ) → Follows (walkFrom vendors global erased s within levels isErased e end f)
-    unfolding walkFrom
+    from-rows : (within : Endian → ℕ → ℕ → ℕ → Entries) → ((e : Endian) (end : ℕ) → Follows (within e end)) → (levels : ℕ) (isErased : Bool) (e : Endian)
+        (end f : ℕ) → Follows (entriesFrom vendors global erased s within levels isErased e end f)
+    unfolding entriesFrom
     from-rows within deeper levels isErased e end zero a at = no-rows (le-refl at)
     from-rows within deeper levels isErased e end (suc f) a at =
         by-test (ltb at end)
-        (λ t. rw (t, walkFrom)
-        (onward-rows within deeper at a (entryAt vendors global s erased levels isErased e at a) (walkFrom vendors global erased s within levels isErased e end f)
+        (λ t. rw (t, entriesFrom)
+        (onward-rows within deeper at a (readEntry vendors global s erased levels isErased e at a) (entriesFrom vendors global erased s within levels isErased e end f)
         (entry-rows s vendors at a global levels isErased e erased) (from-rows within deeper levels isErased e end f)))
-        (λ t. rw (t, walkFrom) (no-rows (le-refl at)))
+        (λ t. rw (t, entriesFrom) (no-rows (le-refl at)))
 
     -- the theorem: the rows of a walk, on any level, from wherever it begins
-    pub walk-rows : (levels : ℕ) (isErased : Bool) (e : Endian) (end : ℕ) → Follows (walkAt vendors global erased s levels isErased e end)
-    unfolding walkAt
+    pub walk-rows : (levels : ℕ) (isErased : Bool) (e : Endian) (end : ℕ) → Follows (readTags vendors global erased s levels isErased e end)
+    unfolding readTags
     walk-rows zero isErased e end a at =
-        from-rows (λ e′ end′ b at′. refused reason.Nested at′) (λ e′ end′ b at′. tt) zero isErased e end (suc (length s)) a at
+        from-rows (λ e′ end′ b at′. entriesRefused reason.Nested at′) (λ e′ end′ b at′. tt) zero isErased e end (suc (length s)) a at
     walk-rows (suc l) isErased e end a at =
-        from-rows (λ e′ end′ b at′. walkAt vendors global erased s l true e′ end′ b at′) (λ e′ end′. walk-rows l true e′ end′) (suc l) isErased e end
+        from-rows (λ e′ end′ b at′. readTags vendors global erased s l true e′ end′ b at′) (λ e′ end′. walk-rows l true e′ end′) (suc l) isErased e end
         (suc (length s)) a at

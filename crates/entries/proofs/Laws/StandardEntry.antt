@@ -10,16 +10,16 @@ use lib.Dec.{leb}
 use borrow.Author.Tests.{lt-ltb, le-ltb, leb-true, ne-eqb}
 use Rattle.numbers.proofs.Laws.Tests.{cond-all}
 use Rattle.numbers.specs.declared.Endian.{Endian}
-use Rattle.format.specs.Lookup.{member}
+use Rattle.format.specs.Lookup.{isOn}
 use Rattle.format.proofs.Laws.Computed.{allBelow, beyond}
 use Rattle.format.specs.TagKind.{tags}
 use Rattle.format.specs.TagKind as tag
 use Rattle.format.specs.declared.refusal.Reason.the-variants as reason
 use Rattle.entries.specs.Head.{nullEnd, tagHead, sizeHead, headAt}
 use Rattle.entries.specs.Run.{ran}
-use Rattle.entries.specs.Entry.{next, kindOf, ordinary, attributes, entryFrom, entryAt}
+use Rattle.entries.specs.Entry.{next, kindOf, ordinary, attributes, entryFrom, readEntry}
 use Rattle.numbers.specs.Written.{bytesOf}
-use Rattle.entries.specs.Standard.{writtenAttributes, Die, null, padding, entry, writtenDie, attrsFrom, dieAttrs, dieRows}
+use Rattle.entries.specs.Standard.{writtenAttributes, Die, null, padding, entry, writtenDie, writtenFrom, dieAttrs, dieRows}
 use Rattle.numbers.proofs.Laws.Stands.{Stands, front-stands}
 use Rattle.numbers.proofs.Laws.Written.{bytes-length, number-answers}
 use Rattle.entries.proofs.Laws.Tagged.{Tagged, tagged, tagged-length}
@@ -27,8 +27,8 @@ use Rattle.entries.proofs.Laws.StandardRun.{attributes-long, run-read}
 use Rattle.entries.specs.declared.head.Head.the-variants.{Null, Skipped, Ordinary, Refused}
 
 -- every tag fits into its two bytes
-pub tag-small : (kind : ℕ) → member kind tags ≡ true → kind < 256 ^ 2
-unfolding tags member allBelow
+pub tag-small : (kind : ℕ) → isOn kind tags ≡ true → kind < 256 ^ 2
+unfolding tags isOn allBelow
 tag-small kind k =
     elim (decLe (256 ^ 2) kind) [
       | yes h ↦ let z : true ≡ false = sym k ∙ beyond (256 ^ 2) 33 tags kind refl h in let o : _≡_ {A = ℕ} 0 1 = cc in absurd (omega arith)
@@ -57,10 +57,10 @@ module _ (e : Endian) (s : List ℕ) (at size : ℕ) where
       ∙ rw (le-ltb size 8 long) (number-answers (tagHead false (at + size)) (Refused reason.Short) e 2 s (at + 4) kind small (t .tag-stands))
 
 padding-tag : (end : ℕ) → tagHead false end tag.Padding ≡ Skipped end
-unfolding tagHead member tags
+unfolding tagHead isOn tags
 padding-tag end = refl
 
-ordinary-tag : (end kind : ℕ) → member kind tags ≡ true → (kind ≡ tag.Padding → ⊥) → tagHead false end kind ≡ Ordinary kind end
+ordinary-tag : (end kind : ℕ) → isOn kind tags ≡ true → (kind ≡ tag.Padding → ⊥) → tagHead false end kind ≡ Ordinary kind end
 unfolding tagHead
 ordinary-tag end kind k p = rw (k, ne-eqb kind tag.Padding p)
 
@@ -79,8 +79,8 @@ die-long vendors e (entry kind k p b rest few) =
 
 module _ (vendors : List ℕ) (global : ℕ) (e : Endian) (s : List ℕ) (levels at a : ℕ) where
   pub die-read : (d : Die vendors e) → Stands s at (writtenDie vendors e d)
-      → entryAt vendors global s false levels false e at a ≡ next (dieRows vendors e at a d) (dieAttrs vendors e at d) (at + length (writtenDie vendors e d))
-  unfolding writtenDie dieRows dieAttrs entryAt entryFrom ordinary kindOf attributes
+      → readEntry vendors global s false levels false e at a ≡ next (dieRows vendors e at a d) (dieAttrs vendors e at d) (at + length (writtenDie vendors e d))
+  unfolding writtenDie dieRows dieAttrs readEntry entryFrom ordinary kindOf attributes
   die-read (null fill few small) q =
       let size : ℕ = length fill + 4 in
       let four : length (bytesOf e 4 size) ≡ 4 = bytes-length e 4 size in
@@ -99,7 +99,7 @@ module _ (vendors : List ℕ) (global : ℕ) (e : Endian) (s : List ℕ) (levels
       let head : headAt false s e at ≡ Ordinary kind (at + size) =
       tagged-head e s at size (omega arith) few (tag-small kind k) t ∙ ordinary-tag (at + size) kind k p
       in
-      let run : attributes vendors global s e false (at + size) at ≡ ran (attrsFrom vendors e (at + 6) (b ∷ rest)) false (at + size) =
+      let run : attributes vendors global s e false (at + size) at ≡ ran (writtenFrom vendors e (at + 6) (b ∷ rest)) false (at + size) =
       run-read vendors global e s (b ∷ rest) (suc (length s)) (at + size) (at + 6) (t .body-stands) (omega arith) (omega arith)
       in
       rw (head, tagged-length e size kind body, run)

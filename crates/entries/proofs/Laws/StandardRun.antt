@@ -7,9 +7,9 @@ use mathlib.Core.List.{List, [], _∷_, _++_}
 use lib.ListN.{length, length-append}
 use borrow.Author.Tests.{lt-ltb, le-ltb}
 use Rattle.numbers.specs.declared.Endian.{Endian}
-use Rattle.entries.specs.Run.{ran, first, readOn, runEnds, runFrom}
+use Rattle.entries.specs.Run.{ran, first, readOn, runEnds, readRun}
 use Rattle.numbers.specs.Written.{bytesOf}
-use Rattle.entries.specs.Standard.{Attribute, writtenAttribute, writtenAttributes, attrsFrom}
+use Rattle.entries.specs.Standard.{Attribute, writtenAttribute, writtenAttributes, writtenFrom}
 use Rattle.numbers.proofs.Laws.Stands.{Stands, front-stands, back-stands}
 use Rattle.numbers.proofs.Laws.Written.{bytes-length}
 use Rattle.entries.proofs.Laws.StandardValue.{attribute-read}
@@ -28,18 +28,18 @@ module _ (vendors : List ℕ) (e : Endian) where
 
 module _ (vendors : List ℕ) (global : ℕ) (e : Endian) (s : List ℕ) where
   pub run-read : (xs : List (Attribute vendors e)) (f end at : ℕ) → Stands s at (writtenAttributes vendors e xs) → length s < at + f
-      → at + length (writtenAttributes vendors e xs) ≡ end → runFrom vendors global s e false end f false at ≡ ran (attrsFrom vendors e at xs) false end
-  unfolding writtenAttributes runFrom attrsFrom readOn first runEnds
+      → at + length (writtenAttributes vendors e xs) ≡ end → readRun vendors global s e false end f false at ≡ ran (writtenFrom vendors e at xs) false end
+  unfolding writtenAttributes readRun writtenFrom readOn first runEnds
   run-read xs zero end at q h p = let inside = q .fits in absurd (omega arith)
   run-read [] (suc f) end at q h p =
       let here : at ≡ end = omega arith in
-      rw (le-ltb at end (omega arith), runFrom) (ap (ran [] false) here)
+      rw (le-ltb at end (omega arith), readRun) (ap (ran [] false) here)
   run-read (x ∷ xs) (suc f) end at q h p =
       let front : List ℕ = writtenAttribute vendors e x in
       let back : List ℕ = writtenAttributes vendors e xs in
       let whole : length (front ++ back) ≡ length front + length back = length-append front back in
       let long : 2 ≤ length front = attribute-long vendors e x in
-      let others : runFrom vendors global s e false end f false (at + length front) ≡ ran (attrsFrom vendors e (at + length front) xs) false end =
+      let others : readRun vendors global s e false end f false (at + length front) ≡ ran (writtenFrom vendors e (at + length front) xs) false end =
       run-read xs f end (at + length front) (back-stands s at front back q) (omega arith) (omega arith)
       in
-      rw (lt-ltb at end (omega arith), attribute-read vendors e s at x (front-stands s at front back q), others, runFrom)
+      rw (lt-ltb at end (omega arith), attribute-read vendors e s at x (front-stands s at front back q), others, readRun)

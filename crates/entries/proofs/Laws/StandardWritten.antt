@@ -10,7 +10,7 @@ use Rattle.numbers.specs.Value.{valueOf}
 use Rattle.numbers.specs.declared.Endian.{Endian}
 use Rattle.tables.specs.declared.row.Row.{Row}
 use Rattle.tables.specs.declared.row.Attr.{Attr}
-use Rattle.entries.specs.Walk.{walked, walkAt}
+use Rattle.entries.specs.Walk.{entriesRead, readTags}
 use Rattle.numbers.specs.Written.{Bytes}
 use Rattle.entries.specs.Standard.{Die, writtenDie, writtenDies}
 use Rattle.entries.specs.Exact.{Exact, at-end, one-more}
@@ -46,7 +46,7 @@ module _ (vendors : List ℕ) (global : ℕ) (e : Endian) where
 
   -- the theorem
   pub standard-written : (levels : ℕ) (s : List ℕ) → Bytes s → {rs : List Row} {xs : List Attr} {place : ℕ}
-      → walkAt vendors global false s levels false e (length s) 0 0 ≡ walked rs xs place → Exact vendors global e s 0 0 → WrittenAs vendors e s rs xs
+      → readTags vendors global false s levels false e (length s) 0 0 ≡ entriesRead rs xs place → Exact vendors global e s 0 0 → WrittenAs vendors e s rs xs
   standard-written levels s small {rs} {xs} {place} p exact =
       let d : DiesFound vendors e s 0 = exact-dies s small exact in
       let same : writtenDies vendors e (d .found) ≡ s = stands-all (d .stands) (omega arith) in

@@ -12,7 +12,7 @@ use Rattle.numbers.specs.Value.{valueOf}
 use Rattle.numbers.proofs.Laws.Value.{read-all}
 use Rattle.numbers.specs.declared.Endian.{Endian}
 use Rattle.numbers.specs.declared.Endian.the-variants.{Big, Little}
-use Rattle.format.specs.Lookup.{member}
+use Rattle.format.specs.Lookup.{isOn}
 use Rattle.format.specs.TagKind.{tags}
 use Rattle.format.specs.TagKind as tag
 use Rattle.format.specs.Limits.{erasedLimit, sectionLimit}
@@ -26,9 +26,9 @@ use Rattle.tables.specs.declared.row.Attr.{Attr}
 use Rattle.tables.specs.declared.row.Counts.{Counts}
 use Rattle.entries.specs.Head.{tagHead, sizeHead, headAt}
 use Rattle.entries.specs.Run.{Run, ran, failed}
-use Rattle.entries.specs.Entry.{Entry, next, inside, stop, flagOf, flagsOf, littleFlag, ordinary, attributes, entryFrom, entryAt}
-use Rattle.entries.specs.Walk.{Walk, walked, refused, join, andThen, onward, walkFrom, walkAt}
-use Rattle.entries.specs.Section.{wholeWalk, readSection, refusal}
+use Rattle.entries.specs.Entry.{Entry, next, inside, stop, flagOf, flagsOf, littleFlag, ordinary, attributes, entryFrom, readEntry}
+use Rattle.entries.specs.Walk.{Entries, entriesRead, entriesRefused, join, entriesThen, onward, entriesFrom, readTags}
+use Rattle.entries.specs.Section.{wholeWalk, readDebugSection, refusal}
 use Rattle.entries.proofs.Laws.Filled.{answer-read}
 use Rattle.entries.proofs.Laws.KnownRun.{by-test}
 use Rattle.entries.specs.declared.head.Head.{Head}
@@ -66,7 +66,7 @@ no-root s e at =
     read-all (sizeHead false s e at) (Refused reason.Short) e 4 s at NoRoot
     (λ t. cond-all NoRoot (ltb size 8) (λ few. tt)
     (λ some. read-all (tagHead false (at + size)) (Refused reason.Short) e 2 s (at + 4) NoRoot
-    (λ u. cond-all NoRoot (member (valueOf e 2 s (at + 4)) tags)
+    (λ u. cond-all NoRoot (isOn (valueOf e 2 s (at + 4)) tags)
     (λ k. cond-all NoRoot (eqb (valueOf e 2 s (at + 4)) tag.Padding) (λ p. tt) (λ p. tt))
     (λ k. tt))
     (λ u. tt)))
@@ -91,45 +91,45 @@ entry-from-plain vendors global s levels e at a (Root end) p = absurd p
 entry-from-plain vendors global s levels e at a (Ordinary kind end) p = ordinary-plain e at kind a (attributes vendors global s e false end at)
 entry-from-plain vendors global s levels e at a (Refused why) p = tt
 
-entry-plain : (vendors : List ℕ) (global : ℕ) (s : List ℕ) (levels : ℕ) (e : Endian) (at a : ℕ) → EntryPlain (entryAt vendors global s false levels false e at a)
-unfolding entryAt
+entry-plain : (vendors : List ℕ) (global : ℕ) (s : List ℕ) (levels : ℕ) (e : Endian) (at a : ℕ) → EntryPlain (readEntry vendors global s false levels false e at a)
+unfolding readEntry
 entry-plain vendors global s levels e at a = entry-from-plain vendors global s levels e at a (headAt false s e at) (no-root s e at)
 
 -- ---- a walk
 
-abbrev WalkPlain : Walk → Type 0
-WalkPlain (walked rs xs place) = Plain rs
-WalkPlain (refused why place) = Unit
+abbrev WalkPlain : Entries → Type 0
+WalkPlain (entriesRead rs xs place) = Plain rs
+WalkPlain (entriesRefused why place) = Unit
 
-join-plain : (rs : List Row) (xs : List Attr) (w : Walk) → Plain rs → WalkPlain w → WalkPlain (join rs xs w)
+join-plain : (rs : List Row) (xs : List Attr) (w : Entries) → Plain rs → WalkPlain w → WalkPlain (join rs xs w)
 unfolding join
-join-plain rs xs (walked rs′ xs′ last) p q = plain-then rs rs′ p q
-join-plain rs xs (refused why last) p q = tt
+join-plain rs xs (entriesRead rs′ xs′ last) p q = plain-then rs rs′ p q
+join-plain rs xs (entriesRefused why last) p q = tt
 
-onward-plain : (within : Endian → ℕ → ℕ → ℕ → Walk) (at a : ℕ) (x : Entry) (k : ℕ → ℕ → Walk) → EntryPlain x → ((b at′ : ℕ) → WalkPlain (k b at′))
+onward-plain : (within : Endian → ℕ → ℕ → ℕ → Entries) (at a : ℕ) (x : Entry) (k : ℕ → ℕ → Entries) → EntryPlain x → ((b at′ : ℕ) → WalkPlain (k b at′))
     → WalkPlain (onward within at a x k)
-unfolding onward andThen
+unfolding onward entriesThen
 onward-plain within at a (next rs xs place) k p q = join-plain rs xs (k (a + length xs) place) p (q (a + length xs) place)
 onward-plain within at a (inside r xs place e end) k p q = absurd p
 onward-plain within at a (stop why) k p q = tt
 
-from-plain : (vendors : List ℕ) (global : ℕ) (s : List ℕ) (within : Endian → ℕ → ℕ → ℕ → Walk) (levels : ℕ) (e : Endian) (end f a at : ℕ)
-    → WalkPlain (walkFrom vendors global false s within levels false e end f a at)
-unfolding walkFrom
+from-plain : (vendors : List ℕ) (global : ℕ) (s : List ℕ) (within : Endian → ℕ → ℕ → ℕ → Entries) (levels : ℕ) (e : Endian) (end f a at : ℕ)
+    → WalkPlain (entriesFrom vendors global false s within levels false e end f a at)
+unfolding entriesFrom
 from-plain vendors global s within levels e end zero a at = tt
 from-plain vendors global s within levels e end (suc f) a at =
     by-test (ltb at end)
-    (λ t. rw (t, walkFrom)
-    (onward-plain within at a (entryAt vendors global s false levels false e at a) (λ b at′. walkFrom vendors global false s within levels false e end f b at′)
+    (λ t. rw (t, entriesFrom)
+    (onward-plain within at a (readEntry vendors global s false levels false e at a) (λ b at′. entriesFrom vendors global false s within levels false e end f b at′)
     (entry-plain vendors global s levels e at a) (λ b at′. from-plain vendors global s within levels e end f b at′)))
-    (λ t. rw (t, walkFrom) tt)
+    (λ t. rw (t, entriesFrom) tt)
 
 walk-plain : (vendors : List ℕ) (global : ℕ) (s : List ℕ) (levels : ℕ) (e : Endian) (end a at : ℕ)
-    → WalkPlain (walkAt vendors global false s levels false e end a at)
-unfolding walkAt
-walk-plain vendors global s zero e end a at = from-plain vendors global s (λ e′ end′ b at′. refused reason.Nested at′) zero e end (suc (length s)) a at
+    → WalkPlain (readTags vendors global false s levels false e end a at)
+unfolding readTags
+walk-plain vendors global s zero e end a at = from-plain vendors global s (λ e′ end′ b at′. entriesRefused reason.Nested at′) zero e end (suc (length s)) a at
 walk-plain vendors global s (suc l) e end a at =
-    from-plain vendors global s (λ e′ end′ b at′. walkAt vendors global false s l true e′ end′ b at′) (suc l) e end (suc (length s)) a at
+    from-plain vendors global s (λ e′ end′ b at′. readTags vendors global false s l true e′ end′ b at′) (suc l) e end (suc (length s)) a at
 
 whole-plain : (settings : Settings) (vendors s : List ℕ) → settings .erased ≡ false → WalkPlain (wholeWalk settings vendors s)
 unfolding wholeWalk
@@ -150,14 +150,14 @@ plain-row t i (r ∷ rs) p q (suc j) h =
 
 -- read with erased entries left out, no row of the table is erased
 pub none-erased : (settings : Settings) (vendors sizes s rows attrs : List ℕ) (c : Counts) → settings .erased ≡ false
-    → readSection settings vendors sizes s rows attrs .answer ≡ Read c → (j : ℕ) → j < c .rows
-    → erasedRow (rowAt (readSection settings vendors sizes s rows attrs .first) j .flags) ≡ false
+    → readDebugSection settings vendors sizes s rows attrs .answer ≡ Read c → (j : ℕ) → j < c .rows
+    → erasedRow (rowAt (readDebugSection settings vendors sizes s rows attrs .first) j .flags) ≡ false
 none-erased settings vendors sizes s rows attrs c off answers j h =
     let filled = answer-read settings vendors sizes s rows attrs c answers in
     let counted : c .rows ≡ length (filled .rs) = ap (λ (d : Counts). d .rows) (filled .counted) in
     let place : j ≡ 0 + j = omega arith in
-    ap (λ (k : ℕ). erasedRow (rowAt (readSection settings vendors sizes s rows attrs .first) k .flags)) place
-    ∙ plain-row (readSection settings vendors sizes s rows attrs .first) 0 (filled .rs) (subst WalkPlain (filled .whole) (whole-plain settings vendors s off))
+    ap (λ (k : ℕ). erasedRow (rowAt (readDebugSection settings vendors sizes s rows attrs .first) k .flags)) place
+    ∙ plain-row (readDebugSection settings vendors sizes s rows attrs .first) 0 (filled .rs) (subst WalkPlain (filled .whole) (whole-plain settings vendors s off))
     (filled .rows-held) j (omega arith)
 
 -- ---- an answer passed the tests of settings and length
@@ -169,9 +169,9 @@ module _ (settings : Settings) (vendors sizes s rows attrs : List ℕ) (c : Coun
   refused-passes : (why : Reason) (at : ℕ) → Passing (outcomes (refusal why at) rows attrs)
   refused-passes why at p = let z : _≡_ {A = ℕ} 0 1 = cc in absurd (omega arith)
 
-  pub answer-tested : readSection settings vendors sizes s rows attrs .answer ≡ Read c
+  pub answer-tested : readDebugSection settings vendors sizes s rows attrs .answer ≡ Read c
       → (settingsHold settings vendors sizes ≡ true) × (ltb (length s) sectionLimit ≡ true)
-  unfolding readSection
+  unfolding readDebugSection
   answer-tested =
       cond-all Passing (settingsHold settings vendors sizes)
       (λ t. cond-all Passing (ltb (length s) sectionLimit) (λ u p. (t, u)) (λ u. refused-passes reason.Long 0)) (λ t. refused-passes reason.Settings 0)

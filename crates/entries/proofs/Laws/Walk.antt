@@ -1,4 +1,4 @@
--- What follows from `Walk`: the loop over entries. Its invariant says what was read so far, and that what is left comes to the whole.
+-- What follows from `Entries`: the loop over entries. Its invariant says what was read so far, and that what is left comes to the whole.
 use Prim.Native.Nat.{ℕ, zero, suc, _+_, _*_, _-_, _≤_, _<_}
 use native.Mathlib.Nat.{add-assoc}
 use native.Mathlib.Numerals.{sub-one}
@@ -18,8 +18,8 @@ use Rattle.tables.specs.declared.row.Row.{Row}
 use Rattle.tables.specs.declared.row.Attr.{Attr}
 use Rattle.entries.specs.Head.{headAt}
 use Rattle.entries.specs.Run.{Run, ran, failed}
-use Rattle.entries.specs.Entry.{Entry, next, inside, stop, ordinary, attributes, entryFrom, entryAt}
-use Rattle.entries.specs.Walk.{Walk, walked, refused, join, andThen, onward, walkFrom, walkAt}
+use Rattle.entries.specs.Entry.{Entry, next, inside, stop, ordinary, attributes, entryFrom, readEntry}
+use Rattle.entries.specs.Walk.{Entries, entriesRead, entriesRefused, join, entriesThen, onward, entriesFrom, readTags}
 use Rattle.entries.specs.Inside.Promise.{farthest, Ready, advanced, Stored, Taken, entryAnswer, EntryStores, EntryRead, walkAnswer, WalkStores, WalkRead}
 use Rattle.entries.specs.declared.head.Head.{Head}
 use Rattle.entries.specs.declared.head.Head.the-variants as head
@@ -29,21 +29,21 @@ use Rattle.entries.specs.declared.walk.Walk.the-variants as walk
 
 -- ---- rows and attributes read before others
 
-join-none : (w : Walk) → join [] [] w ≡ w
+join-none : (w : Entries) → join [] [] w ≡ w
 unfolding join
-join-none (walked rs xs at) = refl
-join-none (refused why at) = refl
+join-none (entriesRead rs xs at) = refl
+join-none (entriesRefused why at) = refl
 
-join-join : (rs : List Row) (xs : List Attr) (rs′ : List Row) (xs′ : List Attr) (w : Walk)
+join-join : (rs : List Row) (xs : List Attr) (rs′ : List Row) (xs′ : List Attr) (w : Entries)
     → join (rs ++ rs′) (xs ++ xs′) w ≡ join rs xs (join rs′ xs′ w)
 unfolding join
-join-join rs xs rs′ xs′ (walked rs″ xs″ at) =
-    ap₂ (λ (r : List Row) (x : List Attr). walked r x at) (append-assoc rs rs′ rs″) (append-assoc xs xs′ xs″)
-join-join rs xs rs′ xs′ (refused why at) = refl
+join-join rs xs rs′ xs′ (entriesRead rs″ xs″ at) =
+    ap₂ (λ (r : List Row) (x : List Attr). entriesRead r x at) (append-assoc rs rs′ rs″) (append-assoc xs xs′ xs″)
+join-join rs xs rs′ xs′ (entriesRefused why at) = refl
 
-join-last : (rs : List Row) (xs : List Attr) (at : ℕ) → join rs xs (walked [] [] at) ≡ walked rs xs at
+join-last : (rs : List Row) (xs : List Attr) (at : ℕ) → join rs xs (entriesRead [] [] at) ≡ entriesRead rs xs at
 unfolding join
-join-last rs xs at = ap₂ (λ (r : List Row) (x : List Attr). walked r x at) (append-nil rs) (append-nil xs)
+join-last rs xs at = ap₂ (λ (r : List Row) (x : List Attr). entriesRead r x at) (append-nil rs) (append-nil xs)
 
 -- ---- what an answer tells
 
@@ -71,19 +71,19 @@ told-stop from (next rs xs p) a t = let z : _≡_ {A = ℕ} 0 1 = cc in absurd (
 told-stop from (inside row xs p e end) a t = let z : _≡_ {A = ℕ} 0 1 = cc in absurd (omega arith)
 told-stop from (stop why′) {why = why} a t = let same : entry.Refused why ≡ entry.Refused why′ = sym t ∙ a in cc
 
-pub told-walked : (from : State) (what : Walk) {r : walk.the-data} {to : State} → r ≡ walkAnswer from what → r ≡ walk.Walked to
-    → (rs : List Row) × (xs : List Attr) × (p : ℕ) × (what ≡ walked rs xs p) × (to ≡ advanced from (length rs) (length xs) p)
+pub told-walked : (from : State) (what : Entries) {r : walk.the-data} {to : State} → r ≡ walkAnswer from what → r ≡ walk.Walked to
+    → (rs : List Row) × (xs : List Attr) × (p : ℕ) × (what ≡ entriesRead rs xs p) × (to ≡ advanced from (length rs) (length xs) p)
 unfolding walkAnswer
-told-walked from (walked rs xs p) {to = to} a t =
+told-walked from (entriesRead rs xs p) {to = to} a t =
     let same : walk.Walked to ≡ walk.Walked (advanced from (length rs) (length xs) p) = sym t ∙ a in
     (rs, xs, p, refl, cc)
-told-walked from (refused why p) a t = let z : _≡_ {A = ℕ} 0 1 = cc in absurd (omega arith)
+told-walked from (entriesRefused why p) a t = let z : _≡_ {A = ℕ} 0 1 = cc in absurd (omega arith)
 
-pub told-refused : (from : State) (what : Walk) {r : walk.the-data} {why : Reason} {at : ℕ} → r ≡ walkAnswer from what → r ≡ walk.Refused why at
-    → what ≡ refused why at
+pub told-refused : (from : State) (what : Entries) {r : walk.the-data} {why : Reason} {at : ℕ} → r ≡ walkAnswer from what → r ≡ walk.Refused why at
+    → what ≡ entriesRefused why at
 unfolding walkAnswer
-told-refused from (walked rs xs p) a t = let z : _≡_ {A = ℕ} 0 1 = cc in absurd (omega arith)
-told-refused from (refused why′ p) {why = why} {at} a t = let same : walk.Refused why at ≡ walk.Refused why′ p = sym t ∙ a in cc
+told-refused from (entriesRead rs xs p) a t = let z : _≡_ {A = ℕ} 0 1 = cc in absurd (omega arith)
+told-refused from (entriesRefused why′ p) {why = why} {at} a t = let same : walk.Refused why at ≡ walk.Refused why′ p = sym t ∙ a in cc
 
 -- ---- stores one after the other
 
@@ -112,26 +112,26 @@ stored-then {from} {rs} {rs′} {xs} {xs′} {p} {q} {rows₀ = rows₀} {attrs�
 
 module _ (vendors : List ℕ) (global : ℕ) (erased : Bool) (s : List ℕ) where
   -- how the inside of a root is read, with so many levels still allowed outside it
-  unfoldable pub withinOf : ℕ → Endian → ℕ → ℕ → ℕ → Walk
-  withinOf zero e end b at = refused reason.Nested at
-  withinOf (suc l) e end b at = walkAt vendors global erased s l true e end b at
+  unfoldable pub withinOf : ℕ → Endian → ℕ → ℕ → ℕ → Entries
+  withinOf zero e end b at = entriesRefused reason.Nested at
+  withinOf (suc l) e end b at = readTags vendors global erased s l true e end b at
 
   walk-levels : (levels : ℕ) (isErased : Bool) (e : Endian) (end a at : ℕ)
-      → walkFrom vendors global erased s (withinOf levels) levels isErased e end (suc (length s)) a at ≡ walkAt vendors global erased s levels isErased e end a at
-  unfolding withinOf walkAt
+      → entriesFrom vendors global erased s (withinOf levels) levels isErased e end (suc (length s)) a at ≡ readTags vendors global erased s levels isErased e end a at
+  unfolding withinOf readTags
   walk-levels zero isErased e end a at = refl
   walk-levels (suc l) isErased e end a at = refl
 
   within-less : (levels : ℕ) (e : Endian) (end b at : ℕ) → 0 < levels
-      → withinOf levels e end b at ≡ walkAt vendors global erased s (levels - 1) true e end b at
+      → withinOf levels e end b at ≡ readTags vendors global erased s (levels - 1) true e end b at
   unfolding withinOf
   within-less zero e end b at h = absurd (omega arith)
-  within-less (suc l) e end b at h = ap (λ (k : ℕ). walkAt vendors global erased s k true e end b at) (sym (sub-one (suc l)))
+  within-less (suc l) e end b at h = ap (λ (k : ℕ). readTags vendors global erased s k true e end b at) (sym (sub-one (suc l)))
 
   -- a root is only read where a level is left
   inside-levels : (levels : ℕ) (isErased : Bool) (e : Endian) (at a : ℕ) {row : Row} {xs : List Attr} {p : ℕ} {e′ : Endian} {end′ : ℕ}
-      → entryAt vendors global s erased levels isErased e at a ≡ inside row xs p e′ end′ → 0 < levels
-  unfolding entryAt entryFrom ordinary
+      → readEntry vendors global s erased levels isErased e at a ≡ inside row xs p e′ end′ → 0 < levels
+  unfolding readEntry entryFrom ordinary
   inside-levels zero isErased e at a q = absurd (never (headAt erased s e at) q)
     where
       no-run : (kind : ℕ) (r : Run) {row : Row} {xs : List Attr} {p : ℕ} {e′ : Endian} {end′ : ℕ} → ordinary isErased e at kind a r ≡ inside row xs p e′ end′ → ⊥
@@ -150,16 +150,16 @@ module _ (vendors : List ℕ) (global : ℕ) (erased : Bool) (s : List ℕ) wher
   -- ---- the loop
 
   module _ (levels : ℕ) (isErased : Bool) (e : Endian) (end : ℕ) where
-    abbrev pub whole : ℕ → ℕ → Walk
-    whole a at = walkAt vendors global erased s levels isErased e end a at
+    abbrev pub whole : ℕ → ℕ → Entries
+    whole a at = readTags vendors global erased s levels isErased e end a at
 
     -- what is left with f turns
-    abbrev left : ℕ → ℕ → ℕ → Walk
-    left f a at = walkFrom vendors global erased s (withinOf levels) levels isErased e end f a at
+    abbrev left : ℕ → ℕ → ℕ → Entries
+    left f a at = entriesFrom vendors global erased s (withinOf levels) levels isErased e end f a at
 
     -- the entry at a place
     abbrev entryHere : ℕ → ℕ → Entry
-    entryHere at a = entryAt vendors global s erased levels isErased e at a
+    entryHere at a = readEntry vendors global s erased levels isErased e at a
 
     -- rs and xs were read and stored, some turns are left, and what is left comes to the whole
     pub record Loop (from : State) (rows₀ rows attrs₀ attrs : List ℕ) (now : State) : Type 0 where
@@ -196,13 +196,13 @@ module _ (vendors : List ℕ) (global : ℕ) (erased : Bool) (s : List ℕ) wher
 
     -- one turn of the definition
     turn : (f a at : ℕ) → at < end → left (suc f) a at ≡ onward (withinOf levels) at a (entryHere at a) (λ b at′. left f b at′)
-    unfolding walkFrom
-    turn f a at h = rw (lt-ltb at end h, walkFrom)
+    unfolding entriesFrom
+    turn f a at h = rw (lt-ltb at end h, entriesFrom)
 
-    past : (t a at : ℕ) → end ≤ at → left t a at ≡ walked [] [] at
-    unfolding walkFrom
+    past : (t a at : ℕ) → end ≤ at → left t a at ≡ entriesRead [] [] at
+    unfolding entriesFrom
     past zero a at h = refl
-    past (suc f) a at h = rw (le-ltb at end h, walkFrom)
+    past (suc f) a at h = rw (le-ltb at end h, entriesFrom)
 
     one-left : (t : ℕ) → 0 < t → (f : ℕ) × (t ≡ suc f)
     one-left zero h = absurd (omega arith)
@@ -248,28 +248,28 @@ module _ (vendors : List ℕ) (global : ℕ) (erased : Bool) (s : List ℕ) wher
           }
 
       -- how the whole comes out, where what is left comes to w
-      comes-to : {w : Walk} → ((f : ℕ) → left (suc f) (now .attrs) (now .at) ≡ w) → join (l .rs) (l .xs) w ≡ whole (from .attrs) (from .at)
+      comes-to : {w : Entries} → ((f : ℕ) → left (suc f) (now .attrs) (now .at) ≡ w) → join (l .rs) (l .xs) w ≡ whole (from .attrs) (from .at)
       comes-to step =
           let at-least = one-left (l .turns) (l .some) in
           ap (join (l .rs) (l .xs)) (sym (step (at-least .0)))
           ∙ ap (λ (t : ℕ). join (l .rs) (l .xs) (left t (now .attrs) (now .at))) (sym (at-least .1))
           ∙ l .rest
 
-      stops : {why : Reason} {at : ℕ} {rows₁ attrs₁ : List ℕ} → ((f : ℕ) → left (suc f) (now .attrs) (now .at) ≡ refused why at)
+      stops : {why : Reason} {at : ℕ} {rows₁ attrs₁ : List ℕ} → ((f : ℕ) → left (suc f) (now .attrs) (now .at) ≡ entriesRefused why at)
           → WalkRead from (whole (from .attrs) (from .at)) (walk.Refused why at) rows₀ rows₁ attrs₀ attrs₁
       unfolding join walkAnswer
       stops {why} {at} {rows₁} {attrs₁} step =
-          let all : refused why at ≡ whole (from .attrs) (from .at) = comes-to step in
+          let all : entriesRefused why at ≡ whole (from .attrs) (from .at) = comes-to step in
           record {
             answer = ap (walkAnswer from) all;
-            stores = subst (λ (w : Walk). WalkStores from w rows₀ rows₁ attrs₀ attrs₁) all tt;
+            stores = subst (λ (w : Entries). WalkStores from w rows₀ rows₁ attrs₀ attrs₁) all tt;
           }
 
       -- the end is reached
       pub done : end ≤ now .at → WalkRead from (whole (from .attrs) (from .at)) (walk.Walked now) rows₀ rows attrs₀ attrs
       unfolding walkAnswer
       done h =
-          let all : walked (l .rs) (l .xs) (now .at) ≡ whole (from .attrs) (from .at) =
+          let all : entriesRead (l .rs) (l .xs) (now .at) ≡ whole (from .attrs) (from .at) =
           sym (join-last (l .rs) (l .xs) (now .at)) ∙ comes-to (λ f. past (suc f) (now .attrs) (now .at) h)
           in
           let here : now ≡ advanced from (length (l .rs)) (length (l .xs)) (now .at) =
@@ -278,7 +278,7 @@ module _ (vendors : List ℕ) (global : ℕ) (erased : Bool) (s : List ℕ) wher
           record {
             answer = ap walk.Walked here ∙ ap (walkAnswer from) all;
             stores =
-                subst (λ (w : Walk). WalkStores from w rows₀ rows attrs₀ attrs) all
+                subst (λ (w : Entries). WalkStores from w rows₀ rows attrs₀ attrs) all
                 (record {
                   row-words = l .row-words;
                   attr-words = l .attr-words;
@@ -296,7 +296,7 @@ module _ (vendors : List ℕ) (global : ℕ) (erased : Bool) (s : List ℕ) wher
 
         -- an entry with nothing inside it
         pub again : {to : State} → r ≡ entry.Next to → Loop from rows₀ rows₁ attrs₀ attrs₁ to
-        unfolding onward andThen
+        unfolding onward entriesThen
         again t =
             let told = told-next now (entryHere (now .at) (now .attrs)) (q .answer) t in
             let stored = stores-as (told .3) in
@@ -311,7 +311,7 @@ module _ (vendors : List ℕ) (global : ℕ) (erased : Bool) (s : List ℕ) wher
             let place : to .at ≡ told .2 = ap (λ (x : State). x .at) (told .4) in
             omega arith
 
-        -- an entry that is refused
+        -- an entry that is entriesRefused
         pub refused-here : {why : Reason} → r ≡ entry.Refused why
             → WalkRead from (whole (from .attrs) (from .at)) (walk.Refused why (now .at)) rows₀ rows₁ attrs₀ attrs₁
         unfolding onward
@@ -338,27 +338,27 @@ module _ (vendors : List ℕ) (global : ℕ) (erased : Bool) (s : List ℕ) wher
               inside-levels levels isErased e (now .at) (now .attrs) (told .3)
 
           module _ {r′ : walk.the-data} {rows₂ attrs₂ : List ℕ}
-              (w : WalkRead to (walkAt vendors global erased s (levels - 1) true e′ end′ (to .attrs) (to .at)) r′ rows₁ rows₂ attrs₁ attrs₂) where
+              (w : WalkRead to (readTags vendors global erased s (levels - 1) true e′ end′ (to .attrs) (to .at)) r′ rows₁ rows₂ attrs₁ attrs₂) where
             -- what is left after the root itself, given what its inside comes to
-            turn-inside : (xs : List Attr) (p : ℕ) (row : Row) → entryHere (now .at) (now .attrs) ≡ inside row xs p e′ end′ → (v : Walk)
-                → walkAt vendors global erased s (levels - 1) true e′ end′ (now .attrs + length xs) p ≡ v → (f : ℕ)
-                → left (suc f) (now .attrs) (now .at) ≡ join (row ∷ []) xs (andThen (now .attrs + length xs) v (λ b at′. left f b at′))
-            unfolding onward andThen
+            turn-inside : (xs : List Attr) (p : ℕ) (row : Row) → entryHere (now .at) (now .attrs) ≡ inside row xs p e′ end′ → (v : Entries)
+                → readTags vendors global erased s (levels - 1) true e′ end′ (now .attrs + length xs) p ≡ v → (f : ℕ)
+                → left (suc f) (now .attrs) (now .at) ≡ join (row ∷ []) xs (entriesThen (now .attrs + length xs) v (λ b at′. left f b at′))
+            unfolding onward entriesThen
             turn-inside xs p row is v p′ f =
                 turn f (now .attrs) (now .at) h
                 ∙ ap (λ (x : Entry). onward (withinOf levels) (now .at) (now .attrs) x (λ b at′. left f b at′)) is
-                ∙ ap (λ (u : Walk). join (row ∷ []) xs (andThen (now .attrs + length xs) u (λ b at′. left f b at′)))
+                ∙ ap (λ (u : Entries). join (row ∷ []) xs (entriesThen (now .attrs + length xs) u (λ b at′. left f b at′)))
                 (within-less levels e′ end′ (now .attrs + length xs) p level-left ∙ p′)
 
             pub again-inside : {after : State} → r′ ≡ walk.Walked after → Loop from rows₀ rows₂ attrs₀ attrs₂ after
-            unfolding andThen
+            unfolding entriesThen
             again-inside {after} t′ =
                 let told = told-inside now (entryHere (now .at) (now .attrs)) (q .answer) t in
                 let row : Row = told .0 in
                 let xs : List Attr = told .1 in
                 let p : ℕ = told .2 in
                 let mid : State = advanced now 1 (length xs) p in
-                let nested : ℕ → ℕ → Walk = λ b at′. walkAt vendors global erased s (levels - 1) true e′ end′ b at′ in
+                let nested : ℕ → ℕ → Entries = λ b at′. readTags vendors global erased s (levels - 1) true e′ end′ b at′ in
                 let w′ : WalkRead mid (nested (now .attrs + length xs) p) r′ rows₁ rows₂ attrs₁ attrs₂ =
                 subst (λ (x : State). WalkRead x (nested (x .attrs) (x .at)) r′ rows₁ rows₂ attrs₁ attrs₂) (told .4) w
                 in
@@ -368,7 +368,7 @@ module _ (vendors : List ℕ) (global : ℕ) (erased : Bool) (s : List ℕ) wher
                 let p′ : ℕ = told′ .2 in
                 let stored = stores-as (told .3) in
                 let stored′ : Stored mid rs′ xs′ p′ rows₁ rows₂ attrs₁ attrs₂ =
-                subst (λ (u : Walk). WalkStores mid u rows₁ rows₂ attrs₁ attrs₂) (told′ .3) (w′ .stores)
+                subst (λ (u : Entries). WalkStores mid u rows₁ rows₂ attrs₁ attrs₂) (told′ .3) (w′ .stores)
                 in
                 let attrs-sum : now .attrs + length xs + length xs′ ≡ now .attrs + length (xs ++ xs′) =
                 add-assoc (now .attrs) (length xs) (length xs′) ∙ ap (λ (k : ℕ). now .attrs + k) (sym (length-append xs xs′))
@@ -380,7 +380,7 @@ module _ (vendors : List ℕ) (global : ℕ) (erased : Bool) (s : List ℕ) wher
                 subst (λ (x : State). Loop from rows₀ rows₂ attrs₀ attrs₂ x) arrived
                 (extend {rs = row ∷ rs′} {xs = xs ++ xs′} (stored-then (stored .0) stored′)
                 (record { there = stored .1 .there; forward = omega (arith, stored .1 .forward, stored′ .forward) })
-                (λ f. turn-inside xs p row (told .3) (walked rs′ xs′ p′) (told′ .3) f
+                (λ f. turn-inside xs p row (told .3) (entriesRead rs′ xs′ p′) (told′ .3) f
                 ∙ sym (join-join (row ∷ []) xs rs′ xs′ (left f (now .attrs + length xs + length xs′) p′))
                 ∙ ap (λ (k : ℕ). join (row ∷ rs′) (xs ++ xs′) (left f k p′)) attrs-sum))
 
@@ -389,10 +389,10 @@ module _ (vendors : List ℕ) (global : ℕ) (erased : Bool) (s : List ℕ) wher
                 let told = told-inside now (entryHere (now .at) (now .attrs)) (q .answer) t in
                 let forward : now .at + 4 ≤ told .2 = stores-as (told .3) .1 .forward in
                 let place : to .at ≡ told .2 = ap (λ (x : State). x .at) (told .4) in
-                let nested : Walk = walkAt vendors global erased s (levels - 1) true e′ end′ (to .attrs) (to .at) in
+                let nested : Entries = readTags vendors global erased s (levels - 1) true e′ end′ (to .attrs) (to .at) in
                 let told′ = told-walked to nested (w .answer) t′ in
                 let stored′ : Stored to (told′ .0) (told′ .1) (told′ .2) rows₁ rows₂ attrs₁ attrs₂ =
-                subst (λ (u : Walk). WalkStores to u rows₁ rows₂ attrs₁ attrs₂) (told′ .3) (w .stores)
+                subst (λ (u : Entries). WalkStores to u rows₁ rows₂ attrs₁ attrs₂) (told′ .3) (w .stores)
                 in
                 let forward′ : to .at ≤ told′ .2 = stored′ .forward in
                 let place′ : after .at ≡ told′ .2 = ap (λ (x : State). x .at) (told′ .4) in
@@ -400,14 +400,14 @@ module _ (vendors : List ℕ) (global : ℕ) (erased : Bool) (s : List ℕ) wher
 
             pub refused-inside : {why : Reason} {at : ℕ} → r′ ≡ walk.Refused why at
                 → WalkRead from (whole (from .attrs) (from .at)) (walk.Refused why at) rows₀ rows₂ attrs₀ attrs₂
-            unfolding andThen join
+            unfolding entriesThen join
             refused-inside {why} {at} t′ =
                 let told = told-inside now (entryHere (now .at) (now .attrs)) (q .answer) t in
-                let is = told-refused to (walkAt vendors global erased s (levels - 1) true e′ end′ (to .attrs) (to .at)) (w .answer) t′ in
-                let place : walkAt vendors global erased s (levels - 1) true e′ end′ (now .attrs + length (told .1)) (told .2) ≡ refused why at =
-                ap (λ (x : State). walkAt vendors global erased s (levels - 1) true e′ end′ (x .attrs) (x .at)) (sym (told .4)) ∙ is
+                let is = told-refused to (readTags vendors global erased s (levels - 1) true e′ end′ (to .attrs) (to .at)) (w .answer) t′ in
+                let place : readTags vendors global erased s (levels - 1) true e′ end′ (now .attrs + length (told .1)) (told .2) ≡ entriesRefused why at =
+                ap (λ (x : State). readTags vendors global erased s (levels - 1) true e′ end′ (x .attrs) (x .at)) (sym (told .4)) ∙ is
                 in
-                stops (turn-inside (told .1) (told .2) (told .0) (told .3) (refused why at) place)
+                stops (turn-inside (told .1) (told .2) (told .0) (told .3) (entriesRefused why at) place)
 
       -- every turn goes forward, and the tables keep their lengths
       pub rows-kept : length rows ≡ length rows₀

@@ -11,13 +11,13 @@ use Rattle.numbers.proofs.Laws.Tests.{cond-all}
 use Rattle.numbers.specs.Value.{valueOf}
 use Rattle.numbers.proofs.Laws.Value.{there-inside, read-all}
 use Rattle.numbers.specs.declared.Endian.{Endian}
-use Rattle.format.specs.Lookup.{member}
+use Rattle.format.specs.Lookup.{isOn}
 use Rattle.format.specs.TagKind.{tags}
 use Rattle.format.specs.TagKind as tag
 use Rattle.format.specs.declared.refusal.Reason.the-variants as reason
 use Rattle.entries.specs.Head.{nullEnd, tagHead, sizeHead, headAt}
 use Rattle.entries.specs.Run.{Run, ran, failed}
-use Rattle.entries.specs.Entry.{Entry, next, inside, stop, ordinary, attributes, entryFrom, entryAt}
+use Rattle.entries.specs.Entry.{Entry, next, inside, stop, ordinary, attributes, entryFrom, readEntry}
 use Rattle.numbers.specs.Written.{bytesOf, Bytes}
 use Rattle.entries.specs.Standard.{Attribute, writtenAttributes, Die, null, padding, entry, writtenDie}
 use Rattle.numbers.proofs.Laws.Stands.{Stands, both-stand, part-length, part-stands}
@@ -81,7 +81,7 @@ module _ (vendors : List ℕ) (e : Endian) (s : List ℕ) (small : Bytes s) (at 
         long = tagged-length e (length fill + 6) tag.Padding fill ∙ same;
       }
 
-  entry-found : (kind : ℕ) → 8 ≤ size → valueOf e 2 s (at + 4) ≡ kind → member kind tags ≡ true → (kind ≡ tag.Padding → ⊥)
+  entry-found : (kind : ℕ) → 8 ≤ size → valueOf e 2 s (at + 4) ≡ kind → isOn kind tags ≡ true → (kind ≡ tag.Padding → ⊥)
       → (xs : List (Attribute vendors e)) → Stands s (at + 6) (writtenAttributes vendors e xs)
       → at + 6 + length (writtenAttributes vendors e xs) ≡ at + size → DieFound vendors e s at size
   unfolding writtenDie writtenAttributes
@@ -103,7 +103,7 @@ EntryFound vendors e s at (inside r xs place e′ end) = Unit
 EntryFound vendors e s at (stop why) = Unit
 
 module _ (vendors : List ℕ) (e : Endian) (s : List ℕ) (small : Bytes s) (at : ℕ) where
-  ordinary-found : (kind a : ℕ) → 8 ≤ valueOf e 4 s at → valueOf e 2 s (at + 4) ≡ kind → member kind tags ≡ true → (kind ≡ tag.Padding → ⊥) → (r : Run)
+  ordinary-found : (kind a : ℕ) → 8 ≤ valueOf e 4 s at → valueOf e 2 s (at + 4) ≡ kind → isOn kind tags ≡ true → (kind ≡ tag.Padding → ⊥) → (r : Run)
       → AllFound vendors e s (at + 6) r → EntryFound vendors e s at (ordinary false e at kind a r)
   unfolding ordinary
   ordinary-found kind a some p k no-padding (ran xs high place) r =
@@ -120,7 +120,7 @@ module _ (vendors : List ℕ) (e : Endian) (s : List ℕ) (small : Bytes s) (at 
     tag-found some room =
         let size : ℕ = valueOf e 4 s at in
         let kind : ℕ = valueOf e 2 s (at + 4) in
-        cond-all HeadFound (member kind tags)
+        cond-all HeadFound (isOn kind tags)
         (λ k. cond-all HeadFound (eqb kind tag.Padding)
         (λ p h fits. padding-found vendors e s small at size refl fits some (eqb-true kind tag.Padding p))
         (λ p. ordinary-found kind a some refl k (eqb-false kind tag.Padding p) (attributes vendors global s e false (at + size) at)
@@ -128,8 +128,8 @@ module _ (vendors : List ℕ) (e : Endian) (s : List ℕ) (small : Bytes s) (at 
         (λ k. tt)
 
     -- the theorem of one entry
-    pub entry-written : EntryFound vendors e s at (entryAt vendors global s false levels false e at a)
-    unfolding entryAt entryFrom headAt sizeHead
+    pub entry-written : EntryFound vendors e s at (readEntry vendors global s false levels false e at a)
+    unfolding readEntry entryFrom headAt sizeHead
     entry-written =
         let size : ℕ = valueOf e 4 s at in
         read-all (sizeHead false s e at) (Refused reason.Short) e 4 s at HeadFound

@@ -11,7 +11,7 @@ use Rattle.numbers.specs.declared.Endian.{Endian}
 use Rattle.attributes.specs.Read.{readAttribute}
 use Rattle.attributes.specs.declared.read.Attribute as attribute
 use Rattle.tables.specs.declared.row.Attr.{Attr}
-use Rattle.entries.specs.Run.{Run, ran, failed, first, attr, readOn, runEnds, runFrom}
+use Rattle.entries.specs.Run.{Run, ran, failed, first, attr, readOn, runEnds, readRun}
 use Rattle.numbers.specs.Written.{Bytes}
 use Rattle.entries.specs.Standard.{Attribute, writtenAttribute, writtenAttributes}
 use Rattle.numbers.proofs.Laws.Stands.{Stands, none-stands, both-stand}
@@ -54,13 +54,13 @@ module _ (vendors : List ℕ) (e : Endian) (s : List ℕ) where
   on-found at (attribute.the-variants.Short field) k x others = tt
   on-found at (attribute.the-variants.Unknown field) k x others = tt
 
-  pub run-found : (global : ℕ) → Bytes s → (end f at : ℕ) → at ≤ length s → AllFound vendors e s at (runFrom vendors global s e false end f false at)
-  unfolding runFrom runEnds
+  pub run-found : (global : ℕ) → Bytes s → (end f at : ℕ) → at ≤ length s → AllFound vendors e s at (readRun vendors global s e false end f false at)
+  unfolding readRun runEnds
   run-found global small end zero at h = none-found at h
   run-found global small end (suc f) at h =
       elim (decLe (suc at) end) [
-        | yes b ↦ rw (lt-ltb at end b, runFrom)
-            (on-found at (readAttribute vendors e s at) (λ n next. runFrom vendors global s e false end f false next) (attribute-found vendors e s small at)
+        | yes b ↦ rw (lt-ltb at end b, readRun)
+            (on-found at (readAttribute vendors e s at) (λ n next. readRun vendors global s e false end f false next) (attribute-found vendors e s small at)
             (λ n next inside. run-found global small end f next inside))
-        | no b ↦ rw (le-ltb at end (omega arith), runFrom) (none-found at h)
+        | no b ↦ rw (le-ltb at end (omega arith), readRun) (none-found at h)
       ]

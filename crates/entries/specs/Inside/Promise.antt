@@ -14,7 +14,7 @@ use Rattle.tables.specs.declared.row.Row.{Row}
 use Rattle.tables.specs.declared.row.Attr.{Attr}
 use Rattle.entries.specs.Run.{Run, ran, failed}
 use Rattle.entries.specs.Entry.{Entry, next, inside, stop, row, kindOf}
-use Rattle.entries.specs.Walk.{Walk, walked, refused}
+use Rattle.entries.specs.Walk.{Entries, entriesRead, entriesRefused}
 use Rattle.entries.specs.declared.run.Run as run
 use Rattle.entries.specs.declared.entry.State.{State}
 use Rattle.entries.specs.declared.entry.Shape.{Shape}
@@ -156,14 +156,14 @@ pub record EntryRead (s : List ℕ) (from : State) (what : Entry) (r : entry.Ent
   pub stores : EntryStores s from what rows₀ rows₁ attrs₀ attrs₁
 
 -- and of entries one after the other
-unfoldable pub walkAnswer : State → Walk → walk.Walk
-walkAnswer from (walked rs xs place) = walk.the-variants.Walked (advanced from (length rs) (length xs) place)
-walkAnswer from (refused why place) = walk.the-variants.Refused why place
+unfoldable pub walkAnswer : State → Entries → walk.Walk
+walkAnswer from (entriesRead rs xs place) = walk.the-variants.Walked (advanced from (length rs) (length xs) place)
+walkAnswer from (entriesRefused why place) = walk.the-variants.Refused why place
 
-abbrev pub WalkStores : State → Walk → List ℕ → List ℕ → List ℕ → List ℕ → Type 0
-WalkStores from (walked rs xs place) rows₀ rows₁ attrs₀ attrs₁ = Stored from rs xs place rows₀ rows₁ attrs₀ attrs₁
-WalkStores from (refused why place) rows₀ rows₁ attrs₀ attrs₁ = Unit
+abbrev pub WalkStores : State → Entries → List ℕ → List ℕ → List ℕ → List ℕ → Type 0
+WalkStores from (entriesRead rs xs place) rows₀ rows₁ attrs₀ attrs₁ = Stored from rs xs place rows₀ rows₁ attrs₀ attrs₁
+WalkStores from (entriesRefused why place) rows₀ rows₁ attrs₀ attrs₁ = Unit
 
-pub record WalkRead (from : State) (what : Walk) (r : walk.Walk) (rows₀ rows₁ attrs₀ attrs₁ : List ℕ) : Type 0 where
+pub record WalkRead (from : State) (what : Entries) (r : walk.Walk) (rows₀ rows₁ attrs₀ attrs₁ : List ℕ) : Type 0 where
   pub answer : r ≡ walkAnswer from what
   pub stores : WalkStores from what rows₀ rows₁ attrs₀ attrs₁

@@ -2,7 +2,7 @@
 use mathlib.Core.Path.{_≡_, refl}
 use mathlib.Core.List.{map}
 use Rattle.numbers.specs.Value.{valueOf, signedBelow, signedOf, there, readAt}
-use Rattle.format.specs.Lookup.{member, indexOf, lookup}
+use Rattle.format.specs.Lookup.{isOn, indexOf, lookup}
 use Rattle.format.specs.TagKind.{tags}
 use Rattle.format.specs.AttributeKind.{used, alsoKnown, attributeKinds}
 use Rattle.format.specs.Settings.{plays}
@@ -16,9 +16,9 @@ use Rattle.attributes.specs.Text.{zeroFrom}
 use Rattle.attributes.specs.End.{fixedEnd, blockEnd, textEnd, valueEnd}
 use Rattle.attributes.specs.Read.{ending, numbered, readAttribute}
 use Rattle.attributes.specs.Parts.{partAt, blockAt, textAt}
-use Rattle.blocks.specs.Modifiers.{isKnown, isPointer, allKnown, anyPointer, modifiersOf}
-use Rattle.blocks.specs.Types.{withModifiers, modified, knownType, fundamental, fundType, lastOf, modFundType, typeAt}
-use Rattle.blocks.specs.Subscript.{lowBound, knownIndex, indexAt, indexed, oneMore, highBound, constBound, elementOf, elementAs, elementAt, subscriptAs, subscriptOf}
+use Rattle.blocks.specs.Modifiers.{isKnown, isPointer, allKnown, anyPointer, processModifiers}
+use Rattle.blocks.specs.Types.{withModifiers, modified, knownType, fundamental, fundType, lastBytes, modFundType, processType}
+use Rattle.blocks.specs.Subscript.{lowBound, knownIndex, indexAt, indexed, oneMore, highBound, constBound, elementOf, elementAs, elementTypeAt, subscriptAs, nextSubscript}
 use Rattle.blocks.specs.Subscripts.{dimensionWords, elementOr, before, step, subscriptsFrom, wholeBlock, countSubscripts}
 use Rattle.tables.specs.Row.{attrAt}
 use Rattle.links.specs.Typed.{asValue, wordAt}
@@ -30,13 +30,13 @@ use Rattle.records.specs.Elements.{listWidth, valueAt, namedFrom, nameFrom, val
 use Rattle.records.specs.Elements as element
 use Rattle.records.specs.Enumeration.{joined, sizeBefore, listAt, listsFrom}
 use Rattle.entries.specs.Head.{nullEnd, tagHead, sizeHead, headAt}
-use Rattle.entries.specs.Run.{first, runEnds, readOn, runFrom}
-use Rattle.entries.specs.Entry.{flip, littleFlag, flagOf, flagsOf, kindOf, ordinary, rooted, attributes, rootEndian, rootIn, entryFrom, entryAt}
-use Rattle.entries.specs.Walk.{join, andThen, onward, walkFrom, walkAt}
+use Rattle.entries.specs.Run.{first, runEnds, readOn, readRun}
+use Rattle.entries.specs.Entry.{flip, littleFlag, flagOf, flagsOf, kindOf, ordinary, rooted, attributes, rootEndian, rootIn, entryFrom, readEntry}
+use Rattle.entries.specs.Walk.{join, entriesThen, onward, entriesFrom, readTags}
 use Rattle.entries.specs.Section.{wholeWalk}
 use Rattle.examples.specs.Examples.{answer, examples}
 
 -- the definitions answer what document 01 says, in every row
 pub examples-hold : map (λ e. answer (e .asked)) examples ≡ map (λ e. e .said) examples
-unfolding answer examples numberOf parseInt fundTypeOf fundTypes modifierOf modifiers valueOf there readAt member indexOf lookup tags used alsoKnown attributeKinds known forms formOf zeroFrom fixedEnd blockEnd textEnd valueEnd ending numbered readAttribute textAt nullEnd tagHead sizeHead headAt first plays runEnds readOn runFrom flip littleFlag flagOf flagsOf kindOf ordinary rooted attributes rootEndian rootIn entryFrom entryAt join andThen onward walkFrom walkAt wholeWalk subscriptFormats subscriptFormatOf partAt blockAt isKnown isPointer allKnown anyPointer modifiersOf withModifiers modified knownType fundamental fundType lastOf modFundType typeAt lowBound knownIndex indexAt indexed oneMore highBound constBound elementOf elementAs elementAt subscriptAs subscriptOf dimensionWords elementOr before step subscriptsFrom wholeBlock countSubscripts asValue wordAt takenBy roleTaken takes special attributeAt attrAt expectedForms expected expectedForm isType contentFault formFault attributeFault faultAt numberAt formNumber isForm isSought lastFrom asWord wordIn wordBy unless listWidth valueAt namedFrom nameFrom valued element.elementAt element.andThen elementThen elementsFrom elementsIn signedOf signedBelow joined sizeBefore listAt listsFrom
+unfolding answer examples numberOf parseInt fundTypeOf fundTypes modifierOf modifiers valueOf there readAt isOn indexOf lookup tags used alsoKnown attributeKinds known forms formOf zeroFrom fixedEnd blockEnd textEnd valueEnd ending numbered readAttribute textAt nullEnd tagHead sizeHead headAt first plays runEnds readOn readRun flip littleFlag flagOf flagsOf kindOf ordinary rooted attributes rootEndian rootIn entryFrom readEntry join entriesThen onward entriesFrom readTags wholeWalk subscriptFormats subscriptFormatOf partAt blockAt isKnown isPointer allKnown anyPointer processModifiers withModifiers modified knownType fundamental fundType lastBytes modFundType processType lowBound knownIndex indexAt indexed oneMore highBound constBound elementOf elementAs elementTypeAt subscriptAs nextSubscript dimensionWords elementOr before step subscriptsFrom wholeBlock countSubscripts asValue wordAt takenBy roleTaken takes special attributeAt attrAt expectedForms expected expectedForm isType contentFault formFault attributeFault faultAt numberAt formNumber isForm isSought lastFrom asWord wordIn wordBy unless listWidth valueAt namedFrom nameFrom valued element.elementAt element.elementsThen elementThen elementsFrom elementsIn signedOf signedBelow joined sizeBefore listAt listsFrom
 examples-hold = refl

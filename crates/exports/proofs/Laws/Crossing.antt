@@ -6,18 +6,18 @@ use Rattle.lent.specs.Outcome.{Given, BothGiven}
 use Rattle.numbers.specs.declared.Endian.{Endian}
 use Rattle.format.specs.declared.settings.Settings.{Settings}
 use Rattle.tables.specs.declared.row.Counts.{Counts}
-use Rattle.entries.specs.Section.{countSection, readSection}
+use Rattle.entries.specs.Section.{countDebugSection, readDebugSection}
 use Rattle.entries.specs.declared.section.Count.{Count}
 use Rattle.entries.specs.declared.section.Section.{Section}
 use Rattle.sizes.specs.Size.{sizeOfKey}
-use Rattle.layout.specs.All.{allOf}
+use Rattle.layout.specs.All.{allLayouts}
 use Rattle.layout.specs.declared.all.AllLayouts.{AllLayouts}
-use Rattle.layout.specs.Layout.{layoutOf}
+use Rattle.layout.specs.Layout.{layoutOfKey}
 use Rattle.sizes.specs.declared.sized.Sized.{Sized}
 use Rattle.layout.specs.declared.one.LayoutRead.{LayoutRead}
-use Rattle.blocks.specs.Location.{offsetOf}
+use Rattle.blocks.specs.Location.{processOffset}
 use Rattle.blocks.specs.declared.location.Located.{Located}
-use Rattle.tree.specs.Tree.{treeOf}
+use Rattle.tree.specs.Tree.{listTree}
 use Rattle.tree.specs.declared.listing.Listing.{Listing}
 use Rattle.exports.specs.Crossing.{countTold, sectionTold, sizeTold, offsetTold, treeTold, layoutTold, layoutsTold, SaysOne, SaysTwo, SaysThree, CountCrosses, SectionCrosses, SizeCrosses, OffsetCrosses, TreeCrosses, LayoutCrosses, LayoutsCross}
 use Rattle.exports.specs.declared.told.Told.{Told}
@@ -38,16 +38,16 @@ said-three : (told : Told) {t : Told} → t ≡ told → SaysThree told (t .numb
 said-three told p = record { says = said-two told p; third-is = ap (λ (x : Told). x .third) p }
 
 module _ {settings settings′ : Settings} (same : settings ≡ settings′) (vendors sizes s : List ℕ) where
-  pub count-crosses : {answer : Count} {t : Told} → answer ≡ countSection settings vendors sizes s → t ≡ countTold answer
-      → CountCrosses (countSection settings′ vendors sizes s) (t .number) (t .place) (t .first) (t .second)
-  count-crosses p q = said-two _ (q ∙ ap countTold (p ∙ ap (λ (x : Settings). countSection x vendors sizes s) same))
+  pub count-crosses : {answer : Count} {t : Told} → answer ≡ countDebugSection settings vendors sizes s → t ≡ countTold answer
+      → CountCrosses (countDebugSection settings′ vendors sizes s) (t .number) (t .place) (t .first) (t .second)
+  count-crosses p q = said-two _ (q ∙ ap countTold (p ∙ ap (λ (x : Settings). countDebugSection x vendors sizes s) same))
 
   module _ (rows attrs : List ℕ) where
     pub read-crosses : {answer : Section} {t : Told} {rows₁ attrs₁ : List ℕ}
-        → BothGiven (readSection settings vendors sizes s rows attrs) answer rows₁ attrs₁ → t ≡ sectionTold answer
-        → SectionCrosses (readSection settings′ vendors sizes s rows attrs) (t .number) (t .place) (t .first) (t .second) rows₁ attrs₁
+        → BothGiven (readDebugSection settings vendors sizes s rows attrs) answer rows₁ attrs₁ → t ≡ sectionTold answer
+        → SectionCrosses (readDebugSection settings′ vendors sizes s rows attrs) (t .number) (t .place) (t .first) (t .second) rows₁ attrs₁
     read-crosses {answer} {t} {rows₁} {attrs₁} p q =
-        subst (λ (x : Settings). SectionCrosses (readSection x vendors sizes s rows attrs) (t .number) (t .place) (t .first) (t .second) rows₁ attrs₁) same
+        subst (λ (x : Settings). SectionCrosses (readDebugSection x vendors sizes s rows attrs) (t .number) (t .place) (t .first) (t .second) rows₁ attrs₁) same
         (record { says = said-two _ (q ∙ ap sectionTold (p .answer-is)); row-table = p .first-is; attr-table = p .second-is })
 
     module _ {counts counts′ : Counts} (many : counts ≡ counts′) where
@@ -60,29 +60,29 @@ module _ {settings settings′ : Settings} (same : settings ≡ settings′) (ve
           (p ∙ ap (λ (x : Settings). sizeOfKey x vendors sizes s rows attrs counts key) same ∙ ap (λ (n : Counts). sizeOfKey settings′ vendors sizes s rows attrs n key) many))
 
       pub tree-crosses : (room : List ℕ) {answer : Listing} {t : Told} {room₁ : List ℕ}
-          → Given (treeOf settings vendors sizes s rows attrs counts room) answer room₁ → t ≡ treeTold answer
-          → TreeCrosses (treeOf settings′ vendors sizes s rows attrs counts′ room) (t .number) (t .place) (t .first) room₁
+          → Given (listTree settings vendors sizes s rows attrs counts room) answer room₁ → t ≡ treeTold answer
+          → TreeCrosses (listTree settings′ vendors sizes s rows attrs counts′ room) (t .number) (t .place) (t .first) room₁
       tree-crosses room {answer} {t} {room₁} p q =
-          subst (λ (n : Counts). TreeCrosses (treeOf settings′ vendors sizes s rows attrs n room) (t .number) (t .place) (t .first) room₁) many
-          (subst (λ (x : Settings). TreeCrosses (treeOf x vendors sizes s rows attrs counts room) (t .number) (t .place) (t .first) room₁) same
+          subst (λ (n : Counts). TreeCrosses (listTree settings′ vendors sizes s rows attrs n room) (t .number) (t .place) (t .first) room₁) many
+          (subst (λ (x : Settings). TreeCrosses (listTree x vendors sizes s rows attrs counts room) (t .number) (t .place) (t .first) room₁) same
           (record { says = said-one _ (q ∙ ap treeTold (p .answer-is)); room-is = p .room-is }))
 
       pub layout-crosses : (key : ℕ) (room : List ℕ) {answer : LayoutRead} {t : Told} {room₁ : List ℕ}
-          → Given (layoutOf settings vendors sizes s rows attrs counts key room) answer room₁ → t ≡ layoutTold answer
-          → LayoutCrosses (layoutOf settings′ vendors sizes s rows attrs counts′ key room) (t .number) (t .place) (t .first) (t .second) (t .third) room₁
+          → Given (layoutOfKey settings vendors sizes s rows attrs counts key room) answer room₁ → t ≡ layoutTold answer
+          → LayoutCrosses (layoutOfKey settings′ vendors sizes s rows attrs counts′ key room) (t .number) (t .place) (t .first) (t .second) (t .third) room₁
       layout-crosses key room {answer} {t} {room₁} p q =
-          subst (λ (n : Counts). LayoutCrosses (layoutOf settings′ vendors sizes s rows attrs n key room) (t .number) (t .place) (t .first) (t .second) (t .third) room₁) many
-          (subst (λ (x : Settings). LayoutCrosses (layoutOf x vendors sizes s rows attrs counts key room) (t .number) (t .place) (t .first) (t .second) (t .third) room₁) same
+          subst (λ (n : Counts). LayoutCrosses (layoutOfKey settings′ vendors sizes s rows attrs n key room) (t .number) (t .place) (t .first) (t .second) (t .third) room₁) many
+          (subst (λ (x : Settings). LayoutCrosses (layoutOfKey x vendors sizes s rows attrs counts key room) (t .number) (t .place) (t .first) (t .second) (t .third) room₁) same
           (record { says = said-three _ (q ∙ ap layoutTold (p .answer-is)); room-is = p .room-is }))
 
       pub layouts-cross : (structures room : List ℕ) {answer : AllLayouts} {t : Told} {structures₁ room₁ : List ℕ}
-          → BothGiven (allOf settings vendors sizes s rows attrs counts structures room) answer structures₁ room₁ → t ≡ layoutsTold answer
-          → LayoutsCross (allOf settings′ vendors sizes s rows attrs counts′ structures room) (t .number) (t .place) (t .first) (t .second) structures₁ room₁
+          → BothGiven (allLayouts settings vendors sizes s rows attrs counts structures room) answer structures₁ room₁ → t ≡ layoutsTold answer
+          → LayoutsCross (allLayouts settings′ vendors sizes s rows attrs counts′ structures room) (t .number) (t .place) (t .first) (t .second) structures₁ room₁
       layouts-cross structures room {answer} {t} {structures₁} {room₁} p q =
-          subst (λ (n : Counts). LayoutsCross (allOf settings′ vendors sizes s rows attrs n structures room) (t .number) (t .place) (t .first) (t .second) structures₁ room₁) many
-          (subst (λ (x : Settings). LayoutsCross (allOf x vendors sizes s rows attrs counts structures room) (t .number) (t .place) (t .first) (t .second) structures₁ room₁) same
+          subst (λ (n : Counts). LayoutsCross (allLayouts settings′ vendors sizes s rows attrs n structures room) (t .number) (t .place) (t .first) (t .second) structures₁ room₁) many
+          (subst (λ (x : Settings). LayoutsCross (allLayouts x vendors sizes s rows attrs counts structures room) (t .number) (t .place) (t .first) (t .second) structures₁ room₁) same
           (record { says = said-two _ (q ∙ ap layoutsTold (p .answer-is)); structure-room = p .first-is; member-room = p .second-is }))
 
-pub offset-crosses : {e e′ : Endian} → e ≡ e′ → (block : List ℕ) {answer : Located} {t : Told} → answer ≡ offsetOf e block → t ≡ offsetTold answer
-    → OffsetCrosses (offsetOf e′ block) (t .number) (t .place) (t .first)
-offset-crosses same block p q = said-one _ (q ∙ ap offsetTold (p ∙ ap (λ (x : Endian). offsetOf x block) same))
+pub offset-crosses : {e e′ : Endian} → e ≡ e′ → (block : List ℕ) {answer : Located} {t : Told} → answer ≡ processOffset e block → t ≡ offsetTold answer
+    → OffsetCrosses (processOffset e′ block) (t .number) (t .place) (t .first)
+offset-crosses same block p q = said-one _ (q ∙ ap offsetTold (p ∙ ap (λ (x : Endian). processOffset x block) same))

@@ -9,7 +9,7 @@ use mathlib.Core.List.{List, [], _∷_}
 use lib.ListN.{take, drop}
 use lib.Dec.{ltb}
 use borrow.Author.Tests.{ltb-true, ne-eqb}
-use Rattle.format.specs.Lookup.{member}
+use Rattle.format.specs.Lookup.{isOn}
 
 and-left : (a b : Bool) → (a && b) ≡ true → a ≡ true
 and-left true b t = refl
@@ -49,8 +49,8 @@ allBelow b [] = true
 allBelow b (x ∷ xs) = ltb x b && allBelow b xs
 
 -- a number beyond the first k of a list is among the others or not on it
-pub beyond : (b k : ℕ) (xs : List ℕ) (n : ℕ) → allBelow b (take k xs) ≡ true → b ≤ n → member n xs ≡ member n (drop k xs)
-unfolding allBelow member
+pub beyond : (b k : ℕ) (xs : List ℕ) (n : ℕ) → allBelow b (take k xs) ≡ true → b ≤ n → isOn n xs ≡ isOn n (drop k xs)
+unfolding allBelow isOn
 beyond b zero xs n t h = refl
 beyond b (suc k) [] n t h = refl
 beyond b (suc k) (x ∷ xs) n t h =

@@ -10,20 +10,20 @@ use lib.ListN.{length, getD, drop, drop-of-length-le}
 use lib.Seq.{drop-cons}
 use lib.Dec.{eqb, ltb, leb·suc-suc}
 use borrow.Author.Tests.{eq-eqb, ne-eqb, lt-ltb}
-use Rattle.format.specs.Lookup.{Line, _means_, member, indexOf, lookup}
+use Rattle.format.specs.Lookup.{Line, _means_, isOn, indexOf, lookup}
 
 -- from i on: the element at i, or one after it
-pub member-step : (xs : List ℕ) (i x : ℕ) → i < length xs → member x (drop i xs) ≡ (eqb (getD xs i 0) x || member x (drop (i + 1) xs))
-unfolding member
+pub member-step : (xs : List ℕ) (i x : ℕ) → i < length xs → isOn x (drop i xs) ≡ (eqb (getD xs i 0) x || isOn x (drop (i + 1) xs))
+unfolding isOn
 member-step xs i x h = rw (add-one, drop-cons xs i 0)
 
-pub member-end : (xs : List ℕ) (i x : ℕ) → length xs ≤ i → false ≡ member x (drop i xs)
-unfolding member
+pub member-end : (xs : List ℕ) (i x : ℕ) → length xs ≤ i → false ≡ isOn x (drop i xs)
+unfolding isOn
 member-end xs i x h = rw (drop-of-length-le xs h)
 
 -- what was found before i, with what stands from i on, comes to the whole list
-module _ (xs : List ℕ) (i x : ℕ) (found : Bool) {all : Bool} (left : (found || member x (drop i xs)) ≡ all) where
-  pub scan-next : i < length xs → ((found || eqb (getD xs i 0) x) || member x (drop (i + 1) xs)) ≡ all
+module _ (xs : List ℕ) (i x : ℕ) (found : Bool) {all : Bool} (left : (found || isOn x (drop i xs)) ≡ all) where
+  pub scan-next : i < length xs → ((found || eqb (getD xs i 0) x) || isOn x (drop (i + 1) xs)) ≡ all
   scan-next h = or-assoc found _ _ ∙ ap (λ (b : Bool). found || b) (sym (member-step xs i x h)) ∙ left
 
   pub scan-end : length xs ≤ i → found ≡ all
@@ -50,10 +50,10 @@ one-more true later k n p = sym (lt-ltb 0 (suc n) (omega arith))
 one-more false later k n p = p ∙ sym (leb·suc-suc (suc k) n)
 
 -- a number is on the list where its place is below the list's length
-pub member-index : (xs : List ℕ) (x : ℕ) → member x xs ≡ ltb (indexOf x xs) (length xs)
-unfolding member indexOf
+pub member-index : (xs : List ℕ) (x : ℕ) → isOn x xs ≡ ltb (indexOf x xs) (length xs)
+unfolding isOn indexOf
 member-index [] x = refl
-member-index (y ∷ xs) x = one-more (eqb y x) (member x xs) (indexOf x xs) (length xs) (member-index xs x)
+member-index (y ∷ xs) x = one-more (eqb y x) (isOn x xs) (indexOf x xs) (length xs) (member-index xs x)
 
 -- numbers put behind a list do not change the place of one that is on it
 pub index-append : (xs ys : List ℕ) (x : ℕ) → indexOf x xs < length xs → indexOf x (xs ++ ys) ≡ indexOf x xs
@@ -94,13 +94,13 @@ either-is : (b c : Bool) → cond b true c ≡ (b || c)
 either-is true c = refl
 either-is false c = refl
 
-lines-member : (xs : List ℕ) (n : ℕ) → lookup (lines xs) false n ≡ member n xs
-unfolding lookup member
+lines-member : (xs : List ℕ) (n : ℕ) → lookup (lines xs) false n ≡ isOn n xs
+unfolding lookup isOn
 lines-member [] n = refl
-lines-member (x ∷ xs) n = ap (cond (eqb x n) true) (lines-member xs n) ∙ either-is (eqb x n) (member n xs)
+lines-member (x ∷ xs) n = ap (cond (eqb x n) true) (lines-member xs n) ∙ either-is (eqb x n) (isOn n xs)
 
 -- none of the list's numbers
-pub unlisted : (P : Type 0) (xs : List ℕ) (n : ℕ) → NoneOf P n (lines xs) → false ≡ member n xs
+pub unlisted : (P : Type 0) (xs : List ℕ) (n : ℕ) → NoneOf P n (lines xs) → false ≡ isOn n xs
 unlisted P xs n t = lookup-none P (lines xs) false n t ∙ lines-member xs n
 
 -- nor has such a number a place on it

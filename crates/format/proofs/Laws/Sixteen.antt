@@ -8,7 +8,7 @@ use mathlib.Core.List.{List, [], _∷_}
 use lib.ListN.{length, getD, drop, drop-of-length-le}
 use lib.Seq.{drop-drop}
 use lib.Dec.{eqb}
-use Rattle.format.specs.Lookup.{member}
+use Rattle.format.specs.Lookup.{isOn}
 use Rattle.format.proofs.Laws.Lookup.{member-step}
 use Rattle.format.specs.Inside.Sixteen.{someIs}
 
@@ -21,44 +21,44 @@ some-of-sixteen xs x i = simp (or-assoc, or-false, add-assoc)
 
 module _ (xs : List ℕ) (x : ℕ) where
   -- from i on: one of the n numbers, or one after them
-  some-step : (n i : ℕ) → i + n ≤ length xs → member x (drop i xs) ≡ (someIs xs x i n || member x (drop (i + n) xs))
+  some-step : (n i : ℕ) → i + n ≤ length xs → isOn x (drop i xs) ≡ (someIs xs x i n || isOn x (drop (i + n) xs))
   unfolding someIs
-  some-step zero i h = ap (λ (k : ℕ). member x (drop k xs)) (sym (add-zero i))
+  some-step zero i h = ap (λ (k : ℕ). isOn x (drop k xs)) (sym (add-zero i))
   some-step (suc n) i h =
       let after : i + 1 + n ≡ i + suc n = omega arith in
       member-step xs i x (omega arith)
-      ∙ ap (λ (b : Bool). eqb (getD xs i 0) x || b) (some-step n (i + 1) (omega arith) ∙ ap (λ (k : ℕ). someIs xs x (i + 1) n || member x (drop k xs)) after)
+      ∙ ap (λ (b : Bool). eqb (getD xs i 0) x || b) (some-step n (i + 1) (omega arith) ∙ ap (λ (k : ℕ). someIs xs x (i + 1) n || isOn x (drop k xs)) after)
       ∙ sym (or-assoc (eqb (getD xs i 0) x) _ _)
 
   -- so many numbers up to the list's end
-  some-last : (n i : ℕ) → i + n ≡ length xs → someIs xs x i n ≡ member x (drop i xs)
-  unfolding member
+  some-last : (n i : ℕ) → i + n ≡ length xs → someIs xs x i n ≡ isOn x (drop i xs)
+  unfolding isOn
   some-last n i h =
       let whole : i + n ≤ length xs = omega arith in
       let past : length xs ≤ i + n = omega arith in
-      sym (or-false (someIs xs x i n)) ∙ sym (some-step n i whole ∙ ap (λ (l : List ℕ). someIs xs x i n || member x l) (drop-of-length-le xs past))
+      sym (or-false (someIs xs x i n)) ∙ sym (some-step n i whole ∙ ap (λ (l : List ℕ). someIs xs x i n || isOn x l) (drop-of-length-le xs past))
 
 -- what stands in a rest of the list stands in it
-absorbed : (xs : List ℕ) (x k : ℕ) → (member x xs || member x (drop k xs)) ≡ member x xs
-unfolding member
-absorbed xs x zero = or-self (member x xs)
+absorbed : (xs : List ℕ) (x k : ℕ) → (isOn x xs || isOn x (drop k xs)) ≡ isOn x xs
+unfolding isOn
+absorbed xs x zero = or-self (isOn x xs)
 absorbed [] x (suc k) = refl
 absorbed (y ∷ xs) x (suc k) = or-assoc (eqb y x) _ _ ∙ ap (λ (b : Bool). eqb y x || b) (absorbed xs x k)
 
 -- what was found so far, all from `last` on being looked at: with what stands from i on it comes to the whole list
 pub record Sought (xs : List ℕ) (x last i : ℕ) (found : Bool) : Type 0 where
   pub reached : last + 16 ≡ length xs
-  pub ends : (found || member x (drop last xs)) ≡ found
-  pub left : (found || member x (drop i xs)) ≡ member x xs
+  pub ends : (found || isOn x (drop last xs)) ≡ found
+  pub left : (found || isOn x (drop i xs)) ≡ isOn x xs
 
 module _ {xs : List ℕ} {x last : ℕ} where
   pub sought-first : {found : Bool} → last + 16 ≡ length xs → found ≡ someIs xs x last 16 → Sought xs x last 0 found
   sought-first {found} h f =
-      let found-last : found ≡ member x (drop last xs) = f ∙ some-last xs x 16 last h in
+      let found-last : found ≡ isOn x (drop last xs) = f ∙ some-last xs x 16 last h in
       record {
         reached = h;
         ends = ap (λ (b : Bool). found || b) (sym found-last) ∙ or-self found;
-        left = ap (λ (b : Bool). b || member x xs) found-last ∙ or-comm (member x (drop last xs)) (member x xs) ∙ absorbed xs x last;
+        left = ap (λ (b : Bool). b || isOn x xs) found-last ∙ or-comm (isOn x (drop last xs)) (isOn x xs) ∙ absorbed xs x last;
       }
 
   module _ {i : ℕ} {found : Bool} (so : Sought xs x last i found) where
@@ -67,18 +67,18 @@ module _ {xs : List ℕ} {x last : ℕ} where
         record {
           reached = so .reached;
           ends =
-              or-assoc found more _ ∙ ap (λ (b : Bool). found || b) (or-comm more (member x (drop last xs))) ∙ sym (or-assoc found _ more)
+              or-assoc found more _ ∙ ap (λ (b : Bool). found || b) (or-comm more (isOn x (drop last xs))) ∙ sym (or-assoc found _ more)
               ∙ ap (λ (b : Bool). b || more) (so .ends);
           left =
-              or-assoc found more _ ∙ ap (λ (b : Bool). found || (b || member x (drop (i + 16) xs))) m
+              or-assoc found more _ ∙ ap (λ (b : Bool). found || (b || isOn x (drop (i + 16) xs))) m
               ∙ ap (λ (b : Bool). found || b) (sym (some-step xs x 16 i h)) ∙ so .left;
         }
 
-    pub sought-end : last ≤ i → found ≡ member x xs
+    pub sought-end : last ≤ i → found ≡ isOn x xs
     sought-end h =
         let past : last + (i - last) ≡ i = omega arith in
         let behind : drop (i - last) (drop last xs) ≡ drop i xs = drop-drop (i - last) last xs ∙ ap (λ (k : ℕ). drop k xs) past in
-        let within : (member x (drop last xs) || member x (drop i xs)) ≡ member x (drop last xs) =
-        ap (λ (l : List ℕ). member x (drop last xs) || member x l) (sym behind) ∙ absorbed (drop last xs) x (i - last) in
+        let within : (isOn x (drop last xs) || isOn x (drop i xs)) ≡ isOn x (drop last xs) =
+        ap (λ (l : List ℕ). isOn x (drop last xs) || isOn x l) (sym behind) ∙ absorbed (drop last xs) x (i - last) in
         sym (so .ends) ∙ ap (λ (b : Bool). found || b) (sym within) ∙ sym (or-assoc found _ _)
-        ∙ ap (λ (b : Bool). b || member x (drop i xs)) (so .ends) ∙ so .left
+        ∙ ap (λ (b : Bool). b || isOn x (drop i xs)) (so .ends) ∙ so .left

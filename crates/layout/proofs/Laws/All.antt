@@ -37,22 +37,22 @@ use Rattle.records.specs.MemberWords.{namePlace, nameLength}
 use Rattle.records.specs.declared.scan.Run.{Run}
 use Rattle.records.specs.declared.fields.Name.{Name}
 use Rattle.records.specs.Member.{memberAt}
-use Rattle.records.specs.Unions.{Placed, Members, members, refused, andMember, memberThen}
+use Rattle.records.specs.Unions.{Placed, Members, members, membersRefused, andMember, memberThen}
 use Rattle.records.specs.declared.member.Member.{Member}
 use Rattle.records.specs.declared.member.MemberRead.{MemberRead}
 use Rattle.records.specs.declared.member.MemberRead.the-variants as read
-use Rattle.sizes.specs.Size.{shapeOf, typeSize, memberSize, childThen, membersFrom, membersBy, membersOf}
-use Rattle.sizes.specs.Inside.Size.{Ready, typeFrom}
+use Rattle.sizes.specs.Size.{shapeOf, typeSize, memberSize, memberChildThen, memberRowsFrom, memberRowsBy, membersOf}
+use Rattle.sizes.specs.Inside.Size.{TableReady, typeSizeFrom}
 use Rattle.sizes.specs.Inside.Known.{knownWidth, knownAt, PutKnown}
-use Rattle.layout.specs.Inside.Levels.{deepest, sizeLeft, Filled}
+use Rattle.layout.specs.Inside.Levels.{deepest, sizeLeft, KnownUpTo}
 use Rattle.layout.proofs.Laws.Levels.{known-types}
-use Rattle.layout.specs.Layout.{Laid, Lay, laid, unlaid, laidMember, andLaid, layThen, endOr, laidFrom, isBounded, ownSize, membersLaid, shapeLaid, rowLay, layoutBy, layoutAt, laidWords, laidWidth}
+use Rattle.layout.specs.Layout.{Laid, Lay, laid, unlaid, laidMember, andLaid, layThen, endOr, laidFrom, hasByteSize, ownSize, membersLaid, shapeLaid, rowLay, layoutBy, layoutAt, laidWords, laidWidth}
 use Rattle.sizes.specs.Size.{isStructure}
 use Rattle.layout.specs.Inside.Layout.{WholeLaid}
 use Rattle.sizes.proofs.Laws.Kept.{structure-test}
 use Rattle.layout.proofs.Laws.Layout.{words-long, AllLaid, answer-laid, isNone}
-use Rattle.layout.specs.All.{Structure, laidOf, alsoIf, structureAt, structuresFrom, answerWords, structureWidth, structureWords, memberWords, memberCount, countsOf, intoRooms, allOf}
-use Rattle.layout.specs.Inside.All.{rowStructures, eightWords, countedOn, countedWith, OneMore, CountAsked, sizeTold, Told, RowCounted, PutAsked, Puts, PutsAsked, PutAll}
+use Rattle.layout.specs.All.{Structure, laidOf, alsoIf, structureAt, structuresFrom, answerWords, structureWidth, structureWords, allMemberWords, memberCount, countsOf, layoutsInto, allLayouts}
+use Rattle.layout.specs.Inside.All.{rowStructures, eightWords, countedOn, countedWith, OneMore, CountAsked, wholeTold, WholesTold, RowCounted, PutAsked, Puts, PutsAsked, PutAll}
 use Rattle.sizes.specs.declared.prepare.Shape.{Shape}
 use Rattle.sizes.specs.declared.prepare.Shape.the-variants as shape
 use Rattle.sizes.specs.declared.sized.Sized.{Sized}
@@ -68,16 +68,16 @@ use Rattle.layout.specs.declared.all.AllLayouts.the-variants as all
 
 abbrev fewMembers : ℕ → Members → Type 0
 fewMembers k (members ms) = length ms ≤ k
-fewMembers k (refused why) = Unit
+fewMembers k (membersRefused why) = Unit
 
 few-and : (k c : ℕ) (m : Member) (rest : Members) → fewMembers k rest → fewMembers (suc k) (andMember c m rest)
 unfolding andMember
 few-and k c m (members ms) h = omega (arith, h)
-few-and k c m (refused why) h = tt
+few-and k c m (membersRefused why) h = tt
 
 few-more : (k : ℕ) (rest : Members) → fewMembers k rest → fewMembers (suc k) rest
 few-more k (members ms) h = omega (arith, h)
-few-more k (refused why) h = tt
+few-more k (membersRefused why) h = tt
 
 few-then : (k c : ℕ) (m : MemberRead) (rest : Members) → fewMembers k rest → fewMembers (suc k) (memberThen c m rest)
 unfolding memberThen
@@ -85,22 +85,22 @@ few-then k c (read.Is m) rest h = few-and k c m rest h
 few-then k c (read.Refused why) rest h = tt
 
 module _ (settings : Settings) (s rows attrs : List ℕ) (n : ℕ) where
-  few-from : (cs : List ℕ) → fewMembers (length cs) (membersFrom settings s rows attrs n cs)
-  unfolding membersFrom childThen
+  few-from : (cs : List ℕ) → fewMembers (length cs) (memberRowsFrom settings s rows attrs n cs)
+  unfolding memberRowsFrom memberChildThen
   few-from [] = omega arith
   few-from (c ∷ cs) =
       cond-all (fewMembers (suc (length cs))) (eqb (rowAt rows c .kind) tag.Member)
-      (λ t. few-then (length cs) c (memberAt settings s rows attrs n c) (membersFrom settings s rows attrs n cs) (few-from cs))
-      (λ t. few-more (length cs) (membersFrom settings s rows attrs n cs) (few-from cs))
+      (λ t. few-then (length cs) c (memberAt settings s rows attrs n c) (memberRowsFrom settings s rows attrs n cs) (few-from cs))
+      (λ t. few-more (length cs) (memberRowsFrom settings s rows attrs n cs) (few-from cs))
 
 few-weaker : {j k : ℕ} (ms : Members) → j ≤ k → fewMembers j ms → fewMembers k ms
 few-weaker (members ms) h l = omega (arith, h, l)
-few-weaker (refused why) h l = tt
+few-weaker (membersRefused why) h l = tt
 
 module _ (settings : Settings) (s rows attrs : List ℕ) (n : ℕ) where
-  few-by : (key : ℕ) (w : Walk) → length (nonNull rows (rowsMet w)) ≤ n → fewMembers n (membersBy settings s rows attrs n key w)
-  unfolding membersBy rowsMet
-  few-by key (ends cs) h = few-weaker (membersFrom settings s rows attrs n (nonNull rows cs)) h (few-from settings s rows attrs n (nonNull rows cs))
+  few-by : (key : ℕ) (w : Walk) → length (nonNull rows (rowsMet w)) ≤ n → fewMembers n (memberRowsBy settings s rows attrs n key w)
+  unfolding memberRowsBy rowsMet
+  few-by key (ends cs) h = few-weaker (memberRowsFrom settings s rows attrs n (nonNull rows cs)) h (few-from settings s rows attrs n (nonNull rows cs))
   few-by key endless h = tt
 
   few-of : (i : ℕ) → fewMembers n (membersOf settings s rows attrs n i)
@@ -135,8 +135,8 @@ module _ (rows : List ℕ) (sizeOf : «Type» → Sized) (bounded : Bool) where
 module _ (settings : Settings) (s rows attrs : List ℕ) (n : ℕ) (sizeOf : «Type» → Sized) (i : ℕ) where
   few-members : (ms : Members) → fewMembers n ms → length (laidOf (membersLaid settings s rows attrs n sizeOf i ms)) ≤ n
   unfolding membersLaid laidOf
-  few-members (members ms) h = le-trans (few-laid rows sizeOf (isBounded (ownSize settings s rows attrs n sizeOf i)) 0 ms) h
-  few-members (refused why) h = omega arith
+  few-members (members ms) h = le-trans (few-laid rows sizeOf (hasByteSize (ownSize settings s rows attrs n sizeOf i)) 0 ms) h
+  few-members (membersRefused why) h = omega arith
 
   few-shape : (x : Shape) → length (laidOf (shapeLaid settings s rows attrs n sizeOf i x)) ≤ n
   unfolding isStructure shapeLaid laidOf
@@ -180,20 +180,20 @@ structure-long first (x ∷ xs) =
     length-append (answerWords (x .row) (x .name) first (x .answer)) (structureWords (first + length (x .members)) xs) in
     omega arith
 
-pub member-append : (xs ys : List Structure) → memberWords (xs ++ ys) ≡ memberWords xs ++ memberWords ys
-unfolding memberWords
+pub member-append : (xs ys : List Structure) → allMemberWords (xs ++ ys) ≡ allMemberWords xs ++ allMemberWords ys
+unfolding allMemberWords
 member-append [] ys = refl
 member-append (x ∷ xs) ys =
-    ap (λ (ws : List ℕ). laidWords (x .members) ++ ws) (member-append xs ys) ∙ sym (append-assoc (laidWords (x .members)) (memberWords xs) (memberWords ys))
+    ap (λ (ws : List ℕ). laidWords (x .members) ++ ws) (member-append xs ys) ∙ sym (append-assoc (laidWords (x .members)) (allMemberWords xs) (allMemberWords ys))
 
-pub member-long : (xs : List Structure) → length (memberWords xs) ≡ memberCount xs * laidWidth
-unfolding memberWords memberCount
+pub member-long : (xs : List Structure) → length (allMemberWords xs) ≡ memberCount xs * laidWidth
+unfolding allMemberWords memberCount
 member-long [] = refl
 member-long (x ∷ xs) =
-    let rest : length (memberWords xs) ≡ memberCount xs * laidWidth = member-long xs in
+    let rest : length (allMemberWords xs) ≡ memberCount xs * laidWidth = member-long xs in
     let one : length (laidWords (x .members)) ≡ length (x .members) * laidWidth = words-long (x .members) in
-    let both : length (laidWords (x .members) ++ memberWords xs) ≡ length (laidWords (x .members)) + length (memberWords xs) =
-    length-append (laidWords (x .members)) (memberWords xs) in
+    let both : length (laidWords (x .members) ++ allMemberWords xs) ≡ length (laidWords (x .members)) + length (allMemberWords xs) =
+    length-append (laidWords (x .members)) (allMemberWords xs) in
     omega arith
 
 count-append : (xs ys : List Structure) → memberCount (xs ++ ys) ≡ memberCount xs + memberCount ys
@@ -276,12 +276,12 @@ module _ (settings : Settings) (s rows attrs : List ℕ) (n : ℕ) (sizeOf : «T
 
     pub puts-other : (counts : LayoutCounts) {structures members : List ℕ} → b ≡ false
         → Puts (rowStructures settings s rows attrs n sizeOf i) counts counts structures structures members members
-    unfolding structureWords memberWords
+    unfolding structureWords allMemberWords
     puts-other counts {structures} {members} t =
         record {
           counts-are = none-counted counts t;
           structures-are = ap (λ (xs : List Structure). sets structures (counts .structures * structureWidth) (structureWords (counts .members) xs)) (sym (row-other t));
-          members-are = ap (λ (xs : List Structure). sets members (counts .members * laidWidth) (memberWords xs)) (sym (row-other t));
+          members-are = ap (λ (xs : List Structure). sets members (counts .members * laidWidth) (allMemberWords xs)) (sym (row-other t));
         }
 
     module _ (t : b ≡ true) {told : LayoutWhole} (answer : told ≡ layoutAt settings s rows attrs n sizeOf i) (counts : LayoutCounts) where
@@ -297,9 +297,9 @@ module _ (settings : Settings) (s rows attrs : List ℕ) (n : ℕ) (sizeOf : «T
           q ∙ ap (counting (counts .structures + 1)) same ∙ ap (countedWith counts) (sym (row-one t))
 
       -- what the layout tells is kept
-      counted-told : {size : Sized} {table table′ : List ℕ} {r : LayoutCounts} → r ≡ countedWith counts (rowStructures settings s rows attrs n sizeOf i) → size ≡ sizeTold told
+      counted-told : {size : Sized} {table table′ : List ℕ} {r : LayoutCounts} → r ≡ countedWith counts (rowStructures settings s rows attrs n sizeOf i) → size ≡ wholeTold told
           → PutKnown i size table table′ → RowCounted settings s rows attrs n sizeOf i counts r table table′
-      counted-told q z g = record { counts-are = q; told-is = λ u. g .here ∙ z ∙ ap sizeTold answer; others = g .others; same-long = g .same-long }
+      counted-told q z g = record { counts-are = q; told-is = λ u. g .here ∙ z ∙ ap wholeTold answer; others = g .others; same-long = g .same-long }
 
       put-one : (structures : List ℕ) {words structures′ : List ℕ} → words ≡ answerWords i (nameOf s attrs (runOf (settings .endian) rows i) attribute.Name) (counts .members) (layoutAt settings s rows attrs n sizeOf i)
           → structures′ ≡ sets structures (counts .structures * structureWidth) words
@@ -311,11 +311,11 @@ module _ (settings : Settings) (s rows attrs : List ℕ) (n : ℕ) (sizeOf : «T
           ∙ ap (structureWords (counts .members)) (sym (row-one t)))
 
       members-one : (room : List ℕ) {xs : List Laid} {room′ : List ℕ} → laidOf (rowLay settings s rows attrs n sizeOf i) ≡ xs → room′ ≡ sets room (counts .members * laidWidth) (laidWords xs)
-          → room′ ≡ sets room (counts .members * laidWidth) (memberWords (rowStructures settings s rows attrs n sizeOf i))
-      unfolding memberWords structureAt
+          → room′ ≡ sets room (counts .members * laidWidth) (allMemberWords (rowStructures settings s rows attrs n sizeOf i))
+      unfolding allMemberWords structureAt
       members-one room p q =
           q ∙ ap (sets room (counts .members * laidWidth))
-          (ap laidWords (sym p) ∙ sym (append-nil (laidWords (laidOf (rowLay settings s rows attrs n sizeOf i)))) ∙ ap memberWords (sym (row-one t)))
+          (ap laidWords (sym p) ∙ sym (append-nil (laidWords (laidOf (rowLay settings s rows attrs n sizeOf i)))) ∙ ap allMemberWords (sym (row-one t)))
 
       module _ {x : Layout} (p : told ≡ whole.Is x) where
         many-given : length (laidOf (rowLay settings s rows attrs n sizeOf i)) ≡ x .members
@@ -335,7 +335,7 @@ module _ (settings : Settings) (s rows attrs : List ℕ) (n : ℕ) (sizeOf : «T
         given-counted : {r : LayoutCounts} → r ≡ countedOn counts (x .members) → r ≡ countedWith counts (rowStructures settings s rows attrs n sizeOf i)
         given-counted q = counted-one many-given q
 
-        pub count-given : {size : Sized} {table table′ : List ℕ} {r : LayoutCounts} → size ≡ sizeTold told → PutKnown i size table table′ → r ≡ countedOn counts (x .members)
+        pub count-given : {size : Sized} {table table′ : List ℕ} {r : LayoutCounts} → size ≡ wholeTold told → PutKnown i size table table′ → r ≡ countedOn counts (x .members)
             → RowCounted settings s rows attrs n sizeOf i counts r table table′
         count-given z g q = counted-told (given-counted q) z g
 
@@ -364,7 +364,7 @@ module _ (settings : Settings) (s rows attrs : List ℕ) (n : ℕ) (sizeOf : «T
         refused-counted : {r : LayoutCounts} → r ≡ countedOn counts 0 → r ≡ countedWith counts (rowStructures settings s rows attrs n sizeOf i)
         refused-counted q = counted-one (ap length none-given) q
 
-        pub count-refused : {size : Sized} {table table′ : List ℕ} {r : LayoutCounts} → size ≡ sizeTold told → PutKnown i size table table′ → r ≡ countedOn counts 0
+        pub count-refused : {size : Sized} {table table′ : List ℕ} {r : LayoutCounts} → size ≡ wholeTold told → PutKnown i size table table′ → r ≡ countedOn counts 0
             → RowCounted settings s rows attrs n sizeOf i counts r table table′
         count-refused z g q = counted-told (refused-counted q) z g
 
@@ -386,29 +386,29 @@ module _ (settings : Settings) (s rows attrs : List ℕ) (n : ℕ) (sizeOf : «T
 -- ---- what was told of a row
 
 module _ {answer : LayoutWhole} where
-  pub told-is : {x : Layout} → answer ≡ whole.Is x → Is (x .size) ≡ sizeTold answer
-  unfolding sizeTold
-  told-is p = ap sizeTold (sym p)
+  pub told-is : {x : Layout} → answer ≡ whole.Is x → Is (x .size) ≡ wholeTold answer
+  unfolding wholeTold
+  told-is p = ap wholeTold (sym p)
 
-  pub told-refused : {why : Refusal} → answer ≡ whole.Refused why → Refused why ≡ sizeTold answer
-  unfolding sizeTold
-  told-refused p = ap sizeTold (sym p)
+  pub told-refused : {why : Refusal} → answer ≡ whole.Refused why → Refused why ≡ wholeTold answer
+  unfolding wholeTold
+  told-refused p = ap wholeTold (sym p)
 
 -- a refusal that was told is the layout's
-refusal-told : (answer : LayoutWhole) {why : Refusal} → sizeTold answer ≡ Refused why → answer ≡ whole.Refused why
-unfolding sizeTold
+refusal-told : (answer : LayoutWhole) {why : Refusal} → wholeTold answer ≡ Refused why → answer ≡ whole.Refused why
+unfolding wholeTold
 refusal-told (whole.Is x) p = absurd (subst isSize p tt)
 refusal-told (whole.Refused why) p = ap (λ (x : Sized). whole.Refused (reasonIn why x)) p
 
--- and a layout of which a size was told is not refused
-size-given : {answer : LayoutWhole} {size : ℕ} {why : Refusal} → sizeTold answer ≡ Is size → answer ≡ whole.Refused why → ⊥
-unfolding sizeTold
-size-given p q = subst isSize (sym p ∙ ap sizeTold q) tt
+-- and a layout of which a size was told is not membersRefused
+size-given : {answer : LayoutWhole} {size : ℕ} {why : Refusal} → wholeTold answer ≡ Is size → answer ≡ whole.Refused why → ⊥
+unfolding wholeTold
+size-given p q = subst isSize (sym p ∙ ap wholeTold q) tt
 
-module _ {settings : Settings} {s rows attrs : List ℕ} {n : ℕ} {sizeOf : «Type» → Sized} {table : List ℕ} (w : Told settings s rows attrs n sizeOf n table)
+module _ {settings : Settings} {s rows attrs : List ℕ} {n : ℕ} {sizeOf : «Type» → Sized} {table : List ℕ} (w : WholesTold settings s rows attrs n sizeOf n table)
     {i : ℕ} (l : i < n) {row : Row} {b : Bool} (at : row ≡ rowAt rows i) (is : b ≡ isStructure (shapeOf (row .kind))) (t : b ≡ true)
     {told : Sized} (p : told ≡ knownAt table i) where
-  layout-told : sizeTold (layoutAt settings s rows attrs n sizeOf i) ≡ told
+  layout-told : wholeTold (layoutAt settings s rows attrs n sizeOf i) ≡ told
   layout-told = sym (w .each i l (structure-test rows i at is t)) ∙ sym p
 
   pub layout-refused : {why : Refusal} → told ≡ Refused why → layoutAt settings s rows attrs n sizeOf i ≡ whole.Refused why
@@ -470,13 +470,13 @@ module _ (settings : Settings) (s rows attrs : List ℕ) (n : ℕ) (sizeOf : «T
 
 -- what was counted before row i, and what is left, come to the whole
 pub record Counting (settings : Settings) (s rows attrs : List ℕ) (n : ℕ) (sizeOf : «Type» → Sized) (counts : LayoutCounts) (i : ℕ) : Type 0 where
-  pub ready : Ready s rows n
+  pub ready : TableReady s rows n
   pub within : i ≤ n
   pub few-structures : counts .structures ≤ i
   pub few-members : counts .members ≤ i * entryLimit
   pub on : countedWith counts (structuresFrom settings s rows attrs n sizeOf i (n - i)) ≡ countsOf (structuresFrom settings s rows attrs n sizeOf 0 n)
 
-module _ {settings : Settings} {s rows attrs : List ℕ} {n : ℕ} (ready : Ready s rows n) (sizeOf : «Type» → Sized) where
+module _ {settings : Settings} {s rows attrs : List ℕ} {n : ℕ} (ready : TableReady s rows n) (sizeOf : «Type» → Sized) where
   pub counting-begins : Counting settings s rows attrs n sizeOf (counting 0 0) 0
   counting-begins =
       record {
@@ -524,22 +524,22 @@ module _ {settings : Settings} {s rows attrs : List ℕ} {n : ℕ} {sizeOf : «T
 -- ---- what was told, row after row
 
 module _ (settings : Settings) (s rows attrs : List ℕ) (n : ℕ) (sizeOf : «Type» → Sized) where
-  pub told-none : {told : List ℕ} → n * knownWidth ≤ length told → Told settings s rows attrs n sizeOf 0 told
+  pub told-none : {told : List ℕ} → n * knownWidth ≤ length told → WholesTold settings s rows attrs n sizeOf 0 told
   told-none h = record { fits = h; each = λ i l t. absurd (omega (arith, l)) }
 
-  pub told-more : {told told′ : List ℕ} {counts counts′ : LayoutCounts} {k : ℕ} → Told settings s rows attrs n sizeOf k told
-      → RowCounted settings s rows attrs n sizeOf k counts counts′ told told′ → Told settings s rows attrs n sizeOf (k + 1) told′
+  pub told-more : {told told′ : List ℕ} {counts counts′ : LayoutCounts} {k : ℕ} → WholesTold settings s rows attrs n sizeOf k told
+      → RowCounted settings s rows attrs n sizeOf k counts counts′ told told′ → WholesTold settings s rows attrs n sizeOf (k + 1) told′
   told-more {told} {told′} {k = k} w g =
       record {
         fits = omega (arith, w .fits, g .same-long);
         each = λ i l. elim (decLe k i) [
           | yes h ↦ let same : k ≡ i = omega arith in
-              subst (λ (j : ℕ). isStructure (shapeOf (rowAt rows j .kind)) ≡ true → knownAt told′ j ≡ sizeTold (layoutAt settings s rows attrs n sizeOf j)) same (g .told-is)
+              subst (λ (j : ℕ). isStructure (shapeOf (rowAt rows j .kind)) ≡ true → knownAt told′ j ≡ wholeTold (layoutAt settings s rows attrs n sizeOf j)) same (g .told-is)
           | no h ↦ λ t. g .others i (λ z. omega (arith, z)) ∙ w .each i (omega arith) t
         ];
       }
 
-  pub told-all : {told : List ℕ} {k : ℕ} → Told settings s rows attrs n sizeOf k told → n ≤ k → Told settings s rows attrs n sizeOf n told
+  pub told-all : {told : List ℕ} {k : ℕ} → WholesTold settings s rows attrs n sizeOf k told → n ≤ k → WholesTold settings s rows attrs n sizeOf n told
   told-all w h = record { fits = w .fits; each = λ i l. w .each i (omega arith) }
 
 -- what was given before row i, and what is left, come to the whole
@@ -551,8 +551,8 @@ pub record Putting (settings : Settings) (s rows attrs : List ℕ) (n : ℕ) (si
   pub same-members : length room ≡ length members₀
   pub structures-on : sets structures (counts .structures * structureWidth) (structureWords (counts .members) (structuresFrom settings s rows attrs n sizeOf i (n - i)))
       ≡ sets structures₀ 0 (structureWords 0 (structuresFrom settings s rows attrs n sizeOf 0 n))
-  pub members-on : sets room (counts .members * laidWidth) (memberWords (structuresFrom settings s rows attrs n sizeOf i (n - i)))
-      ≡ sets members₀ 0 (memberWords (structuresFrom settings s rows attrs n sizeOf 0 n))
+  pub members-on : sets room (counts .members * laidWidth) (allMemberWords (structuresFrom settings s rows attrs n sizeOf i (n - i)))
+      ≡ sets members₀ 0 (allMemberWords (structuresFrom settings s rows attrs n sizeOf 0 n))
 
 module _ {settings : Settings} {s rows attrs : List ℕ} {n : ℕ} (sizeOf : «Type» → Sized) {room : List ℕ}
     (w : PutsAsked s rows n (structuresFrom settings s rows attrs n sizeOf 0 n) room) where
@@ -564,7 +564,7 @@ module _ {settings : Settings} {s rows attrs : List ℕ} {n : ℕ} (sizeOf : «T
         same-structures = refl;
         same-members = refl;
         structures-on = ap (λ (xs : List Structure). sets structures 0 (structureWords 0 xs)) (left-all settings s rows attrs n sizeOf);
-        members-on = ap (λ (xs : List Structure). sets room 0 (memberWords xs)) (left-all settings s rows attrs n sizeOf);
+        members-on = ap (λ (xs : List Structure). sets room 0 (allMemberWords xs)) (left-all settings s rows attrs n sizeOf);
       }
 
 module _ {settings : Settings} {s rows attrs : List ℕ} {n : ℕ} {sizeOf : «Type» → Sized} {structures₀ members₀ structures room : List ℕ} {counts : LayoutCounts} {i : ℕ}
@@ -597,15 +597,15 @@ module _ {settings : Settings} {s rows attrs : List ℕ} {n : ℕ} {sizeOf : «T
         ∙ sym (sets-append structures (counts .structures * structureWidth) (structureWords (counts .members) xs) (structureWords (counts .members + memberCount xs) rest))
         ∙ ap (sets structures (counts .structures * structureWidth)) (sym (structure-append (counts .members) xs rest))
 
-    members-next : sets room′ (counts′ .members * laidWidth) (memberWords rest) ≡ sets room (counts .members * laidWidth) (memberWords (xs ++ rest))
+    members-next : sets room′ (counts′ .members * laidWidth) (allMemberWords rest) ≡ sets room (counts .members * laidWidth) (allMemberWords (xs ++ rest))
     unfolding countedWith
     members-next =
-        let long : length (memberWords xs) ≡ memberCount xs * laidWidth = member-long xs in
-        let at : (counts .members + memberCount xs) * laidWidth ≡ counts .members * laidWidth + length (memberWords xs) = omega arith in
-        ap (λ (c : LayoutCounts). sets room′ (c .members * laidWidth) (memberWords rest)) (g .counts-are)
-        ∙ ap (λ (k : ℕ). sets room′ k (memberWords rest)) at
-        ∙ ap (λ (t : List ℕ). sets t (counts .members * laidWidth + length (memberWords xs)) (memberWords rest)) (g .members-are)
-        ∙ sym (sets-append room (counts .members * laidWidth) (memberWords xs) (memberWords rest))
+        let long : length (allMemberWords xs) ≡ memberCount xs * laidWidth = member-long xs in
+        let at : (counts .members + memberCount xs) * laidWidth ≡ counts .members * laidWidth + length (allMemberWords xs) = omega arith in
+        ap (λ (c : LayoutCounts). sets room′ (c .members * laidWidth) (allMemberWords rest)) (g .counts-are)
+        ∙ ap (λ (k : ℕ). sets room′ k (allMemberWords rest)) at
+        ∙ ap (λ (t : List ℕ). sets t (counts .members * laidWidth + length (allMemberWords xs)) (allMemberWords rest)) (g .members-are)
+        ∙ sym (sets-append room (counts .members * laidWidth) (allMemberWords xs) (allMemberWords rest))
         ∙ ap (sets room (counts .members * laidWidth)) (sym (member-append xs rest))
 
     pub putting-on : Putting settings s rows attrs n sizeOf structures₀ members₀ structures′ room′ counts′ (i + 1)
@@ -615,26 +615,26 @@ module _ {settings : Settings} {s rows attrs : List ℕ} {n : ℕ} {sizeOf : «T
           fits = w .fits;
           same-structures =
               ap length (g .structures-are) ∙ length-sets structures (counts .structures * structureWidth) (structureWords (counts .members) xs) ∙ w .same-structures;
-          same-members = ap length (g .members-are) ∙ length-sets room (counts .members * laidWidth) (memberWords xs) ∙ w .same-members;
+          same-members = ap length (g .members-are) ∙ length-sets room (counts .members * laidWidth) (allMemberWords xs) ∙ w .same-members;
           structures-on =
               structures-next
               ∙ ap (λ (ys : List Structure). sets structures (counts .structures * structureWidth) (structureWords (counts .members) ys)) (left-next settings s rows attrs n sizeOf i l)
               ∙ w .structures-on;
           members-on =
               members-next
-              ∙ ap (λ (ys : List Structure). sets room (counts .members * laidWidth) (memberWords ys)) (left-next settings s rows attrs n sizeOf i l)
+              ∙ ap (λ (ys : List Structure). sets room (counts .members * laidWidth) (allMemberWords ys)) (left-next settings s rows attrs n sizeOf i l)
               ∙ w .members-on;
         }
 
   pub putting-ends : n ≤ i → PutAll (structuresFrom settings s rows attrs n sizeOf 0 n) structures₀ structures members₀ room
-  unfolding structureWords memberWords
+  unfolding structureWords allMemberWords
   putting-ends h =
       record {
         structures-are =
             ap (λ (ys : List Structure). sets structures (counts .structures * structureWidth) (structureWords (counts .members) ys)) (sym (left-none settings s rows attrs n sizeOf i h))
             ∙ w .structures-on;
         members-are =
-            ap (λ (ys : List Structure). sets room (counts .members * laidWidth) (memberWords ys)) (sym (left-none settings s rows attrs n sizeOf i h)) ∙ w .members-on;
+            ap (λ (ys : List Structure). sets room (counts .members * laidWidth) (allMemberWords ys)) (sym (left-none settings s rows attrs n sizeOf i h)) ∙ w .members-on;
       }
 
 -- ---- into lent rooms
@@ -656,14 +656,14 @@ module _ (xs : List Structure) {needed : LayoutCounts} (is : needed ≡ countsOf
   unfolding countsOf
   needed-members = ap (λ (c : LayoutCounts). c .members) is
 
-  pub rooms-asked : (room : List ℕ) {s rows : List ℕ} {n : ℕ} → Ready s rows n → needed .members ≤ length room / laidWidth → PutsAsked s rows n xs room
+  pub rooms-asked : (room : List ℕ) {s rows : List ℕ} {n : ℕ} → TableReady s rows n → needed .members ≤ length room / laidWidth → PutsAsked s rows n xs room
   rooms-asked room w h =
       let many : needed .members ≡ memberCount xs = needed-members in
       record { ready = w; fits = omega arith }
 
   module _ (structures room : List ℕ) where
-    pub rooms-unlisted : length structures / structureWidth < needed .structures → BothGiven (intoRooms structures room xs) (all.Room needed) structures room
-    unfolding intoRooms
+    pub rooms-unlisted : length structures / structureWidth < needed .structures → BothGiven (layoutsInto structures room xs) (all.Room needed) structures room
+    unfolding layoutsInto
     rooms-unlisted h =
         let many : needed .structures ≡ length xs = needed-structures in
         let test : leb (length xs) (length structures / structureWidth) ≡ false = lt-leb (length xs) (length structures / structureWidth) (omega arith) in
@@ -675,16 +675,16 @@ module _ (xs : List Structure) {needed : LayoutCounts} (is : needed ≡ countsOf
           let many : needed .structures ≡ length xs = needed-structures in
           le-leb (length xs) (length structures / structureWidth) (omega arith)
 
-      pub rooms-unfit : length room / laidWidth < needed .members → BothGiven (intoRooms structures room xs) (all.Room needed) structures room
-      unfolding intoRooms
+      pub rooms-unfit : length room / laidWidth < needed .members → BothGiven (layoutsInto structures room xs) (all.Room needed) structures room
+      unfolding layoutsInto
       rooms-unfit l =
           let many : needed .members ≡ memberCount xs = needed-members in
           let test : leb (memberCount xs) (length room / laidWidth) ≡ false = lt-leb (memberCount xs) (length room / laidWidth) (omega arith) in
           given-as (ap (λ (c : LayoutCounts). outcomes (all.Room c) structures room) is ∙ sym (rw (listed, test)))
 
       pub rooms-filled : needed .members ≤ length room / laidWidth → {structures′ room′ : List ℕ} → PutAll xs structures structures′ room room′
-          → BothGiven (intoRooms structures room xs) (all.Are needed) structures′ room′
-      unfolding intoRooms
+          → BothGiven (layoutsInto structures room xs) (all.Are needed) structures′ room′
+      unfolding layoutsInto
       rooms-filled l {structures′} {room′} g =
           let many : needed .members ≡ memberCount xs = needed-members in
           let test : leb (memberCount xs) (length room / laidWidth) ≡ true = le-leb (memberCount xs) (length room / laidWidth) (omega arith) in
@@ -695,26 +695,26 @@ module _ (xs : List Structure) {needed : LayoutCounts} (is : needed ≡ countsOf
 
 -- ---- the sizes of all rows are known
 
-pub all-known : (settings : Settings) (sizes s rows attrs : List ℕ) (n : ℕ) → Ready s rows n → (known : List ℕ)
-    → Filled (sizeLeft settings sizes s rows attrs n deepest) n n known → 0 < length known → (structures room : List ℕ) {structures′ room′ : List ℕ} {r : AllLayouts}
-    → BothGiven (intoRooms structures room (structuresFrom settings s rows attrs n (typeFrom settings sizes s rows attrs n known 0) 0 n)) r structures′ room′
-    → BothGiven (intoRooms structures room (structuresFrom settings s rows attrs n (typeSize settings sizes s rows attrs n deepest) 0 n)) r structures′ room′
+pub all-known : (settings : Settings) (sizes s rows attrs : List ℕ) (n : ℕ) → TableReady s rows n → (known : List ℕ)
+    → KnownUpTo (sizeLeft settings sizes s rows attrs n deepest) n n known → 0 < length known → (structures room : List ℕ) {structures′ room′ : List ℕ} {r : AllLayouts}
+    → BothGiven (layoutsInto structures room (structuresFrom settings s rows attrs n (typeSizeFrom settings sizes s rows attrs n known 0) 0 n)) r structures′ room′
+    → BothGiven (layoutsInto structures room (structuresFrom settings s rows attrs n (typeSize settings sizes s rows attrs n deepest) 0 n)) r structures′ room′
 all-known settings sizes s rows attrs n ready known w some structures room {structures′} {room′} {r} g =
-    subst (λ (sizeOf : «Type» → Sized). BothGiven (intoRooms structures room (structuresFrom settings s rows attrs n sizeOf 0 n)) r structures′ room′)
+    subst (λ (sizeOf : «Type» → Sized). BothGiven (layoutsInto structures room (structuresFrom settings s rows attrs n sizeOf 0 n)) r structures′ room′)
     (known-types settings sizes s rows attrs n ready deepest w some 0) g
 
 module _ {settings : Settings} {vendors sizes s rows attrs : List ℕ} {counts : Counts} {told : Check} (is : Tells settings vendors sizes s rows attrs counts told)
     (structures room : List ℕ) where
   pub all-passed : told ≡ check.Passed → {structures′ room′ : List ℕ} {r : AllLayouts}
-      → BothGiven (intoRooms structures room (structuresFrom settings s rows attrs (counts .rows) (typeSize settings sizes s rows attrs (counts .rows) deepest) 0 (counts .rows)))
+      → BothGiven (layoutsInto structures room (structuresFrom settings s rows attrs (counts .rows) (typeSize settings sizes s rows attrs (counts .rows) deepest) 0 (counts .rows)))
       r structures′ room′
-      → BothGiven (allOf settings vendors sizes s rows attrs counts structures room) r structures′ room′
-  unfolding allOf
+      → BothGiven (allLayouts settings vendors sizes s rows attrs counts structures room) r structures′ room′
+  unfolding allLayouts
   all-passed p {structures′} {room′} {r} g = subst (λ (o : Outcomes AllLayouts ℕ ℕ). BothGiven o r structures′ room′) (passed-answer _ _ is p) g
 
   pub all-refused : {why : Refusal} → told ≡ check.Refused why
-      → BothGiven (allOf settings vendors sizes s rows attrs counts structures room) (all.Refused why) structures room
-  unfolding allOf
+      → BothGiven (allLayouts settings vendors sizes s rows attrs counts structures room) (all.Refused why) structures room
+  unfolding allLayouts
   all-refused p = given-as (refused-answer (λ why. outcomes (all.Refused why) structures room) _ is p)
 
 -- ---- the words of a structure

@@ -15,16 +15,16 @@ use Rattle.tables.proofs.Laws.Checked.{checked-rising}
 use Rattle.tables.specs.declared.row.Counts.{Counts}
 use Rattle.tables.specs.declared.check.Check.{Check}
 use Rattle.tables.specs.declared.check.Check.the-variants as check
-use Rattle.tables.specs.Keyed.{inRow}
+use Rattle.tables.specs.Keyed.{inRowOfKey}
 use Rattle.tables.proofs.Laws.Keyed.{key-found, row-passed, in-row}
 use Rattle.tables.specs.declared.keyed.Keyed.the-variants as keyed
 use Rattle.sizes.specs.Size.{innerSize, shapeOf}
-use Rattle.layout.specs.Layout.{rowLay, layoutAt, intoRoom, layoutOf}
+use Rattle.layout.specs.Layout.{rowLay, layoutAt, layoutInto, layoutOfKey}
 use Rattle.sizes.specs.Size.{isStructure}
 use Rattle.layout.specs.All.{Structure, alsoIf, structureAt, structuresFrom}
 use Rattle.sizes.specs.declared.sized.Sized.{Sized}
 use Rattle.layout.specs.declared.one.LayoutRead.the-variants as layout
-use Rattle.layout.specs.AllEach.{rowsFrom, onlyStructures}
+use Rattle.layout.specs.AllEach.{rowNumbersFrom, onlyStructures}
 use Rattle.layout.specs.declared.one.LayoutRead.{LayoutRead}
 
 -- ---- every structure and class once, in file order
@@ -35,15 +35,15 @@ kept-map f true i is p = ap (λ (ys : List Structure). f i ∷ ys) p
 kept-map f false i is p = p
 
 module _ (settings : Settings) (s rows attrs : List ℕ) (n : ℕ) (sizeOf : «Type» → Sized) where
-  structures-are : (i left : ℕ) → structuresFrom settings s rows attrs n sizeOf i left ≡ map (structureAt settings s rows attrs n sizeOf) (onlyStructures rows (rowsFrom i left))
-  unfolding structuresFrom onlyStructures rowsFrom
+  structures-are : (i left : ℕ) → structuresFrom settings s rows attrs n sizeOf i left ≡ map (structureAt settings s rows attrs n sizeOf) (onlyStructures rows (rowNumbersFrom i left))
+  unfolding structuresFrom onlyStructures rowNumbersFrom
   structures-are i zero = refl
   structures-are i (suc left) =
-      kept-map (structureAt settings s rows attrs n sizeOf) (isStructure (shapeOf (rowAt rows i .kind))) i (onlyStructures rows (rowsFrom (suc i) left))
+      kept-map (structureAt settings s rows attrs n sizeOf) (isStructure (shapeOf (rowAt rows i .kind))) i (onlyStructures rows (rowNumbersFrom (suc i) left))
       (structures-are (suc i) left)
 
   -- what all layouts tell is told row by row
-  pub all-structures : structuresFrom settings s rows attrs n sizeOf 0 n ≡ map (structureAt settings s rows attrs n sizeOf) (onlyStructures rows (rowsFrom 0 n))
+  pub all-structures : structuresFrom settings s rows attrs n sizeOf 0 n ≡ map (structureAt settings s rows attrs n sizeOf) (onlyStructures rows (rowNumbersFrom 0 n))
   all-structures = structures-are 0 n
 
   own-rows : (is : List ℕ) → map (λ (x : Structure). x .row) (map (structureAt settings s rows attrs n sizeOf) is) ≡ is
@@ -52,24 +52,24 @@ module _ (settings : Settings) (s rows attrs : List ℕ) (n : ℕ) (sizeOf : «T
   own-rows (i ∷ is) = ap (λ (js : List ℕ). i ∷ js) (own-rows is)
 
   -- of these rows
-  pub all-rows : map (λ (x : Structure). x .row) (structuresFrom settings s rows attrs n sizeOf 0 n) ≡ onlyStructures rows (rowsFrom 0 n)
-  all-rows = ap (map (λ (x : Structure). x .row)) all-structures ∙ own-rows (onlyStructures rows (rowsFrom 0 n))
+  pub all-rows : map (λ (x : Structure). x .row) (structuresFrom settings s rows attrs n sizeOf 0 n) ≡ onlyStructures rows (rowNumbersFrom 0 n)
+  all-rows = ap (map (λ (x : Structure). x .row)) all-structures ∙ own-rows (onlyStructures rows (rowNumbersFrom 0 n))
 
 -- ---- each has the layout or refusal that its key gives
 
 module _ {settings : Settings} {vendors sizes s rows attrs : List ℕ} {counts : Counts} {told : Check} (is : Tells settings vendors sizes s rows attrs counts told)
     (p : told ≡ check.Passed) where
   abbrev there : List ℕ → ℕ → Outcome LayoutRead ℕ
-  there room i = intoRoom room (rowLay settings s rows attrs (counts .rows) (innerSize settings sizes s rows attrs counts) i) (layoutAt settings s rows attrs (counts .rows) (innerSize settings sizes s rows attrs counts) i)
+  there room i = layoutInto room (rowLay settings s rows attrs (counts .rows) (innerSize settings sizes s rows attrs counts) i) (layoutAt settings s rows attrs (counts .rows) (innerSize settings sizes s rows attrs counts) i)
 
-  own-row : (i : ℕ) → i < counts .rows → keyed.Row i ≡ inRow settings vendors sizes s rows attrs counts (rowAt rows i .key) keyed.Refused keyed.Row
+  own-row : (i : ℕ) → i < counts .rows → keyed.Row i ≡ inRowOfKey settings vendors sizes s rows attrs counts (rowAt rows i .key) keyed.Refused keyed.Row
   own-row i l =
       row-passed settings vendors sizes s rows attrs counts (rowAt rows i .key) is p
       (key-found (rowAt rows i .key) refl (row-of-own-key (checked-rising (passed-checked is p)) i l))
 
   -- what all layouts tell of row i is what its key gives
-  pub each-layout : (i : ℕ) → i < counts .rows → (room : List ℕ) → layoutOf settings vendors sizes s rows attrs counts (rowAt rows i .key) room
-      ≡ intoRoom room (rowLay settings s rows attrs (counts .rows) (innerSize settings sizes s rows attrs counts) i) (structureAt settings s rows attrs (counts .rows) (innerSize settings sizes s rows attrs counts) i .answer)
-  unfolding layoutOf structureAt
+  pub each-layout : (i : ℕ) → i < counts .rows → (room : List ℕ) → layoutOfKey settings vendors sizes s rows attrs counts (rowAt rows i .key) room
+      ≡ layoutInto room (rowLay settings s rows attrs (counts .rows) (innerSize settings sizes s rows attrs counts) i) (structureAt settings s rows attrs (counts .rows) (innerSize settings sizes s rows attrs counts) i .answer)
+  unfolding layoutOfKey structureAt
   each-layout i l room =
       sym (in-row settings vendors sizes s rows attrs counts (rowAt rows i .key) (own-row i l) (λ why. record { answer = layout.Refused why; room = room }) (there room) refl)

@@ -23,7 +23,7 @@ use Rattle.tables.specs.declared.row.Counts.{Counts}
 use Rattle.sizes.specs.Size.{innerSize}
 use Rattle.layout.specs.Layout.{laidWords, laidWidth}
 use Rattle.layout.proofs.Laws.Layout.{words-long}
-use Rattle.layout.specs.All.{Structure, structuresFrom, answerWords, structureWidth, structureWords, memberWords, memberCount, countsOf, intoRooms, allOf}
+use Rattle.layout.specs.All.{Structure, structuresFrom, answerWords, structureWidth, structureWords, allMemberWords, memberCount, countsOf, layoutsInto, allLayouts}
 use Rattle.layout.proofs.Laws.All.{structure-append, structure-long, answer-long, member-append, member-long, rooms-filled}
 use Rattle.layout.specs.declared.all.LayoutCounts.{LayoutCounts}
 use Rattle.layout.specs.declared.all.AllLayouts.{AllLayouts}
@@ -59,11 +59,11 @@ module _ {xs : List Structure} {many : LayoutCounts} {structures structures′ r
 
   -- word j of its members, which come after those of the structures before it
   pub member-word : (j : ℕ) → j < length (x .members) * laidWidth → getD room′ (memberCount before * laidWidth + j) 0 ≡ getD (laidWords (x .members)) j 0
-  unfolding memberWords
+  unfolding allMemberWords
   member-word j l =
       let long : length (laidWords (x .members)) ≡ length (x .members) * laidWidth = words-long (x .members) in
-      words-in room′ (memberCount xs * laidWidth) (memberWords before) (laidWords (x .members)) (memberWords after)
-      (f .members-filled .front ∙ ap memberWords these ∙ member-append before (x ∷ after)) (memberCount before * laidWidth) (member-long before) j (omega arith)
+      words-in room′ (memberCount xs * laidWidth) (allMemberWords before) (laidWords (x .members)) (allMemberWords after)
+      (f .members-filled .front ∙ ap allMemberWords these ∙ member-append before (x ∷ after)) (memberCount before * laidWidth) (member-long before) j (omega arith)
 
 -- ---- what the answer tells
 
@@ -102,22 +102,22 @@ module _ (structures room : List ℕ) where
   fit-by xs {many} true false x y h k p = absurd (subst (areThese many) (sym p) refl)
   fit-by xs {many} false c x y h k p = absurd (subst (areThese many) (sym p) refl)
 
-  both-fit : (xs : List Structure) {many : LayoutCounts} → intoRooms structures room xs .answer ≡ all.Are many → BothFit xs many
-  unfolding intoRooms
+  both-fit : (xs : List Structure) {many : LayoutCounts} → layoutsInto structures room xs .answer ≡ all.Are many → BothFit xs many
+  unfolding layoutsInto
   both-fit xs p =
       fit-by xs (leb (length xs) (length structures / structureWidth)) (leb (memberCount xs) (length room / laidWidth)) (sets structures 0 (structureWords 0 xs))
-      (sets room 0 (memberWords xs)) refl refl p
+      (sets room 0 (allMemberWords xs)) refl refl p
 
 -- ---- what the rooms hold
 
 rooms-are : (structures room : List ℕ) (xs : List Structure) {many : LayoutCounts} {structures′ room′ : List ℕ} → BothFit structures room xs many
-    → structures′ ≡ intoRooms structures room xs .first → room′ ≡ intoRooms structures room xs .second → AllFilled xs many structures structures′ room room′
+    → structures′ ≡ layoutsInto structures room xs .first → room′ ≡ layoutsInto structures room xs .second → AllFilled xs many structures structures′ room room′
 unfolding countsOf
 rooms-are structures room xs {many} {structures′} {room′} w p q =
-    let g : BothGiven (intoRooms structures room xs) (all.Are (countsOf xs)) (sets structures 0 (structureWords 0 xs)) (sets room 0 (memberWords xs)) =
+    let g : BothGiven (layoutsInto structures room xs) (all.Are (countsOf xs)) (sets structures 0 (structureWords 0 xs)) (sets room 0 (allMemberWords xs)) =
     rooms-filled xs refl structures room (w .structures-fit) (w .members-fit) (record { structures-are = refl; members-are = refl }) in
     let structures-there : structures′ ≡ sets structures 0 (structureWords 0 xs) = p ∙ sym (g .first-is) in
-    let members-there : room′ ≡ sets room 0 (memberWords xs) = q ∙ sym (g .second-is) in
+    let members-there : room′ ≡ sets room 0 (allMemberWords xs) = q ∙ sym (g .second-is) in
     let some : length xs ≤ length structures / structureWidth = w .structures-fit in
     let more : memberCount xs ≤ length room / laidWidth = w .members-fit in
     let structures-end : length xs * structureWidth ≤ length structures = omega arith in
@@ -125,17 +125,17 @@ rooms-are structures room xs {many} {structures′} {room′} w p q =
     record {
       counts-are = w .counts-are;
       structures-filled = sets-filled (structureWords 0 xs) (length xs * structureWidth) structures (structure-long 0 xs) structures-end structures-there;
-      members-filled = sets-filled (memberWords xs) (memberCount xs * laidWidth) room (member-long xs) members-end members-there;
+      members-filled = sets-filled (allMemberWords xs) (memberCount xs * laidWidth) room (member-long xs) members-end members-there;
     }
 
 -- ---- the theorem
 
 module _ (settings : Settings) (vendors sizes s rows attrs : List ℕ) (counts : Counts) (structures room : List ℕ) {r : AllLayouts} {structures′ room′ : List ℕ}
-    {many : LayoutCounts} (g : BothGiven (allOf settings vendors sizes s rows attrs counts structures room) r structures′ room′) (p : r ≡ all.Are many) where
-  passed : allOf settings vendors sizes s rows attrs counts structures room ≡ intoRooms structures room (structuresFrom settings s rows attrs (counts .rows) (innerSize settings sizes s rows attrs counts) 0 (counts .rows))
-  unfolding allOf tested
+    {many : LayoutCounts} (g : BothGiven (allLayouts settings vendors sizes s rows attrs counts structures room) r structures′ room′) (p : r ≡ all.Are many) where
+  passed : allLayouts settings vendors sizes s rows attrs counts structures room ≡ layoutsInto structures room (structuresFrom settings s rows attrs (counts .rows) (innerSize settings sizes s rows attrs counts) 0 (counts .rows))
+  unfolding allLayouts tested
   passed =
-      tests-are structures room (settingsHold settings vendors sizes) (ltb (length s) sectionLimit) (tableHolds s vendors rows attrs counts) (intoRooms structures room (structuresFrom settings s rows attrs (counts .rows) (innerSize settings sizes s rows attrs counts) 0 (counts .rows)))
+      tests-are structures room (settingsHold settings vendors sizes) (ltb (length s) sectionLimit) (tableHolds s vendors rows attrs counts) (layoutsInto structures room (structuresFrom settings s rows attrs (counts .rows) (innerSize settings sizes s rows attrs counts) 0 (counts .rows)))
       (sym (g .answer-is) ∙ p)
 
   pub all-filled : AllFilled (structuresFrom settings s rows attrs (counts .rows) (innerSize settings sizes s rows attrs counts) 0 (counts .rows)) many structures structures′ room room′

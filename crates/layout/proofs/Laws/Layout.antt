@@ -29,7 +29,7 @@ use Rattle.tables.specs.declared.row.Counts.{Counts}
 use Rattle.links.specs.Links.{siblingRow, nextRow, childWalk}
 use Rattle.links.specs.Inside.Kids.{walkOn, kidsFrom, kidsOf, firstOr, isEnding}
 use Rattle.links.proofs.Laws.Kids.{few-kids, kids-more}
-use Rattle.tables.specs.Keyed.{inRow}
+use Rattle.tables.specs.Keyed.{inRowOfKey}
 use Rattle.tables.proofs.Laws.Keyed.{in-row, no-row}
 use Rattle.tables.specs.declared.keyed.Keyed.{Keyed}
 use Rattle.tables.specs.declared.keyed.Keyed.the-variants as keyed
@@ -40,7 +40,7 @@ use Rattle.records.specs.Fields.{nameOf, typeOf, offsetField, wordOf}
 use Rattle.records.specs.Front.{frontOf, unless}
 use Rattle.records.specs.Member.{bitsBy, withBits, memberWith, placedBy, memberPlaced, typedBy, memberFields, memberAt}
 use Rattle.records.specs.MemberWords.{namePlace, nameLength}
-use Rattle.records.specs.Unions.{Placed, Members, members, refused, andMember, memberThen}
+use Rattle.records.specs.Unions.{Placed, Members, members, membersRefused, andMember, memberThen}
 use Rattle.records.specs.declared.taken.Record.the-variants as record′
 use Rattle.records.specs.declared.scan.Run.{Run}
 use Rattle.records.specs.declared.scan.Fault.{Fault}
@@ -54,11 +54,11 @@ use Rattle.records.specs.declared.member.BitsRead.the-variants as bits
 use Rattle.records.specs.declared.member.Member.{Member}
 use Rattle.records.specs.declared.member.MemberRead.{MemberRead}
 use Rattle.records.specs.declared.member.MemberRead.the-variants as read
-use Rattle.sizes.specs.Size.{shapeOf, childThen, membersFrom, membersOf, sizeOr, memberSize, typeSize}
+use Rattle.sizes.specs.Size.{shapeOf, memberChildThen, memberRowsFrom, membersOf, sizeOr, memberSize, typeSize}
 use Rattle.sizes.specs.Inside.Prepare.{structureFault}
-use Rattle.sizes.specs.Inside.Size.{EndsShort, withSize, readAdded, grown, memberAdded, entryFrom, typeFrom}
+use Rattle.sizes.specs.Inside.Size.{EndsShort, withSize, readAdded, grown, memberAdded, entrySizeFrom, typeSizeFrom}
 use Rattle.sizes.specs.Inside.Kept.{AllKept, LayoutAsked}
-use Rattle.layout.specs.Layout.{Laid, Lay, laid, unlaid, laidMember, andLaid, layThen, endOr, laidFrom, isBounded, sizeOrLargest, ownSize, membersLaid, shapeLaid, rowLay, layoutBy, layoutAt, laidWords, laidWidth, layInto, intoRoom, layoutOf}
+use Rattle.layout.specs.Layout.{Laid, Lay, laid, unlaid, laidMember, andLaid, layThen, endOr, laidFrom, hasByteSize, sizeOrLargest, ownSize, membersLaid, shapeLaid, rowLay, layoutBy, layoutAt, laidWords, laidWidth, layInto, layoutInto, layoutOfKey}
 use Rattle.sizes.specs.Size.{isStructure}
 use Rattle.layout.specs.Inside.Layout.{laidAt, sizedLaid, addedLaid, LayAsked, layBefore, layOn, readLaid, childLaid, childrenLaid, faultLaid, structureLaid, layingOf, Lays, WholeLaid}
 use Rattle.sizes.proofs.Laws.Walking.{Walking, walking-begins, walking-ends, walking-stops, walking-asked, walking-less, walking-on}
@@ -300,19 +300,14 @@ one-more k count largest (unlaid why) few p = absurd (subst (isLaying count larg
 
 -- ---- the loop over children
 
--- what is laid after k others: the answer, and the room; of a refusal's room nothing is said
-pub record Filled : Type 0 where
-  pub answer : Laying
-  pub room : List ℕ
-
 unfoldable pub roomOf : ℕ → List ℕ → Lay → List ℕ
 roomOf k room (laid xs largest) = sets room (k * laidWidth) (laidWords xs)
 roomOf k room (unlaid why) = []
 
-unfoldable pub filled : ℕ → List ℕ → Lay → Filled
+unfoldable pub filled : ℕ → List ℕ → Lay → Outcome Laying ℕ
 filled k room lay = record { answer = layingOf k lay; room = roomOf k room lay }
 
-abbrev filling : Laying → List ℕ → Filled
+abbrev filling : Laying → List ℕ → Outcome Laying ℕ
 filling answer room = record { answer = answer; room = room }
 
 -- what was laid before, and what follows
@@ -377,8 +372,8 @@ module _ {settings : Settings} {s rows attrs : List ℕ} {n end : ℕ} {sizeOf :
   laying-ends l =
       let done : filled k room (laid [] most) ≡ filled 0 room₀ all = walking-ends (w .walking) l in
       record {
-        answer-is = ap (λ (x : ℕ). laying.Is x most) (sym (add-zero k)) ∙ ap (λ (o : Filled). o .answer) done;
-        room-is = λ xs x e. ap (λ (o : Filled). o .room) (done ∙ ap (filled 0 room₀) e);
+        answer-is = ap (λ (x : ℕ). laying.Is x most) (sym (add-zero k)) ∙ ap (λ (o : Outcome Laying ℕ). o .answer) done;
+        room-is = λ xs x e. ap (λ (o : Outcome Laying ℕ). o .room) (done ∙ ap (filled 0 room₀) e);
         same-room = w .same-room;
       }
 
@@ -413,7 +408,7 @@ module _ {settings : Settings} {s rows attrs : List ℕ} {n end : ℕ} {sizeOf :
               short = w .short;
             }
 
-      -- a child is refused
+      -- a child is membersRefused
       pub laying-refused : {why : Refusal} → told ≡ laying.Refused why → Lays all 0 (laying.Refused why) room₀ room′
       unfolding childrenLaid filled layingOf
       laying-refused {why} q =
@@ -422,7 +417,7 @@ module _ {settings : Settings} {s rows attrs : List ℕ} {n end : ℕ} {sizeOf :
           let done : filling (laying.Refused why) [] ≡ filled 0 room₀ all =
           walking-stops (w .walking) l
           (λ cs. on-refused (λ next. childrenLaid settings s rows attrs n sizeOf bounded next cs) (childLaid settings s rows attrs n sizeOf bounded most c) child) in
-          let answer : laying.Refused why ≡ layingOf 0 all = ap (λ (o : Filled). o .answer) done in
+          let answer : laying.Refused why ≡ layingOf 0 all = ap (λ (o : Outcome Laying ℕ). o .answer) done in
           record {
             answer-is = answer;
             room-is = λ xs x e. absurd (subst (isRefusal why) (answer ∙ ap (layingOf 0) e) refl);
@@ -433,11 +428,11 @@ module _ {settings : Settings} {s rows attrs : List ℕ} {n end : ℕ} {sizeOf :
 
 abbrev areThese : List Placed → Members → Type 0
 areThese ms (members xs) = ms ≡ xs
-areThese ms (refused why) = ⊥
+areThese ms (membersRefused why) = ⊥
 
 abbrev areRefused : Members → Type 0
 areRefused (members xs) = ⊥
-areRefused (refused why) = Unit
+areRefused (membersRefused why) = Unit
 
 before-one : (x : Laid) (lay : Lay) → layBefore (x ∷ []) lay ≡ andLaid x lay
 unfolding layBefore andLaid
@@ -466,7 +461,7 @@ module _ (rows : List ℕ) (sizeOf : «Type» → Sized) (bounded : Bool) (c lar
       sized-then f (λ x. laidFrom rows sizeOf bounded x xs) (same xs refl) (laidMember (record { row = c; member = m }))
       (λ size. endOr bounded (rowAt rows c .key) largest (m .offset + size)) (memberSize sizeOf (record { row = c; member = m }))
       ∙ ap (laidFrom rows sizeOf bounded largest) (subst (areThese (record { row = c; member = m } ∷ xs)) p refl)
-  and-then m (refused why) ms same p = absurd (subst areRefused p tt)
+  and-then m (membersRefused why) ms same p = absurd (subst areRefused p tt)
 
   module _ (all : Members) (ms : List Placed) (same : (xs : List Placed) → all ≡ members xs → (x : ℕ) → f x ≡ laidFrom rows sizeOf bounded x xs) where
     read-then : (m : MemberRead) → memberThen c m all ≡ members ms → layOn f (readLaid rows sizeOf bounded largest c m) ≡ laidFrom rows sizeOf bounded largest ms
@@ -487,12 +482,12 @@ module _ (rows : List ℕ) (sizeOf : «Type» → Sized) (bounded : Bool) (c lar
     child-then false m p = before-none (f largest) ∙ same ms p largest
 
 module _ (settings : Settings) (s rows attrs : List ℕ) (n : ℕ) (sizeOf : «Type» → Sized) (bounded : Bool) where
-  laid-members : (largest : ℕ) (cs : List ℕ) {ms : List Placed} → membersFrom settings s rows attrs n cs ≡ members ms
+  laid-members : (largest : ℕ) (cs : List ℕ) {ms : List Placed} → memberRowsFrom settings s rows attrs n cs ≡ members ms
       → childrenLaid settings s rows attrs n sizeOf bounded largest cs ≡ laidFrom rows sizeOf bounded largest ms
-  unfolding membersFrom childThen childrenLaid childLaid laidFrom
+  unfolding memberRowsFrom memberChildThen childrenLaid childLaid laidFrom
   laid-members largest [] p = ap (laidFrom rows sizeOf bounded largest) (subst (areThese []) p refl)
   laid-members largest (c ∷ cs) {ms} p =
-      child-then rows sizeOf bounded c largest (λ next. childrenLaid settings s rows attrs n sizeOf bounded next cs) (membersFrom settings s rows attrs n cs) ms
+      child-then rows sizeOf bounded c largest (λ next. childrenLaid settings s rows attrs n sizeOf bounded next cs) (memberRowsFrom settings s rows attrs n cs) ms
       (λ xs q x. laid-members x cs q) (eqb (rowAt rows c .kind) tag.Member) (memberAt settings s rows attrs n c) p
 
 -- ---- a structure
@@ -503,7 +498,7 @@ module _ (settings : Settings) (s rows attrs : List ℕ) (n i : ℕ) where
   clear-ending p = walk-ending settings s rows attrs n i (childWalk (settings .endian) s rows attrs n i) p
 
   clear-members : structureFault settings s rows attrs n i ≡ fault.Clear
-      → membersFrom settings s rows attrs n (kidsOf (settings .endian) s rows attrs n i) ≡ membersOf settings s rows attrs n i
+      → memberRowsFrom settings s rows attrs n (kidsOf (settings .endian) s rows attrs n i) ≡ membersOf settings s rows attrs n i
   unfolding kidsOf kidsFrom walkOn childWalk membersOf
   clear-members p = walk-members settings s rows attrs n i (rowAt rows i .key) (childWalk (settings .endian) s rows attrs n i) (clear-ending p)
 
@@ -534,7 +529,7 @@ module _ (settings : Settings) (s rows attrs : List ℕ) (n i : ℕ) where
   -- the members of a row, however they came
   module _ (sizeOf : «Type» → Sized) where
     abbrev bound : Bool
-    bound = isBounded (ownSize settings s rows attrs n sizeOf i)
+    bound = hasByteSize (ownSize settings s rows attrs n sizeOf i)
 
     fault-laid : (f : Fault) → structureFault settings s rows attrs n i ≡ f
         → faultLaid settings s rows attrs n sizeOf bound i f ≡ membersLaid settings s rows attrs n sizeOf i (membersOf settings s rows attrs n i)
@@ -597,7 +592,7 @@ module _ (settings : Settings) (s rows attrs : List ℕ) (n i : ℕ) where
           }
 
       module _ (t : b ≡ true) {run : Run} {own : Word} {bounded : Bool} (at′ : run ≡ runOf (settings .endian) rows i)
-          (own-is : own ≡ wordOf s attrs run attribute.ByteSize) (bounded-is : bounded ≡ isBounded own) where
+          (own-is : own ≡ wordOf s attrs run attribute.ByteSize) (bounded-is : bounded ≡ hasByteSize own) where
         own-size : own ≡ ownSize settings s rows attrs n sizeOf i
         unfolding ownSize
         own-size = own-is ∙ ap (λ (x : Run). wordOf s attrs x attribute.ByteSize) at′
@@ -605,7 +600,7 @@ module _ (settings : Settings) (s rows attrs : List ℕ) (n i : ℕ) where
         row-laid : structureLaid settings s rows attrs n sizeOf bounded i ≡ rowLay settings s rows attrs n sizeOf i
         unfolding structureLaid rowLay
         row-laid =
-            ap (λ (x : Bool). structureLaid settings s rows attrs n sizeOf x i) (bounded-is ∙ ap isBounded own-size)
+            ap (λ (x : Bool). structureLaid settings s rows attrs n sizeOf x i) (bounded-is ∙ ap hasByteSize own-size)
             ∙ fault-laid (structureFault settings s rows attrs n i) refl
             ∙ shape-structure (shapeOf (rowAt rows i .kind)) (sym kind-is ∙ t)
 
@@ -657,13 +652,13 @@ module _ (settings : Settings) (s rows attrs : List ℕ) (n : ℕ) (sizeOf : «T
 
   module _ (room : List ℕ) {told : LayoutWhole} (is : told ≡ layoutAt settings s rows attrs n sizeOf i) where
     abbrev given : LayoutRead → List ℕ → Type 0
-    given r room′ = Given (intoRoom room (rowLay settings s rows attrs n sizeOf i) (layoutAt settings s rows attrs n sizeOf i)) r room′
+    given r room′ = Given (layoutInto room (rowLay settings s rows attrs n sizeOf i) (layoutAt settings s rows attrs n sizeOf i)) r room′
 
     module _ {x : Layout} (p : told ≡ whole.Is x) where
       into-is : cond (leb (x .members) (length room / laidWidth)) (layInto room (rowLay settings s rows attrs n sizeOf i) (layout.Is x)) (outcome (layout.Room (x .members)) room)
-          ≡ intoRoom room (rowLay settings s rows attrs n sizeOf i) (layoutAt settings s rows attrs n sizeOf i)
-      unfolding intoRoom
-      into-is = ap (intoRoom room (rowLay settings s rows attrs n sizeOf i)) (sym p ∙ is)
+          ≡ layoutInto room (rowLay settings s rows attrs n sizeOf i) (layoutAt settings s rows attrs n sizeOf i)
+      unfolding layoutInto
+      into-is = ap (layoutInto room (rowLay settings s rows attrs n sizeOf i)) (sym p ∙ is)
 
       these : AllLaid (rowLay settings s rows attrs n sizeOf i)
       unfolding layoutAt
@@ -683,27 +678,27 @@ module _ (settings : Settings) (s rows attrs : List ℕ) (n : ℕ) (sizeOf : «T
       give-unfit h = given-as (test-failed refl _ (lt-leb (x .members) (length room / laidWidth) h) refl ∙ into-is)
 
     pub give-unlaid : {why : Refusal} → told ≡ whole.Refused why → given (layout.Refused why) room
-    unfolding intoRoom
-    give-unlaid p = given-as (ap (intoRoom room (rowLay settings s rows attrs n sizeOf i)) (sym p ∙ is))
+    unfolding layoutInto
+    give-unlaid p = given-as (ap (layoutInto room (rowLay settings s rows attrs n sizeOf i)) (sym p ∙ is))
 
 module _ (settings : Settings) (vendors sizes s rows attrs : List ℕ) (counts : Counts) (key : ℕ) (room : List ℕ) {told : Keyed}
-    (is : told ≡ inRow settings vendors sizes s rows attrs counts key keyed.Refused keyed.Row) where
+    (is : told ≡ inRowOfKey settings vendors sizes s rows attrs counts key keyed.Refused keyed.Row) where
   abbrev kept : Refusal → Outcome LayoutRead ℕ
   kept why = outcome (layout.Refused why) room
 
   abbrev there : ℕ → Outcome LayoutRead ℕ
   there i =
-      intoRoom room (rowLay settings s rows attrs (counts .rows) (typeSize settings sizes s rows attrs (counts .rows) (depthLimit - 1)) i)
+      layoutInto room (rowLay settings s rows attrs (counts .rows) (typeSize settings sizes s rows attrs (counts .rows) (depthLimit - 1)) i)
       (layoutAt settings s rows attrs (counts .rows) (typeSize settings sizes s rows attrs (counts .rows) (depthLimit - 1)) i)
 
   pub layout-there : {i : ℕ} {r : LayoutRead} {room′ : List ℕ} → told ≡ keyed.Row i
-      → Given (intoRoom room (rowLay settings s rows attrs (counts .rows) (typeFrom settings sizes s rows attrs (counts .rows) [] (depthLimit - 1)) i)
-      (layoutAt settings s rows attrs (counts .rows) (typeFrom settings sizes s rows attrs (counts .rows) [] (depthLimit - 1)) i)) r room′
-      → Given (layoutOf settings vendors sizes s rows attrs counts key room) r room′
-  unfolding layoutOf typeFrom typeSize entryFrom
+      → Given (layoutInto room (rowLay settings s rows attrs (counts .rows) (typeSizeFrom settings sizes s rows attrs (counts .rows) [] (depthLimit - 1)) i)
+      (layoutAt settings s rows attrs (counts .rows) (typeSizeFrom settings sizes s rows attrs (counts .rows) [] (depthLimit - 1)) i)) r room′
+      → Given (layoutOfKey settings vendors sizes s rows attrs counts key room) r room′
+  unfolding layoutOfKey typeSizeFrom typeSize entrySizeFrom
   layout-there {r = r} {room′ = room′} p g =
       subst (λ (o : Outcome LayoutRead ℕ). Given o r room′) (in-row settings vendors sizes s rows attrs counts key is kept there p) g
 
-  pub layout-unlaid : {why : Refusal} → told ≡ keyed.Refused why → Given (layoutOf settings vendors sizes s rows attrs counts key room) (layout.Refused why) room
-  unfolding layoutOf
+  pub layout-unlaid : {why : Refusal} → told ≡ keyed.Refused why → Given (layoutOfKey settings vendors sizes s rows attrs counts key room) (layout.Refused why) room
+  unfolding layoutOfKey
   layout-unlaid p = given-as (no-row settings vendors sizes s rows attrs counts key is kept there p)

@@ -15,13 +15,13 @@ use Rattle.format.specs.declared.settings.Settings.{Settings}
 use Rattle.blocks.specs.declared.types.Type.{«Type»}
 use Rattle.tables.specs.Row.{rowAt}
 use Rattle.tables.specs.declared.row.Counts.{Counts}
-use Rattle.tables.specs.Keyed.{inRow}
+use Rattle.tables.specs.Keyed.{inRowOfKey}
 use Rattle.tables.proofs.Laws.Keyed.{in-row, no-row, keyed-key}
 use Rattle.links.proofs.Laws.Typed.{keyed-asked}
 use Rattle.tables.specs.declared.keyed.Keyed.{Keyed}
 use Rattle.tables.specs.declared.keyed.Keyed.the-variants as keyed
 use Rattle.sizes.specs.Size.{innerSize}
-use Rattle.layout.specs.Layout.{Laid, Lay, laid, unlaid, sizeOrLargest, ownSize, rowLay, layoutBy, layoutAt, laidWords, laidWidth, layInto, intoRoom, layoutOf}
+use Rattle.layout.specs.Layout.{Laid, Lay, laid, unlaid, sizeOrLargest, ownSize, rowLay, layoutBy, layoutAt, laidWords, laidWidth, layInto, layoutInto, layoutOfKey}
 use Rattle.layout.proofs.Laws.Layout.{words-long}
 use Rattle.sizes.specs.declared.sized.Sized.{Sized}
 use Rattle.layout.specs.declared.one.Layout.{Layout}
@@ -93,8 +93,8 @@ module _ (room : List ℕ) (lay : Lay) where
       }
   fits-by y {x} false h p = absurd (subst (isLayout x) (sym p) refl)
 
-  pub fits : (w : LayoutWhole) {x : Layout} → intoRoom room lay w .answer ≡ layout.Is x → Fits w x
-  unfolding intoRoom
+  pub fits : (w : LayoutWhole) {x : Layout} → layoutInto room lay w .answer ≡ layout.Is x → Fits w x
+  unfolding layoutInto
   fits (whole.Is y) p = fits-by y (leb (y .members) (length room / laidWidth)) refl p
   fits (whole.Refused why) {x} p = absurd (subst (isLayout x) (sym p) refl)
 
@@ -105,17 +105,17 @@ module _ (room : List ℕ) {lay : Lay} {w : LayoutWhole} {x : Layout} (f : Fits 
   long : length (laidWords xs) ≡ x .members * laidWidth
   long = words-long xs ∙ ap (λ (k : ℕ). k * laidWidth) many
 
-  filled-room : intoRoom room lay w .room ≡ sets room 0 (laidWords xs)
-  unfolding intoRoom layInto
+  filled-room : layoutInto room lay w .room ≡ sets room 0 (laidWords xs)
+  unfolding layoutInto layInto
   filled-room =
       let enough : x .members ≤ length room / laidWidth = f .room-enough in
-      ap₂ (λ (l : Lay) (y : LayoutWhole). intoRoom room l y .room) are (f .read)
+      ap₂ (λ (l : Lay) (y : LayoutWhole). layoutInto room l y .room) are (f .read)
       ∙ ap (λ (b : Bool). cond b (layInto room (laid xs largest) (layout.Is x)) (outcome (layout.Room (x .members)) room) .room) (le-leb (x .members) (length room / laidWidth) enough)
 
 -- ---- the theorem
 
 module _ (settings : Settings) (vendors sizes s rows attrs : List ℕ) (counts : Counts) (key : ℕ) (room : List ℕ) {r : LayoutRead} {room′ : List ℕ} {x : Layout}
-    (g : Given (layoutOf settings vendors sizes s rows attrs counts key room) r room′) (p : r ≡ layout.Is x) where
+    (g : Given (layoutOfKey settings vendors sizes s rows attrs counts key room) r room′) (p : r ≡ layout.Is x) where
   abbrev lay : ℕ → Lay
   lay i = rowLay settings s rows attrs (counts .rows) (innerSize settings sizes s rows attrs counts) i
 
@@ -126,9 +126,9 @@ module _ (settings : Settings) (vendors sizes s rows attrs : List ℕ) (counts :
   end = x .members * laidWidth
 
   abbrev pub there : ℕ → Outcome LayoutRead ℕ
-  there i = intoRoom room (lay i) (one i)
+  there i = layoutInto room (lay i) (one i)
 
-  row-filled : (i : ℕ) → keyed.Row i ≡ inRow settings vendors sizes s rows attrs counts key keyed.Refused keyed.Row → Fits room (lay i) (one i) x
+  row-filled : (i : ℕ) → keyed.Row i ≡ inRowOfKey settings vendors sizes s rows attrs counts key keyed.Refused keyed.Row → Fits room (lay i) (one i) x
       → LaidAs settings s rows attrs (counts .rows) (innerSize settings sizes s rows attrs counts) i (lay i) x → room′ ≡ there i .room → LayoutFilled settings s rows attrs (counts .rows) (innerSize settings sizes s rows attrs counts) key x room room′
   row-filled i is f these h =
       let fits : x .members ≤ length room / laidWidth = f .room-enough in
@@ -144,18 +144,18 @@ module _ (settings : Settings) (vendors sizes s rows attrs : List ℕ) (counts :
         filled = sets-filled (laidWords (these .list)) end room (long room f (these .list) (these .are) (these .many)) enough (h ∙ filled-room room f (these .list) (these .are) (these .many));
       }
 
-  by-key : (told : Keyed) → told ≡ inRow settings vendors sizes s rows attrs counts key keyed.Refused keyed.Row
+  by-key : (told : Keyed) → told ≡ inRowOfKey settings vendors sizes s rows attrs counts key keyed.Refused keyed.Row
       → LayoutFilled settings s rows attrs (counts .rows) (innerSize settings sizes s rows attrs counts) key x room room′
-  unfolding layoutOf
+  unfolding layoutOfKey
   by-key (keyed.Row i) is =
-      let same : there i ≡ layoutOf settings vendors sizes s rows attrs counts key room =
+      let same : there i ≡ layoutOfKey settings vendors sizes s rows attrs counts key room =
       in-row settings vendors sizes s rows attrs counts key is (λ why. outcome (layout.Refused why) room) there refl in
       let f : Fits room (lay i) (one i) x = fits room (lay i) (one i) (ap (λ (o : Outcome LayoutRead ℕ). o .answer) same ∙ sym (g .answer-is) ∙ p) in
       row-filled i is f (laid-as settings s rows attrs (counts .rows) (innerSize settings sizes s rows attrs counts) i (f .read)) (g .room-is ∙ sym (ap (λ (o : Outcome LayoutRead ℕ). o .room) same))
   by-key (keyed.Refused why) is =
-      let same : outcome (layout.Refused why) room ≡ layoutOf settings vendors sizes s rows attrs counts key room =
+      let same : outcome (layout.Refused why) room ≡ layoutOfKey settings vendors sizes s rows attrs counts key room =
       no-row settings vendors sizes s rows attrs counts key is (λ w. outcome (layout.Refused w) room) there refl in
       absurd (subst (isLayout x) (sym p ∙ g .answer-is ∙ sym (ap (λ (o : Outcome LayoutRead ℕ). o .answer) same)) refl)
 
   pub layout-filled : LayoutFilled settings s rows attrs (counts .rows) (innerSize settings sizes s rows attrs counts) key x room room′
-  layout-filled = by-key (inRow settings vendors sizes s rows attrs counts key keyed.Refused keyed.Row) refl
+  layout-filled = by-key (inRowOfKey settings vendors sizes s rows attrs counts key keyed.Refused keyed.Row) refl

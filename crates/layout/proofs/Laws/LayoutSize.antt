@@ -1,5 +1,5 @@
--- A layout's size is what the size call answers. A structure whose size is refused has no layout, for the same reason; without ByteSize a structure whose layout
--- is refused has no size, for the same reason. With ByteSize a layout still takes the size of every member, so it may be refused where the size is not.
+-- A layout's size is what the size call answers. A structure whose size is membersRefused has no layout, for the same reason; without ByteSize a structure whose layout
+-- is membersRefused has no size, for the same reason. With ByteSize a layout still takes the size of every member, so it may be membersRefused where the size is not.
 use Prim.Native.Nat.{ℕ, _+_, _-_, _/_}
 use mathlib.Core.Path.{_≡_, refl, sym, ap, _∙_, subst}
 use mathlib.Core.Bool.{Bool, true, false, cond, true≢false}
@@ -20,13 +20,13 @@ use Rattle.tables.specs.Check.{refusedAt, afterTests, tested}
 use Rattle.tables.specs.declared.row.Counts.{Counts}
 use Rattle.tables.specs.declared.find.Found.{Found}
 use Rattle.tables.specs.declared.find.Found.the-variants as found
-use Rattle.tables.specs.Keyed.{rowBy, inRow}
-use Rattle.records.specs.Unions.{Placed, Members, members, refused}
+use Rattle.tables.specs.Keyed.{rowBy, inRowOfKey}
+use Rattle.records.specs.Unions.{Placed, Members, members, membersRefused}
 use Rattle.records.specs.declared.fields.Word.{Word}
 use Rattle.records.specs.declared.fields.Word.the-variants as word
 use Rattle.sizes.specs.Size.{innerSize, sizeLimit, sizeThen, membersOf, memberSize, larger, endThen, endsFrom, sizeOrEnds, membersSize, shapeOf, shapeSize, rowSize, foundSize, entrySize, sizeOfKey}
 use Rattle.sizes.proofs.Laws.Size.{entry-more}
-use Rattle.layout.specs.Layout.{Laid, Lay, laid, unlaid, laidMember, andLaid, layThen, endOr, laidFrom, isBounded, sizeOrLargest, ownSize, membersLaid, shapeLaid, rowLay, layoutBy, layoutAt, laidWidth, layInto, intoRoom, layoutOf}
+use Rattle.layout.specs.Layout.{Laid, Lay, laid, unlaid, laidMember, andLaid, layThen, endOr, laidFrom, hasByteSize, sizeOrLargest, ownSize, membersLaid, shapeLaid, rowLay, layoutBy, layoutAt, laidWidth, layInto, layoutInto, layoutOfKey}
 use Rattle.sizes.specs.Size.{isStructure}
 use Rattle.layout.proofs.Laws.Layout.{isNowhere}
 use Rattle.layout.proofs.Laws.LayoutFilled.{LaidAs, laid-as, into-answer, fits}
@@ -100,20 +100,20 @@ module _ (rows : List ℕ) (sizeOf : «Type» → Sized) where
   unlaid-end (unlaid w) {why} p = ap unlaid (subst (isRefusal why) (sym p) refl)
 
   -- with a ByteSize or without one
-  laid-sized : (w : Word) (ms : List Placed) {xs : List Laid} {largest : ℕ} → laidFrom rows sizeOf (isBounded w) 0 ms ≡ laid xs largest
+  laid-sized : (w : Word) (ms : List Placed) {xs : List Laid} {largest : ℕ} → laidFrom rows sizeOf (hasByteSize w) 0 ms ≡ laid xs largest
       → sizeOrEnds rows sizeOf ms w ≡ Is (sizeOrLargest largest w)
-  unfolding isBounded sizeOrEnds sizeOrLargest
+  unfolding hasByteSize sizeOrEnds sizeOrLargest
   laid-sized (word.Is size) ms p = refl
   laid-sized word.Nothing ms p = sym (ends-same 0 ms) ∙ ap endIn p
 
-  sized-unlaid : (w : Word) (ms : List Placed) {why : Refusal} → sizeOrEnds rows sizeOf ms w ≡ Refused why → laidFrom rows sizeOf (isBounded w) 0 ms ≡ unlaid why
-  unfolding isBounded sizeOrEnds
+  sized-unlaid : (w : Word) (ms : List Placed) {why : Refusal} → sizeOrEnds rows sizeOf ms w ≡ Refused why → laidFrom rows sizeOf (hasByteSize w) 0 ms ≡ unlaid why
+  unfolding hasByteSize sizeOrEnds
   sized-unlaid (word.Is size) ms p = absurd (subst isSize p tt)
   sized-unlaid word.Nothing ms p = unlaid-end (laidFrom rows sizeOf false 0 ms) (ends-same 0 ms ∙ p)
 
-  unlaid-sized : (w : Word) (ms : List Placed) {why : Refusal} → isBounded w ≡ false → laidFrom rows sizeOf (isBounded w) 0 ms ≡ unlaid why
+  unlaid-sized : (w : Word) (ms : List Placed) {why : Refusal} → hasByteSize w ≡ false → laidFrom rows sizeOf (hasByteSize w) 0 ms ≡ unlaid why
       → sizeOrEnds rows sizeOf ms w ≡ Refused why
-  unfolding isBounded sizeOrEnds
+  unfolding hasByteSize sizeOrEnds
   unlaid-sized (word.Is size) ms t p = absurd (true≢false t)
   unlaid-sized word.Nothing ms t p = sym (ends-same 0 ms) ∙ ap endIn p
 
@@ -127,19 +127,19 @@ module _ (settings : Settings) (s rows attrs : List ℕ) (n : ℕ) (sizeOf : «T
       → membersSize rows sizeOf own all ≡ Is (sizeOrLargest largest own)
   unfolding membersLaid membersSize
   members-laid (members ms) p = laid-sized rows sizeOf own ms p
-  members-laid (refused why) p = absurd (subst isNowhere p tt)
+  members-laid (membersRefused why) p = absurd (subst isNowhere p tt)
 
   members-sizeless : (all : Members) {why : Refusal} → membersSize rows sizeOf own all ≡ Refused why
       → membersLaid settings s rows attrs n sizeOf i all ≡ unlaid why
   unfolding membersLaid membersSize
   members-sizeless (members ms) p = sized-unlaid rows sizeOf own ms p
-  members-sizeless (refused w) {why} p = ap unlaid (subst (isRefusal why) (sym p) refl)
+  members-sizeless (membersRefused w) {why} p = ap unlaid (subst (isRefusal why) (sym p) refl)
 
-  members-unlaid : (all : Members) {why : Refusal} → isBounded own ≡ false → membersLaid settings s rows attrs n sizeOf i all ≡ unlaid why
+  members-unlaid : (all : Members) {why : Refusal} → hasByteSize own ≡ false → membersLaid settings s rows attrs n sizeOf i all ≡ unlaid why
       → membersSize rows sizeOf own all ≡ Refused why
   unfolding membersLaid membersSize
   members-unlaid (members ms) t p = unlaid-sized rows sizeOf own ms t p
-  members-unlaid (refused w) t p = ap endIn p
+  members-unlaid (membersRefused w) t p = ap endIn p
 
   shape-sized : (x : Shape) {xs : List Laid} {largest : ℕ} → shapeLaid settings s rows attrs n sizeOf i x ≡ laid xs largest
       → shapeSize settings s rows attrs n sizeOf i x ≡ Is (sizeOrLargest largest own)
@@ -194,7 +194,7 @@ module _ (settings : Settings) (s rows attrs : List ℕ) (n : ℕ) (sizeOf : «T
     refused-lay (unlaid w) {why} p = ap unlaid (subst (isRefused why) (sym p) refl)
 
     -- without ByteSize: no layout, no size
-    pub row-layout-refused : {why : Refusal} → isBounded (ownSize settings s rows attrs n sizeOf i) ≡ false
+    pub row-layout-refused : {why : Refusal} → hasByteSize (ownSize settings s rows attrs n sizeOf i) ≡ false
         → layoutAt settings s rows attrs n sizeOf i ≡ whole.Refused why → rowSize settings s rows attrs n sizeOf i ≡ Refused why
     unfolding layoutAt
     row-layout-refused t p =
@@ -237,15 +237,15 @@ module _ (room : List ℕ) where
   kept-by lay x true {why} p = subst (isKept why) (sym p ∙ into-answer room lay (layout.Is x)) refl
   kept-by lay x false {why} p = subst (isKept why) (sym p) refl
 
-  whole-kept : (lay : Lay) (w : LayoutWhole) {why : Refusal} → intoRoom room lay w .answer ≡ layout.Refused why → w ≡ whole.Refused why
-  unfolding intoRoom
+  whole-kept : (lay : Lay) (w : LayoutWhole) {why : Refusal} → layoutInto room lay w .answer ≡ layout.Refused why → w ≡ whole.Refused why
+  unfolding layoutInto
   whole-kept lay (whole.Is x) p = absurd (kept-by lay x (leb (x .members) (length room / laidWidth)) p)
   whole-kept lay (whole.Refused w) {why} p = ap whole.Refused (subst (isKept why) (sym p) refl)
 
 module _ (settings : Settings) (vendors sizes s rows attrs : List ℕ) (counts : Counts) (key : ℕ) (room : List ℕ) where
   abbrev there : ℕ → Outcome LayoutRead ℕ
   there i =
-      intoRoom room (rowLay settings s rows attrs (counts .rows) (innerSize settings sizes s rows attrs counts) i) (layoutAt settings s rows attrs (counts .rows) (innerSize settings sizes s rows attrs counts) i)
+      layoutInto room (rowLay settings s rows attrs (counts .rows) (innerSize settings sizes s rows attrs counts) i) (layoutAt settings s rows attrs (counts .rows) (innerSize settings sizes s rows attrs counts) i)
 
   abbrev sizeThere : Found → Sized
   sizeThere f = foundSize (rowSize settings s rows attrs (counts .rows) (innerSize settings sizes s rows attrs counts)) key f
@@ -265,9 +265,9 @@ module _ (settings : Settings) (vendors sizes s rows attrs : List ℕ) (counts :
   found-size found.Nothing p = absurd (subst isGiven (sym p) tt)
 
   -- the size of a key's layout is the key's size
-  pub layout-size : {x : Layout} → layoutOf settings vendors sizes s rows attrs counts key room .answer ≡ layout.Is x
+  pub layout-size : {x : Layout} → layoutOfKey settings vendors sizes s rows attrs counts key room .answer ≡ layout.Is x
       → sizeOfKey settings vendors sizes s rows attrs counts key ≡ Is (x .size)
-  unfolding layoutOf inRow sizeOfKey tested
+  unfolding layoutOfKey inRowOfKey sizeOfKey tested
   layout-size p =
       tests-size room (settingsHold settings vendors sizes) (ltb (length s) sectionLimit) (tableHolds s vendors rows attrs counts)
       (layoutThere (rowOfKey rows (counts .rows) key)) (entrySize settings sizes s rows attrs (counts .rows) depthLimit key)
@@ -276,23 +276,23 @@ module _ (settings : Settings) (vendors sizes s rows attrs : List ℕ) (counts :
   -- an entry that the key has, if it has any, is a structure or a class
   module _ (structure : (i : ℕ) → rowOfKey rows (counts .rows) key ≡ found.At i → isStructure (shapeOf (rowAt rows i .kind)) ≡ true) where
     found-size-refused : (f : Found) → rowOfKey rows (counts .rows) key ≡ f → {why : Refusal} → sizeThere f ≡ Refused why → layoutThere f .answer ≡ layout.Refused why
-    unfolding rowBy foundSize intoRoom
+    unfolding rowBy foundSize layoutInto
     found-size-refused (found.At i) is p =
-        ap (λ (w : LayoutWhole). intoRoom room (rowLay settings s rows attrs (counts .rows) (innerSize settings sizes s rows attrs counts) i) w .answer)
+        ap (λ (w : LayoutWhole). layoutInto room (rowLay settings s rows attrs (counts .rows) (innerSize settings sizes s rows attrs counts) i) w .answer)
         (row-size-refused settings s rows attrs (counts .rows) (innerSize settings sizes s rows attrs counts) i (structure i is) p)
     found-size-refused found.Nothing is {why} p = ap layout.Refused (subst (isRefusal why) (sym p) refl)
 
     -- no size, no layout
     pub size-refused : {why : Refusal} → sizeOfKey settings vendors sizes s rows attrs counts key ≡ Refused why
-        → layoutOf settings vendors sizes s rows attrs counts key room .answer ≡ layout.Refused why
-    unfolding layoutOf inRow sizeOfKey tested
+        → layoutOfKey settings vendors sizes s rows attrs counts key room .answer ≡ layout.Refused why
+    unfolding layoutOfKey inRowOfKey sizeOfKey tested
     size-refused p =
         tests-size-refused room (settingsHold settings vendors sizes) (ltb (length s) sectionLimit) (tableHolds s vendors rows attrs counts)
         (layoutThere (rowOfKey rows (counts .rows) key)) (entrySize settings sizes s rows attrs (counts .rows) depthLimit key)
         (λ q. found-size-refused (rowOfKey rows (counts .rows) key) refl (sym size-there ∙ q)) p
 
     -- and it has no ByteSize
-    module _ (unbounded : (i : ℕ) → rowOfKey rows (counts .rows) key ≡ found.At i → isBounded (ownSize settings s rows attrs (counts .rows) (innerSize settings sizes s rows attrs counts) i) ≡ false) where
+    module _ (unbounded : (i : ℕ) → rowOfKey rows (counts .rows) key ≡ found.At i → hasByteSize (ownSize settings s rows attrs (counts .rows) (innerSize settings sizes s rows attrs counts) i) ≡ false) where
       found-layout-refused : (f : Found) → rowOfKey rows (counts .rows) key ≡ f → {why : Refusal} → layoutThere f .answer ≡ layout.Refused why → sizeThere f ≡ Refused why
       unfolding rowBy foundSize
       found-layout-refused (found.At i) is p =
@@ -301,9 +301,9 @@ module _ (settings : Settings) (vendors sizes s rows attrs : List ℕ) (counts :
       found-layout-refused found.Nothing is {why} p = ap Refused (subst (isKept why) (sym p) refl)
 
       -- no layout, no size
-      pub layout-refused : {why : Refusal} → layoutOf settings vendors sizes s rows attrs counts key room .answer ≡ layout.Refused why
+      pub layout-refused : {why : Refusal} → layoutOfKey settings vendors sizes s rows attrs counts key room .answer ≡ layout.Refused why
           → sizeOfKey settings vendors sizes s rows attrs counts key ≡ Refused why
-      unfolding layoutOf inRow sizeOfKey tested
+      unfolding layoutOfKey inRowOfKey sizeOfKey tested
       layout-refused p =
           tests-layout-refused room (settingsHold settings vendors sizes) (ltb (length s) sectionLimit) (tableHolds s vendors rows attrs counts)
           (layoutThere (rowOfKey rows (counts .rows) key)) (entrySize settings sizes s rows attrs (counts .rows) depthLimit key)

@@ -26,12 +26,12 @@ use Rattle.sizes.specs.Size.{typeSizeBy, shapeOf, shapeSize, rowSize, foundSize
 use Rattle.sizes.specs.Inside.Known.{knownWidth, knownAt, PutKnown}
 use Rattle.sizes.proofs.Laws.Known.{known-same}
 use Rattle.sizes.specs.Inside.Kept.{PartsKept, AllKept}
-use Rattle.sizes.specs.Inside.Size.{Ready, knownFound, entryFrom, typeFrom}
+use Rattle.sizes.specs.Inside.Size.{TableReady, knownFound, entrySizeFrom, typeSizeFrom}
 use Rattle.sizes.proofs.Laws.Size.{entry-zero, entry-more, entry-none}
 use Rattle.sizes.proofs.Laws.Stay.{Settled, size-stays}
 use Rattle.numbers.proofs.Laws.Tests.{cond-all}
 use Rattle.records.proofs.Laws.Fields.{by-told}
-use Rattle.layout.specs.Inside.Levels.{deepest, lastLevel, settled, nextLevel, sizeLeft, Filled, LevelFilled, TakenOver}
+use Rattle.layout.specs.Inside.Levels.{deepest, lastLevel, settled, nextLevel, sizeLeft, KnownUpTo, LevelFilled, TakenOver}
 use Rattle.sizes.specs.declared.prepare.Shape.{Shape}
 use Rattle.sizes.specs.declared.prepare.Shape.the-variants as shape
 use Rattle.sizes.specs.declared.sized.Sized.{Sized}
@@ -40,11 +40,11 @@ use Rattle.sizes.specs.declared.sized.Sized.the-variants.{Is, Refused}
 -- ---- row after row
 
 module _ (sizeAt : ℕ → Sized) (n : ℕ) where
-  pub filled-none : {known : List ℕ} → n * knownWidth ≤ length known → Filled sizeAt n 0 known
+  pub filled-none : {known : List ℕ} → n * knownWidth ≤ length known → KnownUpTo sizeAt n 0 known
   filled-none h = record { fits = h; each = λ i l. absurd (omega (arith, l)) }
 
-  pub filled-more : {known known′ : List ℕ} {k : ℕ} {size : Sized} → Filled sizeAt n k known → PutKnown k size known known′ → size ≡ sizeAt k
-      → Filled sizeAt n (k + 1) known′
+  pub filled-more : {known known′ : List ℕ} {k : ℕ} {size : Sized} → KnownUpTo sizeAt n k known → PutKnown k size known known′ → size ≡ sizeAt k
+      → KnownUpTo sizeAt n (k + 1) known′
   filled-more {known} {known′} {k} {size} w g p =
       record {
         fits = omega (arith, w .fits, g .same-long);
@@ -54,7 +54,7 @@ module _ (sizeAt : ℕ → Sized) (n : ℕ) where
         ];
       }
 
-  pub filled-all : {known : List ℕ} {k : ℕ} → Filled sizeAt n k known → n ≤ k → Filled sizeAt n n known
+  pub filled-all : {known : List ℕ} {k : ℕ} → KnownUpTo sizeAt n k known → n ≤ k → KnownUpTo sizeAt n n known
   filled-all w h = record { fits = w .fits; each = λ i l. w .each i (omega arith) }
 
   -- and whether all are settled
@@ -99,7 +99,7 @@ module _ (known : List ℕ) (i : ℕ) {size : Sized} {b : Bool} (at : size ≡ k
   unfolding nextLevel
   next-kept t = at ∙ sym (rw (test-is t))
 
-  pub next-taken : b ≡ false → {r : Sized} → r ≡ rowSize settings s rows attrs n (typeFrom settings sizes s rows attrs n known 0) i → r ≡ nextLevel settings sizes s rows attrs n known i
+  pub next-taken : b ≡ false → {r : Sized} → r ≡ rowSize settings s rows attrs n (typeSizeFrom settings sizes s rows attrs n known 0) i → r ≡ nextLevel settings sizes s rows attrs n known i
   unfolding nextLevel
   next-taken t p = p ∙ sym (rw (test-is t))
 
@@ -109,12 +109,12 @@ module _ (known : List ℕ) (i : ℕ) {size : Sized} {b : Bool} (at : size ≡ k
   unfolding rowSize shapeSize
   next-other t p is o q =
       next-taken t
-      (by-told (shapeSize settings s rows attrs n (typeFrom settings sizes s rows attrs n known 0) i) (is ∙ ap (λ (r : Row). shapeOf (r .kind)) p) o
+      (by-told (shapeSize settings s rows attrs n (typeSizeFrom settings sizes s rows attrs n known 0) i) (is ∙ ap (λ (r : Row). shapeOf (r .kind)) p) o
       (ap Refused (q ∙ ap (λ (r : Row). refusedAt (r .key) reason.Kind) p)))
 
 -- ---- the sizes of a level are those that the next asks for
 
-module _ (settings : Settings) (sizes s rows attrs : List ℕ) (n : ℕ) (ready : Ready s rows n) where
+module _ (settings : Settings) (sizes s rows attrs : List ℕ) (n : ℕ) (ready : TableReady s rows n) where
   own-key : (i : ℕ) → i < n → rowOfKey rows n (rowAt rows i .key) ≡ found.At i
   own-key i l = row-of-own-key (ready .table .rising) i l
 
@@ -131,9 +131,9 @@ module _ (settings : Settings) (sizes s rows attrs : List ℕ) (n : ℕ) (ready 
           subst (λ (k : ℕ). entry k ≡ entrySize settings sizes s rows attrs n levels k) (here .1) (each i (here .0))
       by-found key found.Nothing p = none key p ∙ sym (entry-none settings sizes s rows attrs n levels key p)
 
-  module _ {known : List ℕ} (levels : ℕ) (w : Filled (sizeLeft settings sizes s rows attrs n levels) n n known) (some : 0 < length known) where
-    known-entries : (left : ℕ) → entryFrom settings sizes s rows attrs n known left ≡ entrySize settings sizes s rows attrs n levels
-    unfolding entryFrom knownFound
+  module _ {known : List ℕ} (levels : ℕ) (w : KnownUpTo (sizeLeft settings sizes s rows attrs n levels) n n known) (some : 0 < length known) where
+    known-entries : (left : ℕ) → entrySizeFrom settings sizes s rows attrs n known left ≡ entrySize settings sizes s rows attrs n levels
+    unfolding entrySizeFrom knownFound
     known-entries left =
         let test : eqb (length known) 0 ≡ false = ne-eqb (length known) 0 (λ z. omega (arith, z)) in
         key-sizes levels (λ i l. rw test (known-row i l)) (λ key p. rw test (known-none key p))
@@ -145,19 +145,19 @@ module _ (settings : Settings) (sizes s rows attrs : List ℕ) (n : ℕ) (ready 
         known-none key p = ap (knownFound known key) p
 
     -- with known sizes a type has the size that it has with the levels left
-    pub known-types : (left : ℕ) → typeFrom settings sizes s rows attrs n known left ≡ typeSize settings sizes s rows attrs n levels
-    unfolding typeFrom typeSize
+    pub known-types : (left : ℕ) → typeSizeFrom settings sizes s rows attrs n known left ≡ typeSize settings sizes s rows attrs n levels
+    unfolding typeSizeFrom typeSize
     known-types left = ap (typeSizeBy sizes) (known-entries left)
 
   -- no level is left
-  pub level-last : {known : List ℕ} → Filled (lastLevel rows) n n known → Filled (sizeLeft settings sizes s rows attrs n 0) n n known
+  pub level-last : {known : List ℕ} → KnownUpTo (lastLevel rows) n n known → KnownUpTo (sizeLeft settings sizes s rows attrs n 0) n n known
   unfolding lastLevel sizeLeft foundSize
   level-last w =
       record { fits = w .fits; each = λ i l. w .each i l ∙ sym (entry-zero settings sizes s rows attrs n (rowAt rows i .key) (own-key i l)) }
 
   -- one level more
-  pub level-more : {known next : List ℕ} (levels : ℕ) → Filled (sizeLeft settings sizes s rows attrs n levels) n n known
-      → Filled (nextLevel settings sizes s rows attrs n known) n n next → Filled (sizeLeft settings sizes s rows attrs n (suc levels)) n n next
+  pub level-more : {known next : List ℕ} (levels : ℕ) → KnownUpTo (sizeLeft settings sizes s rows attrs n levels) n n known
+      → KnownUpTo (nextLevel settings sizes s rows attrs n known) n n next → KnownUpTo (sizeLeft settings sizes s rows attrs n (suc levels)) n n next
   unfolding nextLevel sizeLeft foundSize
   level-more {known} {next} levels w g =
       record {
@@ -189,8 +189,8 @@ module _ (settings : Settings) (sizes s rows attrs : List ℕ) (n : ℕ) (ready 
       sym (ap (entrySize settings sizes s rows attrs n) (sym up) ∙ same-above levels p (most - levels))
 
   -- all are settled: so it is with every level above
-  pub level-final : {known : List ℕ} (levels most : ℕ) → Filled (sizeLeft settings sizes s rows attrs n levels) n n known
-      → ((i : ℕ) → i < n → settled (knownAt known i) ≡ true) → levels ≤ most → Filled (sizeLeft settings sizes s rows attrs n most) n n known
+  pub level-final : {known : List ℕ} (levels most : ℕ) → KnownUpTo (sizeLeft settings sizes s rows attrs n levels) n n known
+      → ((i : ℕ) → i < n → settled (knownAt known i) ≡ true) → levels ≤ most → KnownUpTo (sizeLeft settings sizes s rows attrs n most) n n known
   unfolding sizeLeft
   level-final {known} levels most w all h =
       let fixed : entrySize settings sizes s rows attrs n levels ≡ entrySize settings sizes s rows attrs n (suc levels) =
@@ -199,18 +199,18 @@ module _ (settings : Settings) (sizes s rows attrs : List ℕ) (n : ℕ) (ready 
       (λ key p. entry-none settings sizes s rows attrs n levels key p) in
       record { fits = w .fits; each = λ i l. w .each i l ∙ ap (λ (f : ℕ → Sized). f (rowAt rows i .key)) (fixed-above levels most fixed h) }
 
-  module _ {known next known′ : List ℕ} (levels : ℕ) {same : Bool} (w : Filled (sizeLeft settings sizes s rows attrs n levels) n n known)
+  module _ {known next known′ : List ℕ} (levels : ℕ) {same : Bool} (w : KnownUpTo (sizeLeft settings sizes s rows attrs n levels) n n known)
       (g : TakenOver (n * knownWidth) known next same known′) where
     over-same : (i : ℕ) → i < n → knownAt known′ i ≡ knownAt next i
     over-same i l = known-same known′ next i (g .taken (i * 3) (omega arith)) (g .taken (i * 3 + 1) (omega arith)) (g .taken (i * 3 + 2) (omega arith))
 
     -- what was taken over is known
-    pub level-over : {sizeAt : ℕ → Sized} → Filled sizeAt n n next → Filled sizeAt n n known′
+    pub level-over : {sizeAt : ℕ → Sized} → KnownUpTo sizeAt n n next → KnownUpTo sizeAt n n known′
     level-over v = record { fits = omega (arith, w .fits, g .same-long); each = λ i l. over-same i l ∙ v .each i l }
 
     -- nothing changed: so it is with every level above
-    pub level-settled : (most : ℕ) → Filled (sizeLeft settings sizes s rows attrs n (suc levels)) n n next → same ≡ true → levels ≤ most
-        → Filled (sizeLeft settings sizes s rows attrs n most) n n known′
+    pub level-settled : (most : ℕ) → KnownUpTo (sizeLeft settings sizes s rows attrs n (suc levels)) n n next → same ≡ true → levels ≤ most
+        → KnownUpTo (sizeLeft settings sizes s rows attrs n most) n n known′
     unfolding sizeLeft
     level-settled most v t h =
         let fixed : entrySize settings sizes s rows attrs n levels ≡ entrySize settings sizes s rows attrs n (suc levels) =
@@ -224,15 +224,15 @@ module _ (settings : Settings) (sizes s rows attrs : List ℕ) (n : ℕ) (ready 
 -- ---- level after level
 
 pub record Levelling (settings : Settings) (sizes s rows attrs : List ℕ) (n : ℕ) (known₀ next₀ known next : List ℕ) (level : ℕ) : Type 0 where
-  pub ready : Ready s rows n
+  pub ready : TableReady s rows n
   pub within : level ≤ deepest
-  pub filled : Filled (sizeLeft settings sizes s rows attrs n level) n n known
+  pub filled : KnownUpTo (sizeLeft settings sizes s rows attrs n level) n n known
   pub next-fits : n * knownWidth ≤ length next
   pub same-known : length known ≡ length known₀
   pub same-next : length next ≡ length next₀
 
-pub levelling-begins : (settings : Settings) (sizes s rows attrs : List ℕ) (n : ℕ) {known₀ next known : List ℕ} → Ready s rows n → n * knownWidth ≤ length next
-    → Filled (lastLevel rows) n n known → length known ≡ length known₀ → Levelling settings sizes s rows attrs n known₀ next known next 0
+pub levelling-begins : (settings : Settings) (sizes s rows attrs : List ℕ) (n : ℕ) {known₀ next known : List ℕ} → TableReady s rows n → n * knownWidth ≤ length next
+    → KnownUpTo (lastLevel rows) n n known → length known ≡ length known₀ → Levelling settings sizes s rows attrs n known₀ next known next 0
 levelling-begins settings sizes s rows attrs n ready fits w e =
     record {
       ready = ready;
@@ -246,7 +246,7 @@ levelling-begins settings sizes s rows attrs n ready fits w e =
 module _ {settings : Settings} {sizes s rows attrs : List ℕ} {n : ℕ} {known₀ next₀ known next : List ℕ} {level : ℕ}
     (w : Levelling settings sizes s rows attrs n known₀ next₀ known next level) {next′ known′ : List ℕ} {all same : Bool}
     (g : LevelFilled (nextLevel settings sizes s rows attrs n known) n n next′ all) (over : TakenOver (n * knownWidth) known next′ same known′) where
-  above : Filled (sizeLeft settings sizes s rows attrs n (suc level)) n n next′
+  above : KnownUpTo (sizeLeft settings sizes s rows attrs n (suc level)) n n next′
   above = level-more settings sizes s rows attrs n (w .ready) level (w .filled) (g .filled)
 
   pub levelling-on : level < deepest → length next′ ≡ length next → Levelling settings sizes s rows attrs n known₀ next₀ known′ next′ (level + 1)
@@ -256,27 +256,27 @@ module _ {settings : Settings} {sizes s rows attrs : List ℕ} {n : ℕ} {known�
         ready = w .ready;
         within = omega arith;
         filled =
-            subst (λ (k : ℕ). Filled (sizeLeft settings sizes s rows attrs n k) n n known′) one
+            subst (λ (k : ℕ). KnownUpTo (sizeLeft settings sizes s rows attrs n k) n n known′) one
             (level-over settings sizes s rows attrs n (w .ready) level (w .filled) over above);
         next-fits = g .filled .fits;
         same-known = over .same-long ∙ w .same-known;
         same-next = e ∙ w .same-next;
       }
 
-  pub levelling-settled : same ≡ true → Filled (sizeLeft settings sizes s rows attrs n deepest) n n known′
+  pub levelling-settled : same ≡ true → KnownUpTo (sizeLeft settings sizes s rows attrs n deepest) n n known′
   levelling-settled t = level-settled settings sizes s rows attrs n (w .ready) level (w .filled) over deepest above t (w .within)
 
-  pub levelling-all : level < deepest → all ≡ true → Filled (sizeLeft settings sizes s rows attrs n deepest) n n known′
+  pub levelling-all : level < deepest → all ≡ true → KnownUpTo (sizeLeft settings sizes s rows attrs n deepest) n n known′
   levelling-all l t =
       let upper : suc level ≤ deepest = omega arith in
       level-over settings sizes s rows attrs n (w .ready) level (w .filled) over
       (level-final settings sizes s rows attrs n (w .ready) (suc level) deepest above (λ i h. ap settled (g .filled .each i h) ∙ g .stay t i h) upper)
 
 pub levelling-ends : {settings : Settings} {sizes s rows attrs : List ℕ} {n : ℕ} {known₀ next₀ known next : List ℕ} {level : ℕ}
-    → Levelling settings sizes s rows attrs n known₀ next₀ known next level → deepest ≤ level → Filled (sizeLeft settings sizes s rows attrs n deepest) n n known
+    → Levelling settings sizes s rows attrs n known₀ next₀ known next level → deepest ≤ level → KnownUpTo (sizeLeft settings sizes s rows attrs n deepest) n n known
 levelling-ends {settings} {sizes} {s} {rows} {attrs} {n} {known₀} {next₀} {known} {next} {level} w h =
     let top : level ≡ deepest = omega (arith, w .within) in
-    subst (λ (k : ℕ). Filled (sizeLeft settings sizes s rows attrs n k) n n known) top (w .filled)
+    subst (λ (k : ℕ). KnownUpTo (sizeLeft settings sizes s rows attrs n k) n n known) top (w .filled)
 
 -- ---- taking words over
 

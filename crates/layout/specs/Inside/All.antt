@@ -13,11 +13,11 @@ use Rattle.records.specs.Inside.Enumeration.{AskedShort}
 use Rattle.records.specs.MemberWords.{namePlace, nameLength}
 use Rattle.records.specs.declared.fields.Name.{Name}
 use Rattle.sizes.specs.Size.{shapeOf}
-use Rattle.sizes.specs.Inside.Size.{Ready}
+use Rattle.sizes.specs.Inside.Size.{TableReady}
 use Rattle.sizes.specs.Inside.Known.{knownWidth, knownAt}
 use Rattle.layout.specs.Layout.{layoutAt, laidWidth}
 use Rattle.sizes.specs.Size.{isStructure}
-use Rattle.layout.specs.All.{Structure, alsoIf, structureAt, structuresFrom, countsOf, structureWords, structureWidth, memberWords, memberCount}
+use Rattle.layout.specs.All.{Structure, alsoIf, structureAt, structuresFrom, countsOf, structureWords, structureWidth, allMemberWords, memberCount}
 use Rattle.sizes.specs.declared.sized.Sized.{Sized}
 use Rattle.sizes.specs.declared.sized.Sized.the-variants.{Is, Refused}
 use Rattle.layout.specs.declared.one.LayoutWhole.{LayoutWhole}
@@ -51,26 +51,26 @@ pub record CountAsked (s rows : List ℕ) (n i : ℕ) (counts : LayoutCounts) : 
   pub few-members : counts .members ≤ i * entryLimit
 
 -- what a layout tells: its size, or its refusal
-unfoldable pub sizeTold : LayoutWhole → Sized
-sizeTold (whole.Is x) = Is (x .size)
-sizeTold (whole.Refused why) = Refused why
+unfoldable pub wholeTold : LayoutWhole → Sized
+wholeTold (whole.Is x) = Is (x .size)
+wholeTold (whole.Refused why) = Refused why
 
 module _ (settings : Settings) (s rows attrs : List ℕ) (n : ℕ) (sizeOf : «Type» → Sized) where
   -- the structures among the first k of n rows have told
-  pub record Told (k : ℕ) (told : List ℕ) : Type 0 where
+  pub record WholesTold (k : ℕ) (told : List ℕ) : Type 0 where
     pub fits : n * knownWidth ≤ length told
-    pub each : (i : ℕ) → i < k → isStructure (shapeOf (rowAt rows i .kind)) ≡ true → knownAt told i ≡ sizeTold (layoutAt settings s rows attrs n sizeOf i)
+    pub each : (i : ℕ) → i < k → isStructure (shapeOf (rowAt rows i .kind)) ≡ true → knownAt told i ≡ wholeTold (layoutAt settings s rows attrs n sizeOf i)
 
   -- row i is counted and has told, what others told is as before
   pub record RowCounted (i : ℕ) (counts counts′ : LayoutCounts) (told told′ : List ℕ) : Type 0 where
     pub counts-are : counts′ ≡ countedWith counts (rowStructures settings s rows attrs n sizeOf i)
-    pub told-is : isStructure (shapeOf (rowAt rows i .kind)) ≡ true → knownAt told′ i ≡ sizeTold (layoutAt settings s rows attrs n sizeOf i)
+    pub told-is : isStructure (shapeOf (rowAt rows i .kind)) ≡ true → knownAt told′ i ≡ wholeTold (layoutAt settings s rows attrs n sizeOf i)
     pub others : (j : ℕ) → (j ≡ i → ⊥) → knownAt told′ j ≡ knownAt told j
     pub same-long : length told′ ≡ length told
 
   pub record AllCounted (counts : LayoutCounts) (told : List ℕ) : Type 0 where
     pub counts-are : counts ≡ countsOf (structuresFrom settings s rows attrs n sizeOf 0 n)
-    pub all-told : Told n told
+    pub all-told : WholesTold n told
 
 -- ---- giving
 
@@ -82,13 +82,13 @@ pub record PutAsked (s rows : List ℕ) (n i : ℕ) (counts : LayoutCounts) (mem
 pub record Puts (xs : List Structure) (counts counts′ : LayoutCounts) (structures structures′ members members′ : List ℕ) : Type 0 where
   pub counts-are : counts′ ≡ countedWith counts xs
   pub structures-are : structures′ ≡ sets structures (counts .structures * structureWidth) (structureWords (counts .members) xs)
-  pub members-are : members′ ≡ sets members (counts .members * laidWidth) (memberWords xs)
+  pub members-are : members′ ≡ sets members (counts .members * laidWidth) (allMemberWords xs)
 
 -- room for all members
 pub record PutsAsked (s rows : List ℕ) (n : ℕ) (xs : List Structure) (members : List ℕ) : Type 0 where
-  pub ready : Ready s rows n
+  pub ready : TableReady s rows n
   pub fits : memberCount xs * laidWidth ≤ length members
 
 pub record PutAll (xs : List Structure) (structures structures′ members members′ : List ℕ) : Type 0 where
   pub structures-are : structures′ ≡ sets structures 0 (structureWords 0 xs)
-  pub members-are : members′ ≡ sets members 0 (memberWords xs)
+  pub members-are : members′ ≡ sets members 0 (allMemberWords xs)

@@ -11,7 +11,7 @@ use Rattle.format.specs.declared.refusal.Reason.the-variants as reason
 use Rattle.tables.specs.Row.{rowAt}
 use Rattle.tables.specs.Check.{refusedAt}
 use Rattle.sizes.specs.Size.{rowSize, entrySize}
-use Rattle.sizes.specs.Inside.Size.{Ready, typeFrom}
+use Rattle.sizes.specs.Inside.Size.{TableReady, typeSizeFrom}
 use Rattle.sizes.specs.Inside.Known.{knownWidth, knownAt}
 use Rattle.sizes.specs.declared.sized.Sized.{Sized}
 use Rattle.sizes.specs.declared.sized.Sized.the-variants.{Is, Refused}
@@ -32,25 +32,25 @@ settled (Refused why) = not (eqb (numberOf (why .reason)) 10)
 module _ (settings : Settings) (sizes s rows attrs : List ℕ) (n : ℕ) where
   -- row i: its known size if that is settled; else its size where the entries that it names have known sizes
   unfoldable pub nextLevel : List ℕ → ℕ → Sized
-  nextLevel known i = cond (settled (knownAt known i)) (knownAt known i) (rowSize settings s rows attrs n (typeFrom settings sizes s rows attrs n known 0) i)
+  nextLevel known i = cond (settled (knownAt known i)) (knownAt known i) (rowSize settings s rows attrs n (typeSizeFrom settings sizes s rows attrs n known 0) i)
 
   -- row i with so many levels left
   unfoldable pub sizeLeft : ℕ → ℕ → Sized
   sizeLeft levels i = entrySize settings sizes s rows attrs n levels (rowAt rows i .key)
 
 -- the first k of n rows are known
-pub record Filled (sizeAt : ℕ → Sized) (n k : ℕ) (known : List ℕ) : Type 0 where
+pub record KnownUpTo (sizeAt : ℕ → Sized) (n k : ℕ) (known : List ℕ) : Type 0 where
   pub fits : n * knownWidth ≤ length known
   pub each : (i : ℕ) → i < k → knownAt known i ≡ sizeAt i
 
 -- and all of them are settled, if that is told
 pub record LevelFilled (sizeAt : ℕ → Sized) (n k : ℕ) (known : List ℕ) (all : Bool) : Type 0 where
-  pub filled : Filled sizeAt n k known
+  pub filled : KnownUpTo sizeAt n k known
   pub stay : all ≡ true → (i : ℕ) → i < k → settled (sizeAt i) ≡ true
 
 -- a table that was tested, and room for a size of each row
 pub record FillAsked (s rows : List ℕ) (n : ℕ) (known : List ℕ) : Type 0 where
-  pub ready : Ready s rows n
+  pub ready : TableReady s rows n
   pub fits : n * knownWidth ≤ length known
 
 -- so many words are the other list's now; if they were so before, nothing changed

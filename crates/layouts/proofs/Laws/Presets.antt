@@ -10,7 +10,7 @@ use borrow.Author.Tests.{eqb-true}
 use Rattle.numbers.specs.Prefix.{beginsWith}
 use Rattle.numbers.proofs.Laws.Tests.{cond-all}
 use Rattle.numbers.specs.declared.Endian.the-variants as endian
-use Rattle.layouts.specs.Presets.{isWord, endianOf}
+use Rattle.layouts.specs.Presets.{isWord, endianChosen}
 
 -- texts of one length: the word's bytes at the beginning are the word
 pub begins : (text word : List ℕ) → length text ≡ length word → beginsWith word text ≡ isWord text word
@@ -30,12 +30,12 @@ other-length (t ∷ ts) (w ∷ ws) h =
     cond-all (λ (r : Bool). false ≡ r) (eqb w t) (λ p. other-length ts ws k) (λ p. refl)
 
 -- the code's ways, with the endianness told by the answer of its function
-pub little-endian : (little : Bool) → little ≡ true → endian.Little ≡ endianOf little
-unfolding endianOf
+pub little-endian : (little : Bool) → little ≡ true → endian.Little ≡ endianChosen little
+unfolding endianChosen
 little-endian little h = rw h
 
-pub big-endian : (little : Bool) → little ≡ false → endian.Big ≡ endianOf little
-unfolding endianOf
+pub big-endian : (little : Bool) → little ≡ false → endian.Big ≡ endianChosen little
+unfolding endianChosen
 big-endian little h = rw h
 
 -- a text is a word only if it has the word's bytes

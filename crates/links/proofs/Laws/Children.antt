@@ -16,7 +16,7 @@ use Rattle.tables.specs.Row.{rowAt}
 use Rattle.tables.specs.declared.row.Row.{Row}
 use Rattle.tables.specs.Find.{rowOfKey}
 use Rattle.tables.proofs.Laws.Find.{row-found}
-use Rattle.tables.specs.Test.{Checked}
+use Rattle.tables.specs.Test.{TableHolds}
 use Rattle.tables.proofs.Laws.Checked.{checked-rising, checked-rows-few}
 use Rattle.tables.specs.Check.{refusedAt, Tells}
 use Rattle.tables.proofs.Laws.Check.{passed-answer, refused-answer, passed-checked}
@@ -32,25 +32,25 @@ use Rattle.format.specs.declared.refusal.Reason.the-variants as reason
 use Rattle.numbers.specs.declared.Endian.{Endian}
 use Rattle.links.specs.Links.{nullRow, nonNull, nextRow, siblingRow, childWalk}
 use Rattle.links.specs.Inside.Links.{Rows}
-use Rattle.links.specs.Children.{given, childrenBy, childrenOf}
+use Rattle.links.specs.Children.{given, childrenBy, childrenOfKey}
 use Rattle.links.specs.declared.children.ChildRows.{ChildRows}
 use Rattle.links.specs.declared.children.ChildRows.the-variants.{Listed, Refused, Room}
-use Rattle.links.specs.Inside.Children.{Filled, filled, Gathers, Takes, Small, Asked}
+use Rattle.links.specs.Inside.Children.{gatheredInto, Gathers, TakesChild, Small, Asked}
 use Rattle.links.specs.declared.children.Kids.{Kids}
 use Rattle.links.specs.declared.children.Kids.the-variants.{Count, Endless}
 
 -- ---- one turn of the walk
 
 module _ (rows : List ℕ) {c k r : ℕ} {room room′ : List ℕ} where
-  null-taken : nullRow rows c ≡ true → Takes rows c k r room room′ → (r ≡ k) × (room′ ≡ room)
+  null-taken : nullRow rows c ≡ true → TakesChild rows c k r room room′ → (r ≡ k) × (room′ ≡ room)
   null-taken h t = (t .count-is ∙ rw h, t .room-is ∙ rw h)
 
-  row-taken : nullRow rows c ≡ false → Takes rows c k r room room′ → (r ≡ k + 1) × (room′ ≡ set room k c)
+  row-taken : nullRow rows c ≡ false → TakesChild rows c k r room room′ → (r ≡ k + 1) × (room′ ≡ set room k c)
   row-taken h t = (t .count-is ∙ rw h, t .room-is ∙ rw h)
 
-  taken-by : (b : Bool) → nullRow rows c ≡ b → Takes rows c k r room room′ → (cs : List ℕ)
-      → filled rows k room (ends (c ∷ cs)) ≡ filled rows r room′ (ends cs)
-  unfolding filled nonNull
+  taken-by : (b : Bool) → nullRow rows c ≡ b → TakesChild rows c k r room room′ → (cs : List ℕ)
+      → gatheredInto rows k room (ends (c ∷ cs)) ≡ gatheredInto rows r room′ (ends cs)
+  unfolding gatheredInto nonNull
   taken-by true h t cs =
       let same : (r ≡ k) × (room′ ≡ room) = null-taken h t in
       rw (h, same .0, same .1)
@@ -61,8 +61,8 @@ module _ (rows : List ℕ) {c k r : ℕ} {room room′ : List ℕ} where
       rw (h, more .0, more .1, count, ← place)
 
   -- taking a row turns what is left into what is left after it
-  taken : Takes rows c k r room room′ → (w : Walk) → filled rows k room (meets c w) ≡ filled rows r room′ w
-  unfolding meets filled
+  taken : TakesChild rows c k r room room′ → (w : Walk) → gatheredInto rows k room (meets c w) ≡ gatheredInto rows r room′ w
+  unfolding meets gatheredInto
   taken t (ends cs) = taken-by (nullRow rows c) refl t cs
   taken t endless = refl
 
@@ -98,7 +98,7 @@ pub record Walking (rows : List ℕ) (n : ℕ) (next : ℕ → ℕ) (end from : 
   pub in-time : turns ≤ n
   pub counted : k ≤ turns
   pub same-room : length room ≡ length room₀
-  pub left : filled rows k room (walkFrom n next end (n - turns) c) ≡ filled rows 0 room₀ (walkFrom n next end n from)
+  pub left : gatheredInto rows k room (walkFrom n next end (n - turns) c) ≡ gatheredInto rows 0 room₀ (walkFrom n next end n from)
 
 pub walking-begins : (rows : List ℕ) (n : ℕ) (next : ℕ → ℕ) (end from : ℕ) (room : List ℕ) → Walking rows n next end from room room from 0 0
 walking-begins rows n next end from room = record { in-time = omega arith; counted = omega arith; same-room = refl; left = rw sub-zero }
@@ -114,34 +114,34 @@ length-taken false room k c = length-set room k c
 module _ {rows : List ℕ} {n : ℕ} {next : ℕ → ℕ} {end from : ℕ} {room₀ room : List ℕ} {c k turns : ℕ}
     (w : Walking rows n next end from room₀ room c k turns) where
   -- the walk has stopped: all is gathered
-  gathered : stops n next end c ≡ true → Gathers (filled rows 0 room₀ (walkFrom n next end n from)) (Count k) room
-  unfolding filled nonNull
+  gathered : stops n next end c ≡ true → Gathers (gatheredInto rows 0 room₀ (walkFrom n next end n from)) (Count k) room
+  unfolding gatheredInto nonNull
   gathered h =
-      let rest : filled rows k room (ends []) ≡ filled rows 0 room₀ (walkFrom n next end n from) =
-      ap (filled rows k room) (sym (stopped n next end c h (n - turns))) ∙ w .left
+      let rest : gatheredInto rows k room (ends []) ≡ gatheredInto rows 0 room₀ (walkFrom n next end n from) =
+      ap (gatheredInto rows k room) (sym (stopped n next end c h (n - turns))) ∙ w .left
       in
       record {
-        answer-is = ap Count (sym (add-zero k)) ∙ ap (λ (o : Filled). o .answer) rest;
-        room-is = λ m p. ap (λ (o : Filled). o .room) rest;
+        answer-is = ap Count (sym (add-zero k)) ∙ ap (λ (o : Outcome Kids ℕ). o .answer) rest;
+        room-is = λ m p. ap (λ (o : Outcome Kids ℕ). o .room) rest;
       }
 
-  pub gathered-end : c ≡ end → Gathers (filled rows 0 room₀ (walkFrom n next end n from)) (Count k) room
+  pub gathered-end : c ≡ end → Gathers (gatheredInto rows 0 room₀ (walkFrom n next end n from)) (Count k) room
   gathered-end h = gathered (at-end n next end c h)
 
-  pub gathered-past : n ≤ c → Gathers (filled rows 0 room₀ (walkFrom n next end n from)) (Count k) room
+  pub gathered-past : n ≤ c → Gathers (gatheredInto rows 0 room₀ (walkFrom n next end n from)) (Count k) room
   gathered-past h = gathered (past-last n next end c h)
 
   -- all rows' turns are used up, and it has not
-  pub gathered-never : (c ≡ end → ⊥) → c < n → n ≤ turns → Gathers (filled rows 0 room₀ (walkFrom n next end n from)) Endless room
-  unfolding filled
+  pub gathered-never : (c ≡ end → ⊥) → c < n → n ≤ turns → Gathers (gatheredInto rows 0 room₀ (walkFrom n next end n from)) Endless room
+  unfolding gatheredInto
   gathered-never h l t =
       let none : n - turns ≡ zero = omega arith in
-      let rest : filled rows k room endless ≡ filled rows 0 room₀ (walkFrom n next end n from) =
-      ap (filled rows k room) (sym (ap (λ (f : ℕ). walkFrom n next end f c) none ∙ unended n next end c (goes n next end c h l))) ∙ w .left
+      let rest : gatheredInto rows k room endless ≡ gatheredInto rows 0 room₀ (walkFrom n next end n from) =
+      ap (gatheredInto rows k room) (sym (ap (λ (f : ℕ). walkFrom n next end f c) none ∙ unended n next end c (goes n next end c h l))) ∙ w .left
       in
-      record { answer-is = ap (λ (o : Filled). o .answer) rest; room-is = λ m p. absurd (subst isEndless p tt) }
+      record { answer-is = ap (λ (o : Outcome Kids ℕ). o .answer) rest; room-is = λ m p. absurd (subst isEndless p tt) }
 
-  pub walking-on : (c ≡ end → ⊥) → c < n → turns < n → {r c′ : ℕ} {room′ : List ℕ} → Takes rows c k r room room′ → c′ ≡ next c
+  pub walking-on : (c ≡ end → ⊥) → c < n → turns < n → {r c′ : ℕ} {room′ : List ℕ} → TakesChild rows c k r room room′ → c′ ≡ next c
       → Walking rows n next end from room₀ room′ c′ r (turns + 1)
   walking-on h l t {r} {c′} {room′} takes p =
       let one : n - turns ≡ suc (n - (turns + 1)) = omega arith in
@@ -152,9 +152,9 @@ module _ {rows : List ℕ} {n : ℕ} {next : ℕ → ℕ} {end from : ℕ} {room
         counted = omega arith;
         same-room = ap length (takes .room-is) ∙ length-taken (nullRow rows c) room k c ∙ w .same-room;
         left =
-            ap (λ (x : ℕ). filled rows r room′ (walkFrom n next end (n - (turns + 1)) x)) p
+            ap (λ (x : ℕ). gatheredInto rows r room′ (walkFrom n next end (n - (turns + 1)) x)) p
             ∙ sym (taken rows takes (walkFrom n next end (n - (turns + 1)) (next c)))
-            ∙ ap (filled rows k room) (sym (ap (λ (f : ℕ). walkFrom n next end f c) one ∙ met n next end c (goes n next end c h l) (n - (turns + 1))))
+            ∙ ap (gatheredInto rows k room) (sym (ap (λ (f : ℕ). walkFrom n next end f c) one ∙ met n next end c (goes n next end c h l) (n - (turns + 1))))
             ∙ w .left;
       }
 
@@ -167,14 +167,14 @@ small-turn rows {n} {c = c} {k = k} {turns = turns} table w l t =
     let counted′ : k ≤ turns = w .counted in
     record { row-small = omega arith; count-small = omega arith }
 
-pub takes-null : (rows : List ℕ) (c k : ℕ) (room : List ℕ) {row : Row} → row ≡ rowAt rows c → row .kind ≡ 0 → Takes rows c k k room room
+pub takes-null : (rows : List ℕ) (c k : ℕ) (room : List ℕ) {row : Row} → row ≡ rowAt rows c → row .kind ≡ 0 → TakesChild rows c k k room room
 unfolding nullRow
 takes-null rows c k room p h =
     let test : nullRow rows c ≡ true = eq-eqb (rowAt rows c .kind) 0 (ap (λ (r : Row). r .kind) (sym p) ∙ h) in
     record { count-is = rw test; room-is = rw test }
 
 pub takes-row : (rows : List ℕ) (c k : ℕ) (room : List ℕ) {room′ : List ℕ} {row : Row} → row ≡ rowAt rows c → (row .kind ≡ 0 → ⊥) → room′ ≡ set room k c
-    → Takes rows c k (k + 1) room room′
+    → TakesChild rows c k (k + 1) room room′
 unfolding nullRow
 takes-row rows c k room p h q =
     let test : nullRow rows c ≡ false = ne-eqb (rowAt rows c .kind) 0 (λ z. h (ap (λ (r : Row). r .kind) p ∙ z)) in
@@ -184,21 +184,21 @@ takes-row rows c k room p h q =
 
 module _ (e : Endian) (s rows attrs : List ℕ) (n i : ℕ) where
   pub gathers-children : (room : List ℕ) {end from : ℕ} {room′ : List ℕ} {r : Kids} → end ≡ siblingRow e s rows attrs n i → from ≡ nextRow rows n i
-      → Gathers (filled rows 0 room (walkFrom n (λ c. siblingRow e s rows attrs n c) end n from)) r room′
-      → Gathers (filled rows 0 room (childWalk e s rows attrs n i)) r room′
+      → Gathers (gatheredInto rows 0 room (walkFrom n (λ c. siblingRow e s rows attrs n c) end n from)) r room′
+      → Gathers (gatheredInto rows 0 room (childWalk e s rows attrs n i)) r room′
   unfolding childWalk
   gathers-children room {end} {from} {room′} {r} p q g =
-      subst (λ (x : ℕ). Gathers (filled rows 0 room (walkFrom n (λ c. siblingRow e s rows attrs n c) x n (nextRow rows n i))) r room′) p
-      (subst (λ (x : ℕ). Gathers (filled rows 0 room (walkFrom n (λ c. siblingRow e s rows attrs n c) end n x)) r room′) q g)
+      subst (λ (x : ℕ). Gathers (gatheredInto rows 0 room (walkFrom n (λ c. siblingRow e s rows attrs n c) x n (nextRow rows n i))) r room′) p
+      (subst (λ (x : ℕ). Gathers (gatheredInto rows 0 room (walkFrom n (λ c. siblingRow e s rows attrs n c) end n x)) r room′) q g)
 
 abbrev pub isCount : ℕ → Kids → Type 0
 isCount k (Count m) = k ≡ m
 isCount k Endless = ⊥
 
 module _ (rows : List ℕ) (key : ℕ) (room : List ℕ) where
-  given-by : (w : Walk) (told : Kids) → told ≡ filled rows 0 [] w .answer → (k : ℕ) → told ≡ Count k → k ≤ length room → {r : Kids} {room′ : List ℕ}
-      → Gathers (filled rows 0 room w) r room′ → Given (given rows key room w) (Listed k) room′
-  unfolding filled given
+  given-by : (w : Walk) (told : Kids) → told ≡ gatheredInto rows 0 [] w .answer → (k : ℕ) → told ≡ Count k → k ≤ length room → {r : Kids} {room′ : List ℕ}
+      → Gathers (gatheredInto rows 0 room w) r room′ → Given (given rows key room w) (Listed k) room′
+  unfolding gatheredInto given
   given-by (ends cs) told p k q h {r} g =
       let told-many : k ≡ 0 + length (nonNull rows cs) = subst (isCount k) (sym q ∙ p) refl in
       let many : k ≡ length (nonNull rows cs) = omega arith in
@@ -206,9 +206,9 @@ module _ (rows : List ℕ) (key : ℕ) (room : List ℕ) where
       record { answer-is = rw (fit, many); room-is = rw fit (g .room-is (0 + length (nonNull rows cs)) (g .answer-is)) }
   given-by endless told p k q h g = absurd (subst (isCount k) (sym q ∙ p) refl)
 
-  unfit-by : (w : Walk) (told : Kids) → told ≡ filled rows 0 [] w .answer → (k : ℕ) → told ≡ Count k → length room < k
+  unfit-by : (w : Walk) (told : Kids) → told ≡ gatheredInto rows 0 [] w .answer → (k : ℕ) → told ≡ Count k → length room < k
       → Given (given rows key room w) (Room k) room
-  unfolding filled given
+  unfolding gatheredInto given
   unfit-by (ends cs) told p k q h =
       let told-many : k ≡ 0 + length (nonNull rows cs) = subst (isCount k) (sym q ∙ p) refl in
       let many : k ≡ length (nonNull rows cs) = omega arith in
@@ -216,14 +216,14 @@ module _ (rows : List ℕ) (key : ℕ) (room : List ℕ) where
       record { answer-is = rw (fit, many); room-is = rw fit }
   unfit-by endless told p k q h = absurd (subst (isCount k) (sym q ∙ p) refl)
 
-  never-by : (w : Walk) (told : Kids) → told ≡ filled rows 0 [] w .answer → told ≡ Endless → {r : ChildRows} → r ≡ Refused (refusedAt key reason.Link)
+  never-by : (w : Walk) (told : Kids) → told ≡ gatheredInto rows 0 [] w .answer → told ≡ Endless → {r : ChildRows} → r ≡ Refused (refusedAt key reason.Link)
       → Given (given rows key room w) r room
-  unfolding filled given
+  unfolding gatheredInto given
   never-by (ends cs) told p q e = absurd (subst isEndless (sym q ∙ p) tt)
   never-by endless told p q e = record { answer-is = e; room-is = refl }
 
-  module _ (w : Walk) {told : Kids} (p : told ≡ filled rows 0 [] w .answer) where
-    pub given-listed : {k : ℕ} → told ≡ Count k → k ≤ length room → {r : Kids} {room′ : List ℕ} → Gathers (filled rows 0 room w) r room′
+  module _ (w : Walk) {told : Kids} (p : told ≡ gatheredInto rows 0 [] w .answer) where
+    pub given-listed : {k : ℕ} → told ≡ Count k → k ≤ length room → {r : Kids} {room′ : List ℕ} → Gathers (gatheredInto rows 0 room w) r room′
         → Given (given rows key room w) (Listed k) room′
     given-listed {k} q h g = given-by w told p k q h g
 
@@ -251,18 +251,18 @@ asked-there {rows} {n} key table is p = record { table = table; there = row-foun
 pub tested-rows : {settings : Settings} {vendors sizes s rows attrs : List ℕ} {counts : Counts} {told : Check}
     → Tells settings vendors sizes s rows attrs counts told → told ≡ Passed → Rows rows (counts .rows)
 tested-rows {s = s} {rows = rows} {attrs = attrs} {counts = counts} is p =
-    let c : Checked s _ rows attrs counts = passed-checked is p in record { rising = checked-rising c; few = checked-rows-few c }
+    let c : TableHolds s _ rows attrs counts = passed-checked is p in record { rising = checked-rising c; few = checked-rows-few c }
 
 module _ (settings : Settings) (vendors sizes s rows attrs : List ℕ) (counts : Counts) (key : ℕ) (room : List ℕ) {told : Check}
     (is : Tells settings vendors sizes s rows attrs counts told) where
   pub children-passed : told ≡ Passed → {r : ChildRows} {room′ : List ℕ}
       → Given (childrenBy (settings .endian) s rows attrs (counts .rows) key room (rowOfKey rows (counts .rows) key)) r room′
-      → Given (childrenOf settings vendors sizes s rows attrs counts key room) r room′
-  unfolding childrenOf
+      → Given (childrenOfKey settings vendors sizes s rows attrs counts key room) r room′
+  unfolding childrenOfKey
   children-passed p {r} {room′} g =
       subst (λ (o : Outcome ChildRows ℕ). Given o r room′) (passed-answer (λ why. outcome (Refused why) room) _ is p) g
 
-  pub children-refused : {why : Refusal} → told ≡ check.Refused why → Given (childrenOf settings vendors sizes s rows attrs counts key room) (Refused why) room
-  unfolding childrenOf
+  pub children-refused : {why : Refusal} → told ≡ check.Refused why → Given (childrenOfKey settings vendors sizes s rows attrs counts key room) (Refused why) room
+  unfolding childrenOfKey
   children-refused {why} p =
       subst (λ (o : Outcome ChildRows ℕ). Given o (Refused why) room) (refused-answer (λ w. outcome (Refused w) room) _ is p) (record { answer-is = refl; room-is = refl })

@@ -16,7 +16,7 @@ use Rattle.tables.specs.declared.row.Row.{Row}
 use Rattle.links.specs.Walk.{Walk, ends, endless, meets, stops, walkFrom}
 use Rattle.links.specs.Links.{nextRow, siblingRow, childWalk, nullRow, nonNull}
 use Rattle.links.specs.Inside.Links.{AtRow, Rows}
-use Rattle.links.specs.Inside.Children.{filled}
+use Rattle.links.specs.Inside.Children.{gatheredInto}
 use Rattle.links.proofs.Laws.Children.{at-end, past-last, goes, stopped, unended, met, isEndless, isCount}
 use Rattle.links.proofs.Laws.Endless.{on-below}
 use Rattle.links.specs.Inside.Kids.{rowsMet, isEnding, walkOn, kidsFrom, kidsOf, Ends, firstOr}
@@ -221,16 +221,16 @@ module _ (e : Endian) (s rows attrs : List ℕ) (n end : ℕ) where
 
 -- ---- what counting tells
 
-counted-by : (rows : List ℕ) (w : Walk) {told : Kids} → told ≡ filled rows 0 [] w .answer → {k : ℕ} → told ≡ Count k
+counted-by : (rows : List ℕ) (w : Walk) {told : Kids} → told ≡ gatheredInto rows 0 [] w .answer → {k : ℕ} → told ≡ Count k
     → (isEnding w ≡ true) × (k ≡ length (nonNull rows (rowsMet w)))
-unfolding filled isEnding rowsMet
+unfolding gatheredInto isEnding rowsMet
 counted-by rows (ends cs) p {k} q =
     let many : k ≡ 0 + length (nonNull rows cs) = subst (isCount k) (sym q ∙ p) refl in
     (refl, omega arith)
 counted-by rows endless p {k} q = absurd (subst (isCount k) (sym q ∙ p) refl)
 
-endless-by : (rows : List ℕ) (w : Walk) {told : Kids} → told ≡ filled rows 0 [] w .answer → told ≡ Endless → w ≡ endless
-unfolding filled
+endless-by : (rows : List ℕ) (w : Walk) {told : Kids} → told ≡ gatheredInto rows 0 [] w .answer → told ≡ Endless → w ≡ endless
+unfolding gatheredInto
 endless-by rows (ends cs) p q = absurd (subst isEndless (sym q ∙ p) tt)
 endless-by rows endless p q = refl
 
@@ -253,7 +253,7 @@ module _ (e : Endian) (s rows attrs : List ℕ) (n i : ℕ) where
   unfolding kidsOf kidsFrom walkOn childWalk rowsMet
   walk-kids p = ap (λ (w : Walk). nonNull rows (rowsMet w)) p
 
-  module _ {told : Kids} (is : told ≡ filled rows 0 [] (childWalk e s rows attrs n i) .answer) where
+  module _ {told : Kids} (is : told ≡ gatheredInto rows 0 [] (childWalk e s rows attrs n i) .answer) where
     pub counted-ends : {k : ℕ} → Rows rows n → told ≡ Count k → Ends e s rows attrs n (siblingRow e s rows attrs n i) (nextRow rows n i)
     unfolding walkOn childWalk
     counted-ends table p = record { table = table; ending = counted-by rows _ is p .0 }

@@ -19,7 +19,7 @@ use Rattle.links.specs.Links.{nextRow, siblingRow}
 use Rattle.links.specs.declared.neighbour.Neighbour.{Neighbour}
 use Rattle.links.specs.declared.neighbour.Neighbour.the-variants.{Row, Refused}
 use Rattle.links.specs.declared.neighbour.Neighbour.the-variants as neighbour
-use Rattle.links.specs.Neighbour.{answerOf, neighbourBy, nextOf, siblingOf}
+use Rattle.links.specs.Neighbour.{answerOf, neighbourBy, nextTag, nextSibling}
 
 -- ---- for each way that the code comes to an answer
 
@@ -44,20 +44,20 @@ module _ (settings : Settings) (vendors sizes s rows attrs : List ℕ) (counts :
     (is : Tells settings vendors sizes s rows attrs counts told) where
   pub next-passed : told ≡ Passed → {r : Neighbour}
       → r ≡ neighbourBy (λ i. nextRow rows (counts .rows) i) (counts .rows) key (rowOfKey rows (counts .rows) key)
-      → r ≡ nextOf settings vendors sizes s rows attrs counts key
-  unfolding nextOf
+      → r ≡ nextTag settings vendors sizes s rows attrs counts key
+  unfolding nextTag
   next-passed p h = h ∙ passed-answer Refused _ is p
 
-  pub next-refused : {why : Refusal} → told ≡ check.Refused why → Refused why ≡ nextOf settings vendors sizes s rows attrs counts key
-  unfolding nextOf
+  pub next-refused : {why : Refusal} → told ≡ check.Refused why → Refused why ≡ nextTag settings vendors sizes s rows attrs counts key
+  unfolding nextTag
   next-refused p = refused-answer Refused _ is p
 
   pub sibling-passed : told ≡ Passed → {r : Neighbour}
       → r ≡ neighbourBy (λ i. siblingRow (settings .endian) s rows attrs (counts .rows) i) (counts .rows) key (rowOfKey rows (counts .rows) key)
-      → r ≡ siblingOf settings vendors sizes s rows attrs counts key
-  unfolding siblingOf
+      → r ≡ nextSibling settings vendors sizes s rows attrs counts key
+  unfolding nextSibling
   sibling-passed p h = h ∙ passed-answer Refused _ is p
 
-  pub sibling-refused : {why : Refusal} → told ≡ check.Refused why → Refused why ≡ siblingOf settings vendors sizes s rows attrs counts key
-  unfolding siblingOf
+  pub sibling-refused : {why : Refusal} → told ≡ check.Refused why → Refused why ≡ nextSibling settings vendors sizes s rows attrs counts key
+  unfolding nextSibling
   sibling-refused p = refused-answer Refused _ is p

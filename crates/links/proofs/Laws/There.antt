@@ -30,16 +30,16 @@ use Rattle.attributes.proofs.Laws.Part as parts
 use Rattle.attributes.specs.declared.value.End.{End}
 use Rattle.attributes.specs.declared.value.End.the-variants as end
 use Rattle.tables.specs.Row.{rowAt, attrAt, endianOf}
-use Rattle.tables.specs.Test.{isAt, Checked}
+use Rattle.tables.specs.Test.{isAt, TableHolds}
 use Rattle.tables.proofs.Laws.Checked.{AttrKnown, checked-attr}
 use Rattle.tables.specs.declared.row.Counts.{Counts}
 use Rattle.tables.specs.declared.find.Found.{Found}
 use Rattle.tables.specs.declared.find.Found.the-variants.{At, Nothing}
 use Rattle.links.specs.Attribute.{wants, attributeOf, asReference, referenceBy, referenceOf}
 use Rattle.links.proofs.Laws.Attribute.{attribute-found}
-use Rattle.tables.specs.Keyed.{inRow}
+use Rattle.tables.specs.Keyed.{inRowOfKey}
 use Rattle.tables.specs.Row.{endsOf}
-use Rattle.links.specs.Typed.{asPlaced, spotAt, spotIn, placeOf, asValue, asWidened, wordAt, wordOf, valueBy, partAs, toldWords}
+use Rattle.links.specs.Typed.{asPlaced, spotAt, spotIn, placeOfKey, asValue, asWidened, wordAt, wordOfPlace, valueOfKey, partAs, toldWords}
 use Rattle.links.proofs.Laws.Typed.{place-there, place-refused, keyed-asked}
 use Rattle.tables.proofs.Laws.Keyed.{keyed-checked, keyed-key}
 use Rattle.links.specs.declared.lookup.Wanted.the-variants as wanted
@@ -51,7 +51,7 @@ use Rattle.links.specs.declared.typed.Value.the-variants as value
 use Rattle.links.specs.declared.typed.Spot.{Spot}
 use Rattle.links.specs.declared.typed.Placed.{Placed}
 use Rattle.links.specs.declared.typed.Placed.the-variants as placed
-use Rattle.links.specs.There.{IsNumber, Told, WholeText, WholeBlock, Without}
+use Rattle.links.specs.There.{IsNumber, TextTold, WholeText, WholeBlock, Without}
 
 -- ---- the bytes of a value that ends inside are there
 
@@ -72,13 +72,13 @@ fixed-read is short e w s at h = sym (reads is short e w s at (fixed-there s at 
 -- ---- numbers
 
 told-by : {A : Type 0} (is : ℕ → A) (short : A) (tell : A → Value) → ((n : ℕ) → tell (is n) ≡ value.Is n) → (e : Endian) (w : ℕ) (s : List ℕ) (at : ℕ)
-    → isAt (fixedEnd s at w) ≡ true → Told (tell (readAt is short e w s at))
+    → isAt (fixedEnd s at w) ≡ true → TextTold (tell (readAt is short e w s at))
 told-by is short tell tells e w s at h =
     record { number = valueOf e w s at; is-number = ap tell (fixed-read is short e w s at h) ∙ tells (valueOf e w s at) }
 
 -- a number whose value ends inside is told
 word-told : (form : FormKind) → IsNumber form → (s : List ℕ) (spot : Spot) → isAt (valueEnd form (spot .ends .«data») s (spot .at)) ≡ true
-    → Told (wordAt form s spot)
+    → TextTold (wordAt form s spot)
 unfolding valueEnd wordAt asValue asWidened
 word-told Addr n s spot h = told-by read32.Value read32.Short asValue (λ k. refl) _ 4 s (spot .at) h
 word-told Ref n s spot h = told-by read32.Value read32.Short asValue (λ k. refl) _ 4 s (spot .at) h
@@ -149,7 +149,7 @@ form-known form number h =
     let same : formNumber form ≡ formNumber (formOf number) = eqb-true (formNumber form) (formNumber (formOf number)) h in
     sym (by-number (formOf number)) ∙ ap (lookup forms Undefined) (sym same) ∙ by-number form
 
-module _ {s vendors rows attrs : List ℕ} {counts : Counts} (checked : Checked s vendors rows attrs counts) (i : ℕ) (here : i < counts .rows)
+module _ {s vendors rows attrs : List ℕ} {counts : Counts} (checked : TableHolds s vendors rows attrs counts) (i : ℕ) (here : i < counts .rows)
     (number : ℕ) (form : FormKind) where
   -- its value ends inside, in the row's data endianness
   ends-inside : {k : ℕ} → isForm form number ≡ true → attributeOf rows attrs i (wanted.Number number) ≡ At k
@@ -163,12 +163,12 @@ module _ {s vendors rows attrs : List ℕ} {counts : Counts} (checked : Checked 
 
   -- the number that it says is there
   pub number-there : IsNumber form → (e : Endian) {k : ℕ} → isForm form number ≡ true → attributeOf rows attrs i (wanted.Number number) ≡ At k
-      → Told (wordAt form s (record { at = attrAt attrs k .value; ends = endsOf e rows i }))
+      → TextTold (wordAt form s (record { at = attrAt attrs k .value; ends = endsOf e rows i }))
   unfolding endsOf
   number-there n e {k} formed found = word-told form n s (record { at = attrAt attrs k .value; ends = endsOf e rows i }) (ends-inside formed found)
 
 -- a row's reference, as the walks over rows read it, is nothing only where the row has no such attribute
-pub reference-there : {s vendors rows attrs : List ℕ} {counts : Counts} → Checked s vendors rows attrs counts → (e : Endian) (i : ℕ) → i < counts .rows → (number : ℕ)
+pub reference-there : {s vendors rows attrs : List ℕ} {counts : Counts} → TableHolds s vendors rows attrs counts → (e : Endian) (i : ℕ) → i < counts .rows → (number : ℕ)
     → isForm Ref number ≡ true → referenceOf e s rows attrs i number ≡ reference.Nothing → attributeOf rows attrs i (wanted.Number number) ≡ Nothing
 unfolding referenceOf
 reference-there {s} {rows = rows} {attrs = attrs} checked e i here number formed = go (attributeOf rows attrs i (wanted.Number number)) refl
@@ -187,17 +187,17 @@ module _ (s rows attrs : List ℕ) (n key number : ℕ) (form : FormKind) where
   Sound (placed.Refused why) = Unit
 
   -- no number at a place is nothing
-  nothing-word : IsNumber form → (place : Placed) → Sound place → wordOf form s place ≡ value.Nothing → Without rows attrs n key number form
-  unfolding wordOf
+  nothing-word : IsNumber form → (place : Placed) → Sound place → wordOfPlace form s place ≡ value.Nothing → Without rows attrs n key number form
+  unfolding wordOfPlace
   nothing-word is (placed.At spot) h p =
-      let told : Told (wordAt form s spot) = word-told form is s spot h in
+      let told : TextTold (wordAt form s spot) = word-told form is s spot h in
       let q : value.Is (told .number) ≡ value.Nothing = sym (told .is-number) ∙ p in
       let z : _≡_ {A = ℕ} 0 1 = cc in
       absurd (omega arith)
   nothing-word is placed.Nothing h p = h
   nothing-word is (placed.Refused why) h p = let z : _≡_ {A = ℕ} 0 1 = cc in absurd (omega arith)
 
-module _ {s vendors rows attrs : List ℕ} {counts : Counts} (checked : Checked s vendors rows attrs counts) (i : ℕ) (here : i < counts .rows) (key : ℕ)
+module _ {s vendors rows attrs : List ℕ} {counts : Counts} (checked : TableHolds s vendors rows attrs counts) (i : ℕ) (here : i < counts .rows) (key : ℕ)
     (has-key : rowAt rows i .key ≡ key) (number : ℕ) (form : FormKind) (e : Endian) where
   found-sound : isForm form number ≡ true → (found : Found) → attributeOf rows attrs i (wanted.Number number) ≡ found
       → Sound s rows attrs (counts .rows) key number form (asPlaced (endsOf e rows i) attrs found)
@@ -213,11 +213,11 @@ module _ {s vendors rows attrs : List ℕ} {counts : Counts} (checked : Checked 
       (λ other. record { row = i; is-there = here; has-key = has-key; none = inl other })
 
 module _ (settings : Settings) (vendors sizes s rows attrs : List ℕ) (counts : Counts) (key number : ℕ) (form : FormKind) where
-  place-sound : Sound s rows attrs (counts .rows) key number form (placeOf settings vendors sizes s rows attrs counts key number form)
-  place-sound = go (inRow settings vendors sizes s rows attrs counts key keyed.Refused keyed.Row) refl
+  place-sound : Sound s rows attrs (counts .rows) key number form (placeOfKey settings vendors sizes s rows attrs counts key number form)
+  place-sound = go (inRowOfKey settings vendors sizes s rows attrs counts key keyed.Refused keyed.Row) refl
     where
-      go : (told : Keyed) → inRow settings vendors sizes s rows attrs counts key keyed.Refused keyed.Row ≡ told
-          → Sound s rows attrs (counts .rows) key number form (placeOf settings vendors sizes s rows attrs counts key number form)
+      go : (told : Keyed) → inRowOfKey settings vendors sizes s rows attrs counts key keyed.Refused keyed.Row ≡ told
+          → Sound s rows attrs (counts .rows) key number form (placeOfKey settings vendors sizes s rows attrs counts key number form)
       go (keyed.Row i) p =
           subst (Sound s rows attrs (counts .rows) key number form) (place-there settings vendors sizes s rows attrs counts key refl number form p refl)
           (spot-sound (keyed-checked settings vendors sizes s rows attrs counts key refl p) i
@@ -227,30 +227,30 @@ module _ (settings : Settings) (vendors sizes s rows attrs : List ℕ) (counts :
           subst (Sound s rows attrs (counts .rows) key number form) (place-refused settings vendors sizes s rows attrs counts key refl number form p) tt
 
   -- a lookup of a number tells nothing only where the key's row has no such attribute or it has another form
-  pub value-there : IsNumber form → valueBy settings vendors sizes s rows attrs counts key number form ≡ value.Nothing
+  pub value-there : IsNumber form → valueOfKey settings vendors sizes s rows attrs counts key number form ≡ value.Nothing
       → Without rows attrs (counts .rows) key number form
-  unfolding valueBy
+  unfolding valueOfKey
   value-there n p =
-      nothing-word s rows attrs (counts .rows) key number form n (placeOf settings vendors sizes s rows attrs counts key number form) place-sound p
+      nothing-word s rows attrs (counts .rows) key number form n (placeOfKey settings vendors sizes s rows attrs counts key number form) place-sound p
 
   -- the value at the place that a lookup comes to ends inside
-  place-inside : {spot : Spot} → placeOf settings vendors sizes s rows attrs counts key number form ≡ placed.At spot
+  place-inside : {spot : Spot} → placeOfKey settings vendors sizes s rows attrs counts key number form ≡ placed.At spot
       → isAt (valueEnd form (spot .ends .«data») s (spot .at)) ≡ true
   place-inside p = subst (Sound s rows attrs (counts .rows) key number form) p place-sound
 
 module _ (settings : Settings) (vendors sizes s rows attrs : List ℕ) (counts : Counts) (key number : ℕ) {spot : Spot} where
   -- a text that is told as found is whole
-  pub text-there : placeOf settings vendors sizes s rows attrs counts key number String ≡ placed.At spot → WholeText s (spot .at) (partAs String s spot)
+  pub text-there : placeOfKey settings vendors sizes s rows attrs counts key number String ≡ placed.At spot → WholeText s (spot .at) (partAs String s spot)
   unfolding partAs valueEnd
   text-there p = text-whole s (spot .at) (place-inside settings vendors sizes s rows attrs counts key number String p)
 
   -- and a block
-  pub block2-there : placeOf settings vendors sizes s rows attrs counts key number Block2 ≡ placed.At spot
+  pub block2-there : placeOfKey settings vendors sizes s rows attrs counts key number Block2 ≡ placed.At spot
       → WholeBlock (spot .ends .«data») 2 s (spot .at) (partAs Block2 s spot)
   unfolding partAs valueEnd
   block2-there p = block-whole (spot .ends .«data») 2 s (spot .at) (place-inside settings vendors sizes s rows attrs counts key number Block2 p)
 
-  pub block4-there : placeOf settings vendors sizes s rows attrs counts key number Block4 ≡ placed.At spot
+  pub block4-there : placeOfKey settings vendors sizes s rows attrs counts key number Block4 ≡ placed.At spot
       → WholeBlock (spot .ends .«data») 4 s (spot .at) (partAs Block4 s spot)
   unfolding partAs valueEnd
   block4-there p = block-whole (spot .ends .«data») 4 s (spot .at) (place-inside settings vendors sizes s rows attrs counts key number Block4 p)

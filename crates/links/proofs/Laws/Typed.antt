@@ -13,18 +13,18 @@ use Rattle.format.specs.declared.refusal.Refusal.{Refusal}
 use Rattle.attributes.specs.declared.decode.Endians.{Endians}
 use Rattle.tables.specs.Row.{attrAt, endsOf}
 use Rattle.tables.specs.declared.row.Attr.{Attr}
-use Rattle.tables.specs.Test.{Checked}
+use Rattle.tables.specs.Test.{TableHolds}
 use Rattle.tables.proofs.Laws.Checked.{checked-rising, checked-rows-few}
 use Rattle.tables.specs.declared.row.Counts.{Counts}
 use Rattle.tables.specs.declared.find.Found.{Found}
 use Rattle.tables.specs.declared.find.Found.the-variants.{At, Nothing}
-use Rattle.tables.specs.Keyed.{inRow}
+use Rattle.tables.specs.Keyed.{inRowOfKey}
 use Rattle.tables.specs.declared.keyed.Keyed.{Keyed}
 use Rattle.tables.specs.declared.keyed.Keyed.the-variants as keyed
 use Rattle.tables.proofs.Laws.Keyed.{in-row, no-row, keyed-checked, keyed-there}
 use Rattle.links.specs.Attribute.{attributeOf}
 use Rattle.links.specs.Inside.Children.{Asked}
-use Rattle.links.specs.Typed.{asLooked, lookedIn, attributeBy, blockForm, asPlaced, spotAt, spotIn, placeOf, wordAt, wordOf, partAs, partOf, toldWords, Handed}
+use Rattle.links.specs.Typed.{asLooked, lookedIn, attributeOfKey, blockForm, asPlaced, spotAt, spotIn, placeOfKey, wordAt, wordOfPlace, partAs, partOf, toldWords, Handed}
 use Rattle.links.specs.declared.lookup.Wanted.{Wanted}
 use Rattle.links.specs.declared.lookup.Wanted.the-variants as wanted
 use Rattle.links.specs.declared.typed.Looked.{Looked}
@@ -38,28 +38,28 @@ use Rattle.links.specs.declared.typed.Placed.the-variants as placed
 -- ---- in the row of a key
 
 module _ (settings : Settings) (vendors sizes s rows attrs : List ℕ) (counts : Counts) (key : ℕ) {told : Keyed}
-    (is : told ≡ inRow settings vendors sizes s rows attrs counts key keyed.Refused keyed.Row) where
-  pub look-there : (w : Wanted) {i : ℕ} {r : Looked} → told ≡ keyed.Row i → r ≡ lookedIn rows attrs w i → r ≡ attributeBy settings vendors sizes s rows attrs counts key w
-  unfolding attributeBy
+    (is : told ≡ inRowOfKey settings vendors sizes s rows attrs counts key keyed.Refused keyed.Row) where
+  pub look-there : (w : Wanted) {i : ℕ} {r : Looked} → told ≡ keyed.Row i → r ≡ lookedIn rows attrs w i → r ≡ attributeOfKey settings vendors sizes s rows attrs counts key w
+  unfolding attributeOfKey
   look-there w p h = h ∙ in-row settings vendors sizes s rows attrs counts key is looked.Refused (lookedIn rows attrs w) p
 
-  pub look-refused : (w : Wanted) {why : Refusal} → told ≡ keyed.Refused why → looked.Refused why ≡ attributeBy settings vendors sizes s rows attrs counts key w
-  unfolding attributeBy
+  pub look-refused : (w : Wanted) {why : Refusal} → told ≡ keyed.Refused why → looked.Refused why ≡ attributeOfKey settings vendors sizes s rows attrs counts key w
+  unfolding attributeOfKey
   look-refused w p = no-row settings vendors sizes s rows attrs counts key is looked.Refused (lookedIn rows attrs w) p
 
   pub place-there : (number : ℕ) (form : FormKind) {i : ℕ} {r : Placed} → told ≡ keyed.Row i → r ≡ spotIn (settings .endian) rows attrs number form i
-      → r ≡ placeOf settings vendors sizes s rows attrs counts key number form
-  unfolding placeOf
+      → r ≡ placeOfKey settings vendors sizes s rows attrs counts key number form
+  unfolding placeOfKey
   place-there number form p h = h ∙ in-row settings vendors sizes s rows attrs counts key is placed.Refused (spotIn (settings .endian) rows attrs number form) p
 
   pub place-refused : (number : ℕ) (form : FormKind) {why : Refusal} → told ≡ keyed.Refused why
-      → placed.Refused why ≡ placeOf settings vendors sizes s rows attrs counts key number form
-  unfolding placeOf
+      → placed.Refused why ≡ placeOfKey settings vendors sizes s rows attrs counts key number form
+  unfolding placeOfKey
   place-refused number form p = no-row settings vendors sizes s rows attrs counts key is placed.Refused (spotIn (settings .endian) rows attrs number form) p
 
   pub keyed-asked : {i : ℕ} → told ≡ keyed.Row i → Asked rows (counts .rows) i
   keyed-asked p =
-      let holds : Checked s vendors rows attrs counts = keyed-checked settings vendors sizes s rows attrs counts key is p in
+      let holds : TableHolds s vendors rows attrs counts = keyed-checked settings vendors sizes s rows attrs counts key is p in
       record {
         table = record { rising = checked-rising holds; few = checked-rows-few holds };
         there = keyed-there settings vendors sizes s rows attrs counts key is p;
@@ -119,17 +119,17 @@ module _ {form f : FormKind} (is : form ≡ f) (s : List ℕ) (at : Spot) where
   part-formed h = h ∙ ap (λ (x : FormKind). partAs x s at) (sym is)
 
 module _ (form : FormKind) (s : List ℕ) {told place : Placed} where
-  pub word-there : {at : Spot} {r : Value} → told ≡ place → told ≡ placed.At at → r ≡ wordAt form s at → r ≡ wordOf form s place
-  unfolding wordOf
-  word-there is p h = h ∙ ap (wordOf form s) (sym p ∙ is)
+  pub word-there : {at : Spot} {r : Value} → told ≡ place → told ≡ placed.At at → r ≡ wordAt form s at → r ≡ wordOfPlace form s place
+  unfolding wordOfPlace
+  word-there is p h = h ∙ ap (wordOfPlace form s) (sym p ∙ is)
 
-  pub word-none : told ≡ place → told ≡ placed.Nothing → value.Nothing ≡ wordOf form s place
-  unfolding wordOf
-  word-none is p = ap (wordOf form s) (sym p ∙ is)
+  pub word-none : told ≡ place → told ≡ placed.Nothing → value.Nothing ≡ wordOfPlace form s place
+  unfolding wordOfPlace
+  word-none is p = ap (wordOfPlace form s) (sym p ∙ is)
 
-  pub word-refused : {why : Refusal} → told ≡ place → told ≡ placed.Refused why → value.Refused why ≡ wordOf form s place
-  unfolding wordOf
-  word-refused is p = ap (wordOf form s) (sym p ∙ is)
+  pub word-refused : {why : Refusal} → told ≡ place → told ≡ placed.Refused why → value.Refused why ≡ wordOfPlace form s place
+  unfolding wordOfPlace
+  word-refused is p = ap (wordOfPlace form s) (sym p ∙ is)
 
   pub handed : {part words : List ℕ} → told ≡ place → part ≡ partOf form s told → words ≡ toldWords told → Handed form s place part words
   handed is p q = record { part-is = p ∙ ap (partOf form s) is; told-is = q ∙ ap toldWords is }
@@ -139,7 +139,7 @@ unfolding toldWords
 told-refused why h p = ap (λ (x : ℕ). 2 ∷ x ∷ why .place ∷ []) h ∙ ap toldWords (sym p)
 
 pub handed-block : (settings : Settings) (vendors sizes s rows attrs : List ℕ) (counts : Counts) (key number : ℕ) {form : FormKind} {part words : List ℕ}
-    → form ≡ blockForm number → Handed form s (placeOf settings vendors sizes s rows attrs counts key number form) part words
-    → Handed (blockForm number) s (placeOf settings vendors sizes s rows attrs counts key number (blockForm number)) part words
+    → form ≡ blockForm number → Handed form s (placeOfKey settings vendors sizes s rows attrs counts key number form) part words
+    → Handed (blockForm number) s (placeOfKey settings vendors sizes s rows attrs counts key number (blockForm number)) part words
 handed-block settings vendors sizes s rows attrs counts key number {part = part} {words = words} p =
-    subst (λ (x : FormKind). Handed x s (placeOf settings vendors sizes s rows attrs counts key number x) part words) p
+    subst (λ (x : FormKind). Handed x s (placeOfKey settings vendors sizes s rows attrs counts key number x) part words) p

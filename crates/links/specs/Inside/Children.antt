@@ -5,29 +5,25 @@ use mathlib.Core.Bool.{cond}
 use mathlib.Core.List.{List, []}
 use lib.ListN.{length, set}
 use lib.Seq.{sets}
+use Rattle.lent.specs.Outcome.{Outcome}
 use Rattle.links.specs.Walk.{Walk, ends, endless}
 use Rattle.links.specs.Links.{nullRow, nonNull}
 use Rattle.links.specs.Inside.Links.{Rows}
 use Rattle.links.specs.declared.children.Kids.{Kids}
 use Rattle.links.specs.declared.children.Kids.the-variants.{Count, Endless}
 
--- the children of a walk after k others: how many in all, and the room with them, as far as they fit
-pub record Filled : Type 0 where
-  pub answer : Kids
-  pub room : List ℕ
-
 -- of an endless walk there is nothing to count
-unfoldable pub filled : List ℕ → ℕ → List ℕ → Walk → Filled
-filled rows k room (ends cs) = record { answer = Count (k + length (nonNull rows cs)); room = sets room k (nonNull rows cs) }
-filled rows k room endless = record { answer = Endless; room = [] }
+unfoldable pub gatheredInto : List ℕ → ℕ → List ℕ → Walk → Outcome Kids ℕ
+gatheredInto rows k room (ends cs) = record { answer = Count (k + length (nonNull rows cs)); room = sets room k (nonNull rows cs) }
+gatheredInto rows k room endless = record { answer = Endless; room = [] }
 
 -- what gathering answers; of an endless walk's room nothing is said, since that walk is only made on room of no words
-pub record Gathers (o : Filled) (r : Kids) (room : List ℕ) : Type 0 where
+pub record Gathers (o : Outcome Kids ℕ) (r : Kids) (room : List ℕ) : Type 0 where
   pub answer-is : r ≡ o .answer
   pub room-is : (k : ℕ) → r ≡ Count k → room ≡ o .room
 
 -- one row: counted and stored unless it is a null entry
-pub record Takes (rows : List ℕ) (c k r : ℕ) (room room′ : List ℕ) : Type 0 where
+pub record TakesChild (rows : List ℕ) (c k r : ℕ) (room room′ : List ℕ) : Type 0 where
   pub count-is : r ≡ cond (nullRow rows c) k (k + 1)
   pub room-is : room′ ≡ cond (nullRow rows c) room (set room k c)
 

@@ -2,7 +2,7 @@
 use mathlib.Core.Path.{_≡_, refl}
 use mathlib.Core.List.{map}
 use Rattle.numbers.specs.Value.{valueOf, there, readAt}
-use Rattle.format.specs.Lookup.{member, indexOf, lookup}
+use Rattle.format.specs.Lookup.{isOn, indexOf, lookup}
 use Rattle.format.specs.TagKind.{tags}
 use Rattle.format.specs.AttributeKind.{used, alsoKnown, attributeKinds}
 use Rattle.format.specs.Known.{known}
@@ -18,20 +18,20 @@ use Rattle.tables.specs.Find.{rowFrom, rowOfKey}
 use Rattle.tables.specs.Test.{fitting, isAt, attrHolds, runHolds, rowHolds, rowsHold, tableHolds}
 use Rattle.tables.specs.Check.{afterTests, tested}
 use Rattle.entries.specs.Head.{nullEnd, tagHead, sizeHead, headAt}
-use Rattle.entries.specs.Run.{first, runEnds, readOn, runFrom}
-use Rattle.entries.specs.Entry.{flip, littleFlag, flagOf, flagsOf, kindOf, ordinary, rooted, attributes, rootEndian, rootIn, entryFrom, entryAt}
-use Rattle.entries.specs.Walk.{join, andThen, onward, walkFrom, walkAt}
-use Rattle.entries.specs.Section.{wholeWalk, stored, readSection}
+use Rattle.entries.specs.Run.{first, runEnds, readOn, readRun}
+use Rattle.entries.specs.Entry.{flip, littleFlag, flagOf, flagsOf, kindOf, ordinary, rooted, attributes, rootEndian, rootIn, entryFrom, readEntry}
+use Rattle.entries.specs.Walk.{join, entriesThen, onward, entriesFrom, readTags}
+use Rattle.entries.specs.Section.{wholeWalk, intoTables, readDebugSection}
 use Rattle.links.specs.Attribute.{wants, attrFrom, attributeOf, asReference, referenceBy, referenceOf}
 use Rattle.tree.specs.Pick.{countBelow, nearestBelow, firstFrom}
 use Rattle.tree.specs.Reach.{laterRow, reachBy, reachEnd}
 use Rattle.tree.specs.Nest.{lies, depth, parent, crosses, faulty, deep, firstFault, firstDeep}
-use Rattle.tree.specs.Tree.{placesFrom, firstErased, listed, treeOf}
+use Rattle.tree.specs.Tree.{placesFrom, firstErased, listingOf, listTree}
 use Rattle.digits.specs.Digits.{glyph, digits, widthFrom, decimalWidth}
 use Rattle.listing.specs.Text.{headerText, rowText, refusalText, rowsText}
 use Rattle.listing.specs.Report.{listingSizes, rowRoom, attrRoom, placeRoom, placesText, treeText, answerText, reportText, inputText}
 use Rattle.listing.specs.Examples.{examples}
 
 pub examples-hold : map (λ e. inputText (e .longer) (e .bytes)) examples ≡ map (λ e. e .text) examples
-unfolding examples numberOf fundTypes valueOf there readAt member indexOf lookup tags used alsoKnown attributeKinds known forms formOf vendorNumber vendorsHold roleHolds roleForm rolesDiffer rolesHold settingsHold zeroFrom fixedEnd blockEnd textEnd valueEnd ending numbered readAttribute nullEnd tagHead sizeHead headAt first plays runEnds readOn runFrom flip littleFlag flagOf flagsOf kindOf ordinary rooted attributes rootEndian rootIn entryFrom entryAt join andThen onward walkFrom walkAt wholeWalk fitting stored readSection glyph digits widthFrom decimalWidth headerText rowText rowsText refusalText rowWords attrWords rowsWords attrsWords rowAt attrAt erasedRow endianOf rowFrom rowOfKey isAt attrHolds runHolds rowHolds rowsHold tableHolds afterTests tested wants attrFrom attributeOf asReference referenceBy referenceOf countBelow nearestBelow firstFrom laterRow reachBy reachEnd lies depth parent crosses faulty deep firstFault firstDeep placesFrom firstErased listed treeOf listingSizes rowRoom attrRoom placeRoom placesText treeText answerText reportText inputText
+unfolding examples numberOf fundTypes valueOf there readAt isOn indexOf lookup tags used alsoKnown attributeKinds known forms formOf vendorNumber vendorsHold roleHolds roleForm rolesDiffer rolesHold settingsHold zeroFrom fixedEnd blockEnd textEnd valueEnd ending numbered readAttribute nullEnd tagHead sizeHead headAt first plays runEnds readOn readRun flip littleFlag flagOf flagsOf kindOf ordinary rooted attributes rootEndian rootIn entryFrom readEntry join entriesThen onward entriesFrom readTags wholeWalk fitting intoTables readDebugSection glyph digits widthFrom decimalWidth headerText rowText rowsText refusalText rowWords attrWords rowsWords attrsWords rowAt attrAt erasedRow endianOf rowFrom rowOfKey isAt attrHolds runHolds rowHolds rowsHold tableHolds afterTests tested wants attrFrom attributeOf asReference referenceBy referenceOf countBelow nearestBelow firstFrom laterRow reachBy reachEnd lies depth parent crosses faulty deep firstFault firstDeep placesFrom firstErased listingOf listTree listingSizes rowRoom attrRoom placeRoom placesText treeText answerText reportText inputText
 examples-hold = refl

@@ -22,7 +22,7 @@ use Rattle.entries.specs.declared.section.Section.{Section}
 use Rattle.entries.specs.declared.section.Section.the-variants.{Read, Refused, Room}
 use Rattle.tree.specs.Reach.{reachEnd}
 use Rattle.tree.specs.Nest.{firstFault, firstDeep}
-use Rattle.tree.specs.Tree.{placeWidth, firstErased, listed, treeOf}
+use Rattle.tree.specs.Tree.{placeWidth, firstErased, listingOf, listTree}
 use Rattle.tree.specs.declared.listing.Listing.{Listing}
 use Rattle.tree.specs.declared.listing.Listing.the-variants as listing
 use Rattle.listing.specs.Text.{refusalText, listingText}
@@ -107,7 +107,7 @@ read-few s rows attrs c long h =
 pub few-read : (s rows attrs rows′ attrs′ : List ℕ) {answer : Section} → length rows ≡ 5120 → BothGiven (listingRead s rows attrs) answer rows′ attrs′ → FewRead answer
 few-read s rows attrs rows′ attrs′ long g = record { few = λ c e. read-few s rows attrs c long (sym (g .answer-is) ∙ e) }
 
--- ---- and no more are listed than were read
+-- ---- and no more are listingOf than were read
 
 module _ (counts : Counts) where
   -- an outcome that lists rows lists all that were counted
@@ -117,8 +117,8 @@ module _ (counts : Counts) where
   refused-lists : (why : Refusal) (room : List ℕ) → ListsAll (record { answer = listing.Refused why; room = room })
   refused-lists why room n e = let z : _≡_ {A = ℕ} 0 1 = cc in absurd (omega arith)
 
-  listed-all : (rows : List ℕ) (reach : ℕ → ℕ) (room : List ℕ) → ListsAll (listed rows (counts .rows) reach room)
-  unfolding listed
+  listed-all : (rows : List ℕ) (reach : ℕ → ℕ) (room : List ℕ) → ListsAll (listingOf rows (counts .rows) reach room)
+  unfolding listingOf
   listed-all rows reach room =
       let k : ℕ = counts .rows in
       cond-all ListsAll (ltb (firstErased rows k) k) (λ t. refused-lists _ room)
@@ -127,7 +127,7 @@ module _ (counts : Counts) where
       (λ v. cond-all ListsAll (leb (k * placeWidth) (length room)) (λ w n e. cc) (λ w n e. (let z : _≡_ {A = ℕ} 0 1 = cc in absurd (omega arith))))))
 
   pub tree-lists : (s rows attrs room : List ℕ) → ListsAll (listingTree s rows attrs counts room)
-  unfolding treeOf tested afterTests
+  unfolding listTree tested afterTests
   tree-lists s rows attrs room =
       cond-all ListsAll (settingsHold listingSettings [] listingSizes)
       (λ t. cond-all ListsAll (ltb (length s) sectionLimit)

@@ -26,8 +26,8 @@ use Rattle.attributes.proofs.Laws.Text.{zero-after}
 use Rattle.tables.specs.Check.{refusedAt}
 use Rattle.lent.proofs.Laws.Stores.{sets-append, sets-out}
 use Rattle.records.proofs.Laws.Fields.{by-told}
-use Rattle.records.specs.Elements.{listWidth, valueAt, namedFrom, nameFrom, valued, elementAt, Listed, Elements, are, missing, andThen, elementThen, elementsFrom, elementsIn, valuesOf, namesOf}
-use Rattle.records.specs.Inside.Elements.{slotOf, valueWords, nameWords, listedAs, Stored, storeAll, storeValues, storeNames, asLists, countFrom, StoredFrom}
+use Rattle.records.specs.Elements.{listWidth, valueAt, namedFrom, nameFrom, valued, elementAt, Listed, Elements, are, missing, elementsThen, elementThen, elementsFrom, elementsIn, valuesOf, namesOf}
+use Rattle.records.specs.Inside.Elements.{slotOf, valueWords, nameWords, listedAs, ElementsStored, storeAll, storeValues, storeNames, asLists, countFrom, StoredFrom}
 use Rattle.records.specs.Enumeration.{listed, reversed}
 use Rattle.records.specs.declared.fields.Word.{Word}
 use Rattle.records.specs.declared.fields.Word.the-variants as word
@@ -148,7 +148,7 @@ module _ (slot : ℕ) (x : Listed) (values : List ℤ) {v : ℤ} {values′ : Li
   one-slot = stored ∙ ap (set values slot) same ∙ ap (λ (k : ℕ). set values k (x .value)) (sym (mul-one slot))
 
   pub put-both : {names′ names″ : List ℕ} → names′ ≡ set names (slot * 2) (x .place) → names″ ≡ set names′ (slot * 2 + 1) (x .length)
-      → Stored slot x values values′ names names″
+      → ElementsStored slot x values values′ names names″
   put-both p q =
       record {
         values-are = one-slot;
@@ -157,7 +157,7 @@ module _ (slot : ℕ) (x : Listed) (values : List ℤ) {v : ℤ} {values′ : Li
             ∙ ap (λ (k : ℕ). set (set names (slot * 2) (x .place)) k (x .length)) (add-one (slot * 2));
       }
 
-  pub put-value-alone : length names ≤ slot → Stored slot x values values′ names names
+  pub put-value-alone : length names ≤ slot → ElementsStored slot x values values′ names names
   put-value-alone h = record { values-are = one-slot; names-are = sym (sets-out names (slot * 2) (nameWords x) (omega arith)) }
 
 -- ---- lists in their slots
@@ -288,8 +288,8 @@ unfolding withBefore
 before-none (are ys) = refl
 before-none missing = refl
 
-before-then : (xs : List Listed) (x : Listed) (l : Elements) → withBefore xs (andThen x l) ≡ withBefore (xs ++ (x ∷ [])) l
-unfolding withBefore andThen
+before-then : (xs : List Listed) (x : Listed) (l : Elements) → withBefore xs (elementsThen x l) ≡ withBefore (xs ++ (x ∷ [])) l
+unfolding withBefore elementsThen
 before-then xs x (are ys) = ap are (sym (append-assoc xs (x ∷ []) ys))
 before-then xs x missing = refl
 
@@ -319,8 +319,8 @@ module _ (width : ℕ) (e : Endian) (base : ℕ) (block : List ℕ) where
   Few n (are xs) = length xs ≤ n
   Few n missing = Unit
 
-  then-few : (n : ℕ) (x : Listed) (l : Elements) → Few n l → Few (suc n) (andThen x l)
-  unfolding andThen
+  then-few : (n : ℕ) (x : Listed) (l : Elements) → Few n l → Few (suc n) (elementsThen x l)
+  unfolding elementsThen
   then-few n x (are xs) h = omega arith
   then-few n x missing h = tt
 
@@ -461,7 +461,7 @@ module _ (width : ℕ) (e : Endian) (base : ℕ) (block : List ℕ) where
           element-count = omega (arith, w .total, w .few)
 
           pub element-again : {slot : ℕ} {values′ : List ℤ} {names′ : List ℕ} {v : ℤ} → slot ≡ slotOf slots count → v ≡ value
-              → Stored slot (listedAs v (base + place) len) values values′ names names′ → Loop values₀ values′ names₀ names′ next (count + 1)
+              → ElementsStored slot (listedAs v (base + place) len) values values′ names names′ → Loop values₀ values′ names₀ names′ next (count + 1)
           unfolding elementThen
           element-again {slot} at-slot same stored =
               let x : Listed = listedAs value (base + place) len in

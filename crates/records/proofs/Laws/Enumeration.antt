@@ -25,7 +25,7 @@ use Rattle.tables.specs.declared.row.Attr.{Attr}
 use Rattle.tables.specs.declared.find.Found.{Found}
 use Rattle.tables.specs.declared.row.Counts.{Counts}
 use Rattle.links.specs.Links.{childWalk}
-use Rattle.tables.specs.Keyed.{inRow}
+use Rattle.tables.specs.Keyed.{inRowOfKey}
 use Rattle.tables.proofs.Laws.Keyed.{in-row, no-row, keyed-short}
 use Rattle.links.proofs.Laws.Typed.{keyed-asked}
 use Rattle.tables.specs.declared.keyed.Keyed.{Keyed}
@@ -40,10 +40,10 @@ use Rattle.records.specs.Front.{kindFault, childlessFault, unless}
 use Rattle.records.proofs.Laws.Front.{unless-clear, unless-refused}
 use Rattle.records.proofs.Laws.Record.{fields-clear}
 use Rattle.records.specs.Elements.{Listed, Elements, are, missing, listWidth, elementsIn, valuesOf, namesOf}
-use Rattle.records.specs.Inside.Elements.{valueWords, nameWords, storeAll, Addable, asLists, before, countFrom, storeValues, storeNames, StoredFrom}
+use Rattle.records.specs.Inside.Elements.{valueWords, nameWords, storeAll, Addable, asLists, elementsBefore, countFrom, storeValues, storeNames, StoredFrom}
 use Rattle.records.proofs.Laws.Elements.{width-few, elements-few, store-append, store-length, values-forwards, names-forwards, values-backwards, names-backwards}
-use Rattle.records.specs.Enumeration.{Lists, listed, refused, joined, sizeBefore, listAt, listsFrom, enumerationIs, sizedBy, rowLists, enumerationEnd, listedBy, enumerationAt, isGcc, reversed, inOrder, listInto, intoRooms, enumerationBy}
-use Rattle.records.specs.Inside.Enumeration.{Countable, Stepping, AskedShort, oneList, restFrom, Advanced, Steps, WholeStored}
+use Rattle.records.specs.Enumeration.{Lists, listed, listsRefused, joined, sizeBefore, listAt, listsFrom, enumerationIs, enumerationSized, rowLists, enumerationEnd, listedBy, enumerationAt, isGcc, reversed, inOrder, listInto, enumerationInto, processEnumerationTag}
+use Rattle.records.specs.Inside.Enumeration.{Countable, Stepping, AskedShort, oneList, restFrom, Advanced, Steps, EnumerationStored}
 use Rattle.records.specs.declared.taken.Record.the-variants as record′
 use Rattle.records.specs.declared.scan.Run.{Run}
 use Rattle.records.specs.declared.scan.Attribute.{Attribute}
@@ -91,24 +91,24 @@ block-short e w s at =
 pub told-listed : (k : ℕ) (lists : Lists) {more : ℕ} → countFrom k lists ≡ counted.Count more → (xs : List Listed) × (lists ≡ listed xs) × (more ≡ k + length xs)
 unfolding countFrom
 told-listed k (listed xs) {more} p = let same : counted.Count (k + length xs) ≡ counted.Count more = p in (xs, refl, cc)
-told-listed k (refused why) p = let z : _≡_ {A = ℕ} 0 1 = cc in absurd (omega arith)
+told-listed k (listsRefused why) p = let z : _≡_ {A = ℕ} 0 1 = cc in absurd (omega arith)
 
-pub told-refused : (k : ℕ) (lists : Lists) {why : Refusal} → countFrom k lists ≡ counted.Refused why → lists ≡ refused why
+pub told-refused : (k : ℕ) (lists : Lists) {why : Refusal} → countFrom k lists ≡ counted.Refused why → lists ≡ listsRefused why
 unfolding countFrom
 told-refused k (listed xs) p = let z : _≡_ {A = ℕ} 0 1 = cc in absurd (omega arith)
-told-refused k (refused why′) {why} p = let same : counted.Refused why′ ≡ counted.Refused why = p in cc
+told-refused k (listsRefused why′) {why} p = let same : counted.Refused why′ ≡ counted.Refused why = p in cc
 
 pub stored-as : {lists lists′ : Lists} (slots : Slots) (k : ℕ) (r : Counted) {values values′ : List ℤ} {names names′ : List ℕ} → lists ≡ lists′
     → StoredFrom lists slots k r values values′ names names′ → StoredFrom lists′ slots k r values values′ names names′
 stored-as slots k r {values} {values′} {names} {names′} p = subst (λ (l : Lists). StoredFrom l slots k r values values′ names names′) p
 
-stored-refused : {lists : Lists} (slots : Slots) (k : ℕ) {why : Refusal} (values values′ : List ℤ) (names names′ : List ℕ) → lists ≡ refused why
+stored-refused : {lists : Lists} (slots : Slots) (k : ℕ) {why : Refusal} (values values′ : List ℤ) (names names′ : List ℕ) → lists ≡ listsRefused why
     → StoredFrom lists slots k (counted.Refused why) values values′ names names′
 unfolding countFrom
 stored-refused slots k values values′ names names′ p =
     record { answer-is = ap (countFrom k) (sym p); values-are = λ xs q. never (sym p ∙ q); names-are = λ xs q. never (sym p ∙ q) }
   where
-    never : {A : Type 0} {why : Refusal} {xs : List Listed} → refused why ≡ listed xs → A
+    never : {A : Type 0} {why : Refusal} {xs : List Listed} → listsRefused why ≡ listed xs → A
     never q = let z : _≡_ {A = ℕ} 0 1 = cc in absurd (omega arith)
 
 module _ (settings : Settings) (s attrs : List ℕ) (run : Run) (j : ℕ) {a : Attribute} (at : a ≡ attributeAt attrs (run .first + j))
@@ -120,7 +120,7 @@ module _ (settings : Settings) (s attrs : List ℕ) (run : Run) (j : ℕ) {a : A
   pub list-refused : (slots : Slots) (count : ℕ) {why : Refusal} (values : List ℤ) (names : List ℕ) → told ≡ fault.Refused why
       → StoredFrom (oneList settings s attrs run j) slots count (counted.Refused why) values values names names
   unfolding oneList
-  list-refused slots count values names p = stored-refused slots count values values names names (sym (unless-refused judged refused _ p))
+  list-refused slots count values names p = stored-refused slots count values values names names (sym (unless-refused judged listsRefused _ p))
 
   module _ {size : Word} {width : ℕ} {attr : Attr} {block : List ℕ} (q : size ≡ sizeBefore s attrs run j) (w : width ≡ listWidth size)
       (r : attr ≡ attrAt attrs (run .first + j)) (b : block ≡ blockAt (run .ends .«data») 4 s (attr .value)) where
@@ -135,7 +135,7 @@ module _ (settings : Settings) (s attrs : List ℕ) (run : Run) (j : ℕ) {a : A
         → StoredFrom (asLists (run .key) (elementsIn width (run .ends .section) (attr .value + 4) block)) slots count c values values′ names names′
         → StoredFrom (oneList settings s attrs run j) slots count c values values′ names names′
     unfolding oneList
-    list-clear slots count c p = stored-as slots count c (unless-clear judged refused p (ap (asLists (run .key)) list-is))
+    list-clear slots count c p = stored-as slots count c (unless-clear judged listsRefused p (ap (asLists (run .key)) list-is))
 
     -- the count of elements stays small: fewer bytes in a block than the section's limit, and attributes are counted in 32 bits
     pub list-addable : (count : ℕ) → Countable s j count → j < 2 ^ 32 → attr .value < 2 ^ 32 → Addable (attr .value + 4) width block count
@@ -148,28 +148,28 @@ module _ (settings : Settings) (s attrs : List ℕ) (run : Run) (j : ℕ) {a : A
 
 -- ---- up to and with the next list
 
-none-before : (l : Lists) → before [] l ≡ l
-unfolding before
+none-before : (l : Lists) → elementsBefore [] l ≡ l
+unfolding elementsBefore
 none-before (listed ys) = refl
-none-before (refused why) = refl
+none-before (listsRefused why) = refl
 
-before-before : (xs ys : List Listed) (l : Lists) → before (xs ++ ys) l ≡ before xs (before ys l)
-unfolding before
+before-before : (xs ys : List Listed) (l : Lists) → elementsBefore (xs ++ ys) l ≡ elementsBefore xs (elementsBefore ys l)
+unfolding elementsBefore
 before-before xs ys (listed zs) = ap listed (append-assoc xs ys zs)
-before-before xs ys (refused why) = refl
+before-before xs ys (listsRefused why) = refl
 
 -- those of one attribute, and of what follows
 unfoldable withRest : Lists → Lists → Lists
-withRest (listed xs) rest = before xs rest
-withRest (refused why) rest = refused why
+withRest (listed xs) rest = elementsBefore xs rest
+withRest (listsRefused why) rest = listsRefused why
 
 joined-rest : (key : ℕ) (l : Elements) (rest : Lists) → joined key l rest ≡ withRest (asLists key l) rest
-unfolding joined withRest asLists before
+unfolding joined withRest asLists elementsBefore
 joined-rest key (are xs) (listed ys) = refl
-joined-rest key (are xs) (refused why) = refl
+joined-rest key (are xs) (listsRefused why) = refl
 joined-rest key missing rest = refl
 
-unless-rest : (f : Fault) (l rest : Lists) → unless f refused (withRest l rest) ≡ withRest (unless f refused l) rest
+unless-rest : (f : Fault) (l rest : Lists) → unless f listsRefused (withRest l rest) ≡ withRest (unless f listsRefused l) rest
 unfolding unless withRest
 unless-rest fault.Clear l rest = refl
 unless-rest (fault.Refused why) l rest = refl
@@ -218,10 +218,10 @@ module _ (settings : Settings) (s attrs : List ℕ) (run : Run) where
   own-turn : (j m : ℕ) → own j ≡ true → listsFrom settings s attrs run j (suc m) ≡ withRest (oneList settings s attrs run j) (listsFrom settings s attrs run (suc j) m)
   unfolding listsFrom oneList
   own-turn j m t =
-      let here : listsFrom settings s attrs run j (suc m) ≡ unless (faulty j) refused (joined (run .key) (listAt s attrs run j) (listsFrom settings s attrs run (suc j) m)) =
+      let here : listsFrom settings s attrs run j (suc m) ≡ unless (faulty j) listsRefused (joined (run .key) (listAt s attrs run j) (listsFrom settings s attrs run (suc j) m)) =
       rw (t, listsFrom)
       in
-      here ∙ ap (unless (faulty j) refused) (joined-rest (run .key) (listAt s attrs run j) (listsFrom settings s attrs run (suc j) m))
+      here ∙ ap (unless (faulty j) listsRefused) (joined-rest (run .key) (listAt s attrs run j) (listsFrom settings s attrs run (suc j) m))
       ∙ unless-rest (faulty j) (asLists (run .key) (listAt s attrs run j)) (listsFrom settings s attrs run (suc j) m)
 
   rest-own : (j : ℕ) → j < run .count → own j ≡ true → rest j ≡ withRest (oneList settings s attrs run j) (rest (j + 1))
@@ -232,17 +232,17 @@ module _ (settings : Settings) (s attrs : List ℕ) (run : Run) where
       ap (listsFrom settings s attrs run j) many ∙ own-turn j (run .count - (j + 1)) t
       ∙ ap (λ (x : ℕ). withRest (oneList settings s attrs run j) (listsFrom settings s attrs run x (run .count - (j + 1)))) place
 
-  fault-turn : (j m : ℕ) {why : Refusal} → faulty j ≡ fault.Refused why → listsFrom settings s attrs run j (suc m) ≡ refused why
+  fault-turn : (j m : ℕ) {why : Refusal} → faulty j ≡ fault.Refused why → listsFrom settings s attrs run j (suc m) ≡ listsRefused why
   unfolding listsFrom unless
   fault-turn j m p = rw (p, listsFrom)
 
-  rest-fault : (j : ℕ) {why : Refusal} → j < run .count → faulty j ≡ fault.Refused why → rest j ≡ refused why
+  rest-fault : (j : ℕ) {why : Refusal} → j < run .count → faulty j ≡ fault.Refused why → rest j ≡ listsRefused why
   unfolding restFrom
   rest-fault j h p =
       let many : run .count - j ≡ suc (run .count - (j + 1)) = omega arith in
       ap (listsFrom settings s attrs run j) many ∙ fault-turn j (run .count - (j + 1)) p
 
-  listed-here : (f : Fault) (l : Elements) {xs : List Listed} → unless f refused (asLists (run .key) l) ≡ listed xs → l ≡ are xs
+  listed-here : (f : Fault) (l : Elements) {xs : List Listed} → unless f listsRefused (asLists (run .key) l) ≡ listed xs → l ≡ are xs
   unfolding unless asLists
   listed-here fault.Clear (are ys) p = cc
   listed-here fault.Clear missing p = let z : _≡_ {A = ℕ} 0 1 = cc in absurd (omega arith)
@@ -322,12 +322,12 @@ module _ (settings : Settings) (s attrs : List ℕ) (run : Run) where
               names-are = stored .names-are (found .0) (found .1);
             }
 
-        pub step-list-refused : {why : Refusal} → r ≡ counted.Refused why → rest j ≡ refused why
+        pub step-list-refused : {why : Refusal} → r ≡ counted.Refused why → rest j ≡ listsRefused why
         unfolding withRest
         step-list-refused q =
             here ∙ ap (λ (l : Lists). withRest l (rest (at + 1))) (told-refused count (oneList settings s attrs run at) (sym (stored .answer-is) ∙ q))
 
-    pub step-refused : {why : Refusal} → told ≡ scan.Refused why → rest j ≡ refused why
+    pub step-refused : {why : Refusal} → told ≡ scan.Refused why → rest j ≡ listsRefused why
     step-refused {why} p =
         let met : (k : ℕ) × FaultMet (settings .roles) record′.Enumeration run s attrs j (run .count - j) k why =
         scan-refused (settings .roles) record′.Enumeration run s attrs (sym is ∙ p)
@@ -346,7 +346,7 @@ module _ (settings : Settings) (s attrs : List ℕ) (run : Run) where
     pub total : count ≡ length xs
     pub values-are : values ≡ storeValues slots 0 xs values₀
     pub names-are : names ≡ storeNames slots 0 xs names₀
-    pub left : before xs (restFrom settings s attrs run j) ≡ listsFrom settings s attrs run 0 (run .count)
+    pub left : elementsBefore xs (restFrom settings s attrs run j) ≡ listsFrom settings s attrs run 0 (run .count)
 
   module _ (slots : Slots) where
     pub lists-begin : (values : List ℤ) (names : List ℕ) → ListsLoop slots values values names names 0 0
@@ -373,10 +373,10 @@ module _ (settings : Settings) (s attrs : List ℕ) (run : Run) where
       lists-stepping short h = record { countable = record { short = short; few = w .few }; inside = h }
 
       pub lists-done : run .count ≤ j → StoredFrom (listsFrom settings s attrs run 0 (run .count)) slots 0 (counted.Count count) values₀ values names₀ names
-      unfolding countFrom before
+      unfolding countFrom elementsBefore
       lists-done h =
           let all : listsFrom settings s attrs run 0 (run .count) ≡ listed (w .xs) =
-          sym (w .left) ∙ ap (before (w .xs)) (rest-end j h) ∙ ap listed (append-nil (w .xs))
+          sym (w .left) ∙ ap (elementsBefore (w .xs)) (rest-end j h) ∙ ap listed (append-nil (w .xs))
           in
           let total : count ≡ 0 + length (w .xs) = omega (arith, w .total) in
           record {
@@ -391,10 +391,10 @@ module _ (settings : Settings) (s attrs : List ℕ) (run : Run) where
       module _ (told : Step) (values′ : List ℤ) (names′ : List ℕ) (steps : Steps settings s attrs run slots j count told values values′ names names′) where
         pub lists-refused : {why : Refusal} → told ≡ step.Refused why
             → StoredFrom (listsFrom settings s attrs run 0 (run .count)) slots 0 (counted.Refused why) values₀ values′ names₀ names′
-        unfolding before
+        unfolding elementsBefore
         lists-refused {why} p =
-            let here : rest j ≡ refused why = subst (λ (x : Step). Steps settings s attrs run slots j count x values values′ names names′) p steps in
-            stored-refused slots 0 values₀ values′ names₀ names′ (sym (w .left) ∙ ap (before (w .xs)) here)
+            let here : rest j ≡ listsRefused why = subst (λ (x : Step). Steps settings s attrs run slots j count x values values′ names names′) p steps in
+            stored-refused slots 0 values₀ values′ names₀ names′ (sym (w .left) ∙ ap (elementsBefore (w .xs)) here)
 
         module _ {at more : ℕ} (p : told ≡ step.Next at more) where
           advanced : Advanced settings s attrs run slots j count at more values values′ names names′
@@ -424,7 +424,7 @@ module _ (settings : Settings) (s attrs : List ℕ) (run : Run) where
                 names-are =
                     advanced .names-are ∙ ap (λ (t : List ℕ). storeNames slots count ys t) (w .names-are)
                     ∙ ap (λ (n : ℕ). storeNames slots n ys (storeNames slots 0 (w .xs) names₀)) place ∙ sym (store-append nameWords 2 slots 0 (w .xs) ys names₀);
-                left = before-before (w .xs) ys (rest at) ∙ ap (before (w .xs)) (sym (advanced .left)) ∙ w .left;
+                left = before-before (w .xs) ys (rest at) ∙ ap (elementsBefore (w .xs)) (sym (advanced .left)) ∙ w .left;
               }
 
 -- ---- in order into the rooms
@@ -453,9 +453,9 @@ module _ (producer : Producer) (xs : List Listed) {gcc : Bool} (g : gcc ≡ isGc
 
 module _ (settings : Settings) (s rows attrs : List ℕ) (n i : ℕ) where
   pub end-clear : (members : ℕ) {told : Fault} {run : Run} {r : EnumerationWhole} → told ≡ childlessFault rows i (childWalk (settings .endian) s rows attrs n i)
-      → told ≡ fault.Clear → run ≡ runOf (settings .endian) rows i → r ≡ sizedBy s attrs run members → r ≡ enumerationEnd settings s rows attrs n i members
+      → told ≡ fault.Clear → run ≡ runOf (settings .endian) rows i → r ≡ enumerationSized s attrs run members → r ≡ enumerationEnd settings s rows attrs n i members
   unfolding enumerationEnd
-  end-clear members is p q h = fields-clear whole.Refused (λ (x : Run). sizedBy s attrs x members) is p q h
+  end-clear members is p q h = fields-clear whole.Refused (λ (x : Run). enumerationSized s attrs x members) is p q h
 
   pub end-refused : (members : ℕ) {told : Fault} {why : Refusal} → told ≡ childlessFault rows i (childWalk (settings .endian) s rows attrs n i)
       → told ≡ fault.Refused why → whole.Refused why ≡ enumerationEnd settings s rows attrs n i members
@@ -474,13 +474,13 @@ module _ (settings : Settings) (s rows attrs : List ℕ) (n i : ℕ) where
   is-not p = let z : _≡_ {A = ℕ} 0 1 = cc in absurd (omega arith)
 
   whole-refused : (slots : Slots) {why : Refusal} (values values′ : List ℤ) (names names′ : List ℕ) → whole.Refused why ≡ at
-      → WholeStored at lists slots (whole.Refused why) values values′ names names′
+      → EnumerationStored at lists slots (whole.Refused why) values values′ names names′
   whole-refused slots values values′ names names′ p =
       record { answer-is = p; values-are = λ e q xs r. is-not (p ∙ q); names-are = λ e q xs r. is-not (p ∙ q) }
 
   module _ {told : Fault} (is : told ≡ kindFault settings rows record′.Enumeration i) where
     pub whole-kind : (slots : Slots) {why : Refusal} (values : List ℤ) (names : List ℕ) → told ≡ fault.Refused why
-        → WholeStored (enumerationAt settings s rows attrs n i) (rowLists settings s rows attrs n i) slots (whole.Refused why) values values names names
+        → EnumerationStored (enumerationAt settings s rows attrs n i) (rowLists settings s rows attrs n i) slots (whole.Refused why) values values names names
     unfolding enumerationAt
     whole-kind slots values names p = whole-refused slots values values names names (unless-refused is whole.Refused _ p)
 
@@ -496,7 +496,7 @@ module _ (settings : Settings) (s rows attrs : List ℕ) (n i : ℕ) where
       by-lists h k = unless-clear is whole.Refused p (k ∙ ap (listedBy settings s rows attrs n i) (sym h))
 
       pub whole-counted : {members : ℕ} {a : EnumerationWhole} → r ≡ counted.Count members → a ≡ enumerationEnd settings s rows attrs n i members
-          → WholeStored (enumerationAt settings s rows attrs n i) (rowLists settings s rows attrs n i) slots a values values′ names names′
+          → EnumerationStored (enumerationAt settings s rows attrs n i) (rowLists settings s rows attrs n i) slots a values values′ names names′
       unfolding listedBy
       whole-counted {members} c h =
           let found : (xs : List Listed) × (listsFrom settings s attrs run 0 (run .count) ≡ listed xs) × (members ≡ 0 + length xs) =
@@ -510,7 +510,7 @@ module _ (settings : Settings) (s rows attrs : List ℕ) (n i : ℕ) where
           }
 
       pub whole-unread : {why : Refusal} → r ≡ counted.Refused why
-          → WholeStored (enumerationAt settings s rows attrs n i) (rowLists settings s rows attrs n i) slots (whole.Refused why) values values′ names names′
+          → EnumerationStored (enumerationAt settings s rows attrs n i) (rowLists settings s rows attrs n i) slots (whole.Refused why) values values′ names names′
       unfolding listedBy
       whole-unread c =
           whole-refused slots values values′ names names′
@@ -529,12 +529,12 @@ module _ (settings : Settings) (s rows attrs : List ℕ) (n i : ℕ) where
   unless-members (fault.Refused why) l a m = tt
 
   by-members : (l : Lists) → Members l (listedBy settings s rows attrs n i l)
-  unfolding listedBy enumerationEnd sizedBy
+  unfolding listedBy enumerationEnd enumerationSized
   by-members (listed xs) =
       unless-members (childlessFault rows i (childWalk (settings .endian) s rows attrs n i)) (listed xs)
-      (sizedBy s attrs (runOf (settings .endian) rows i) (length xs))
+      (enumerationSized s attrs (runOf (settings .endian) rows i) (length xs))
       (byte-sized-all whole.Refused (enumerationIs (length xs)) s attrs (runOf (settings .endian) rows i) (Members (listed xs)) (λ name size. (xs, refl, refl)) (λ why. tt))
-  by-members (refused why) = tt
+  by-members (listsRefused why) = tt
 
   pub members-listed : {e : Enumeration} → enumerationAt settings s rows attrs n i ≡ whole.Is e
       → (xs : List Listed) × (rowLists settings s rows attrs n i ≡ listed xs) × (e .members ≡ length xs)
@@ -545,30 +545,30 @@ module _ (settings : Settings) (s rows attrs : List ℕ) (n i : ℕ) where
 
   module _ {told : EnumerationWhole} (is : told ≡ enumerationAt settings s rows attrs n i) (values : List ℤ) (names : List ℕ) where
     pub given-refused : {why : Refusal} → told ≡ whole.Refused why
-        → BothGiven (intoRooms (settings .producer) values names (rowLists settings s rows attrs n i) (enumerationAt settings s rows attrs n i)) (read.Refused why) values names
-    unfolding intoRooms
+        → BothGiven (enumerationInto (settings .producer) values names (rowLists settings s rows attrs n i) (enumerationAt settings s rows attrs n i)) (read.Refused why) values names
+    unfolding enumerationInto
     given-refused {why} p =
-        subst (λ (x : EnumerationWhole). BothGiven (intoRooms (settings .producer) values names lists x) (read.Refused why) values names) (sym p ∙ is)
+        subst (λ (x : EnumerationWhole). BothGiven (enumerationInto (settings .producer) values names lists x) (read.Refused why) values names) (sym p ∙ is)
         (record { answer-is = refl; first-is = refl; second-is = refl })
 
     module _ {e : Enumeration} (p : told ≡ whole.Is e) where
       pub given-room : leb (e .members) (length values) && leb (e .members) (length names / 2) ≡ false
-          → BothGiven (intoRooms (settings .producer) values names (rowLists settings s rows attrs n i) (enumerationAt settings s rows attrs n i)) (read.Room (e .members)) values names
-      unfolding intoRooms
+          → BothGiven (enumerationInto (settings .producer) values names (rowLists settings s rows attrs n i) (enumerationAt settings s rows attrs n i)) (read.Room (e .members)) values names
+      unfolding enumerationInto
       given-room t =
-          subst (λ (x : EnumerationWhole). BothGiven (intoRooms (settings .producer) values names lists x) (read.Room (e .members)) values names) (sym p ∙ is)
+          subst (λ (x : EnumerationWhole). BothGiven (enumerationInto (settings .producer) values names lists x) (read.Room (e .members)) values names) (sym p ∙ is)
           (subst (λ (b : Bool). BothGiven (cond b (listInto (settings .producer) values names lists (read.Is e)) (outcomes (read.Room (e .members)) values names)) (read.Room (e .members)) values names)
           (sym t) (record { answer-is = refl; first-is = refl; second-is = refl }))
 
       pub given-members : leb (e .members) (length values) && leb (e .members) (length names / 2) ≡ true → {gcc : Bool} → gcc ≡ isGcc (settings .producer)
           → {r : EnumerationWhole} {values′ : List ℤ} {names′ : List ℕ}
-          → WholeStored (enumerationAt settings s rows attrs n i) (rowLists settings s rows attrs n i) (record { reversed = gcc; total = e .members }) r values values′ names names′
-          → BothGiven (intoRooms (settings .producer) values names (rowLists settings s rows attrs n i) (enumerationAt settings s rows attrs n i)) (read.Is e) values′ names′
-      unfolding intoRooms listInto
+          → EnumerationStored (enumerationAt settings s rows attrs n i) (rowLists settings s rows attrs n i) (record { reversed = gcc; total = e .members }) r values values′ names names′
+          → BothGiven (enumerationInto (settings .producer) values names (rowLists settings s rows attrs n i) (enumerationAt settings s rows attrs n i)) (read.Is e) values′ names′
+      unfolding enumerationInto listInto
       given-members t {gcc} g {r} {values′} {names′} stored =
           let found : (xs : List Listed) × (lists ≡ listed xs) × (e .members ≡ length xs) = members-listed (sym is ∙ p) in
           let xs : List Listed = found .0 in
-          subst (λ (x : EnumerationWhole). BothGiven (intoRooms (settings .producer) values names lists x) (read.Is e) values′ names′) (sym p ∙ is)
+          subst (λ (x : EnumerationWhole). BothGiven (enumerationInto (settings .producer) values names lists x) (read.Is e) values′ names′) (sym p ∙ is)
           (subst (λ (b : Bool). BothGiven (cond b (listInto (settings .producer) values names lists (read.Is e)) (outcomes (read.Room (e .members)) values names)) (read.Is e) values′ names′) (sym t)
           (subst (λ (l : Lists). BothGiven (listInto (settings .producer) values names l (read.Is e)) (read.Is e) values′ names′) (sym (found .1))
           (record {
@@ -580,9 +580,9 @@ module _ (settings : Settings) (s rows attrs : List ℕ) (n i : ℕ) where
 -- ---- the enumeration of a key
 
 module _ (settings : Settings) (vendors sizes s rows attrs : List ℕ) (counts : Counts) (key : ℕ) {told : Keyed}
-    (is : told ≡ inRow settings vendors sizes s rows attrs counts key keyed.Refused keyed.Row) (values : List ℤ) (names : List ℕ) where
+    (is : told ≡ inRowOfKey settings vendors sizes s rows attrs counts key keyed.Refused keyed.Row) (values : List ℤ) (names : List ℕ) where
   abbrev inRooms : ℕ → Outcomes EnumerationRead ℤ ℕ
-  inRooms i = intoRooms (settings .producer) values names (rowLists settings s rows attrs (counts .rows) i) (enumerationAt settings s rows attrs (counts .rows) i)
+  inRooms i = enumerationInto (settings .producer) values names (rowLists settings s rows attrs (counts .rows) i) (enumerationAt settings s rows attrs (counts .rows) i)
 
   abbrev nothing : Refusal → Outcomes EnumerationRead ℤ ℕ
   nothing why = record { answer = read.Refused why; first = values; second = names }
@@ -595,15 +595,15 @@ module _ (settings : Settings) (vendors sizes s rows attrs : List ℕ) (counts :
       }
 
   pub tag-there : {i : ℕ} {r : EnumerationRead} {values′ : List ℤ} {names′ : List ℕ} → told ≡ keyed.Row i
-      → BothGiven (intoRooms (settings .producer) values names (rowLists settings s rows attrs (counts .rows) i) (enumerationAt settings s rows attrs (counts .rows) i)) r values′ names′
-      → BothGiven (enumerationBy settings vendors sizes s rows attrs counts key values names) r values′ names′
-  unfolding enumerationBy
+      → BothGiven (enumerationInto (settings .producer) values names (rowLists settings s rows attrs (counts .rows) i) (enumerationAt settings s rows attrs (counts .rows) i)) r values′ names′
+      → BothGiven (processEnumerationTag settings vendors sizes s rows attrs counts key values names) r values′ names′
+  unfolding processEnumerationTag
   tag-there {r = r} {values′ = values′} {names′ = names′} p =
       subst (λ (o : Outcomes EnumerationRead ℤ ℕ). BothGiven o r values′ names′) (in-row settings vendors sizes s rows attrs counts key is nothing inRooms p)
 
   pub tag-refused : {why : Refusal} → told ≡ keyed.Refused why
-      → BothGiven (enumerationBy settings vendors sizes s rows attrs counts key values names) (read.Refused why) values names
-  unfolding enumerationBy
+      → BothGiven (processEnumerationTag settings vendors sizes s rows attrs counts key values names) (read.Refused why) values names
+  unfolding processEnumerationTag
   tag-refused {why} p =
       subst (λ (o : Outcomes EnumerationRead ℤ ℕ). BothGiven o (read.Refused why) values names) (no-row settings vendors sizes s rows attrs counts key is nothing inRooms p)
       (record { answer-is = refl; first-is = refl; second-is = refl })

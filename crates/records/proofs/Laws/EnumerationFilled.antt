@@ -15,13 +15,13 @@ use Rattle.format.specs.declared.settings.Settings.{Settings}
 use Rattle.format.specs.declared.settings.Producer.{Producer}
 use Rattle.format.specs.declared.refusal.Refusal.{Refusal}
 use Rattle.tables.specs.declared.row.Counts.{Counts}
-use Rattle.tables.specs.Keyed.{inRow}
+use Rattle.tables.specs.Keyed.{inRowOfKey}
 use Rattle.tables.proofs.Laws.Keyed.{in-row, no-row}
 use Rattle.tables.specs.declared.keyed.Keyed.{Keyed}
 use Rattle.tables.specs.declared.keyed.Keyed.the-variants as keyed
 use Rattle.records.specs.Elements.{Listed, valuesOf, namesOf}
 use Rattle.records.proofs.Laws.Elements.{reversed-length}
-use Rattle.records.specs.Enumeration.{Lists, listed, isGcc, reversed, inOrder, rowLists, enumerationAt, listInto, intoRooms, enumerationBy}
+use Rattle.records.specs.Enumeration.{Lists, listed, isGcc, reversed, inOrder, rowLists, enumerationAt, listInto, enumerationInto, processEnumerationTag}
 use Rattle.records.proofs.Laws.Enumeration.{members-listed}
 use Rattle.records.specs.declared.enumeration.Enumeration.{Enumeration}
 use Rattle.records.specs.declared.enumeration.EnumerationWhole.{EnumerationWhole}
@@ -63,7 +63,7 @@ module _ (settings : Settings) (vendors sizes s rows attrs : List ℕ) (counts :
     abbrev Says : Outcomes EnumerationRead ℤ ℕ → Type 0
     Says o = BothGiven o (read.Is e) values′ names′
 
-    module _ (i : ℕ) (row : inRow settings vendors sizes s rows attrs counts key keyed.Refused keyed.Row ≡ keyed.Row i) where
+    module _ (i : ℕ) (row : inRowOfKey settings vendors sizes s rows attrs counts key keyed.Refused keyed.Row ≡ keyed.Row i) where
       abbrev Result : Type 0
       Result = (xs : List Listed) × EnumerationFilled settings vendors sizes s rows attrs counts key values names e values′ names′ i xs
 
@@ -94,7 +94,7 @@ module _ (settings : Settings) (vendors sizes s rows attrs : List ℕ) (counts :
           )
 
       abbrev rooms : EnumerationWhole → Outcomes EnumerationRead ℤ ℕ
-      rooms w = intoRooms (settings .producer) values names (rowLists settings s rows attrs (counts .rows) i) w
+      rooms w = enumerationInto (settings .producer) values names (rowLists settings s rows attrs (counts .rows) i) w
 
       by-fit : (e′ : Enumeration) → enumerationAt settings s rows attrs (counts .rows) i ≡ whole.Is e′ → (b : Bool)
           → (leb (e′ .members) (length values) && leb (e′ .members) (length names / 2)) ≡ b
@@ -118,7 +118,7 @@ module _ (settings : Settings) (vendors sizes s rows attrs : List ℕ) (counts :
           absurd (omega arith)
 
       by-whole : (w : EnumerationWhole) → enumerationAt settings s rows attrs (counts .rows) i ≡ w → Says (rooms w) → Result
-      unfolding intoRooms
+      unfolding enumerationInto
       by-whole (whole.Is e′) p g = by-fit e′ p (leb (e′ .members) (length values) && leb (e′ .members) (length names / 2)) refl g
       by-whole (whole.Refused why) p g =
           let other : read.Is e ≡ read.Refused why = g .answer-is in
@@ -129,10 +129,10 @@ module _ (settings : Settings) (vendors sizes s rows attrs : List ℕ) (counts :
     nothing why = record { answer = read.Refused why; first = values; second = names }
 
     abbrev inRooms : ℕ → Outcomes EnumerationRead ℤ ℕ
-    inRooms i = intoRooms (settings .producer) values names (rowLists settings s rows attrs (counts .rows) i) (enumerationAt settings s rows attrs (counts .rows) i)
+    inRooms i = enumerationInto (settings .producer) values names (rowLists settings s rows attrs (counts .rows) i) (enumerationAt settings s rows attrs (counts .rows) i)
 
-    by-row : (told : Keyed) → told ≡ inRow settings vendors sizes s rows attrs counts key keyed.Refused keyed.Row
-        → Says (inRow settings vendors sizes s rows attrs counts key nothing inRooms) → (i : ℕ) × (xs : List Listed) × EnumerationFilled settings vendors sizes s rows attrs counts key values names e values′ names′ i xs
+    by-row : (told : Keyed) → told ≡ inRowOfKey settings vendors sizes s rows attrs counts key keyed.Refused keyed.Row
+        → Says (inRowOfKey settings vendors sizes s rows attrs counts key nothing inRooms) → (i : ℕ) × (xs : List Listed) × EnumerationFilled settings vendors sizes s rows attrs counts key values names e values′ names′ i xs
     by-row (keyed.Row i) is g =
         let told : Says (inRooms i) = subst Says (sym (in-row settings vendors sizes s rows attrs counts key is nothing inRooms refl)) g in
         let r : (xs : List Listed) × EnumerationFilled settings vendors sizes s rows attrs counts key values names e values′ names′ i xs = by-whole i (sym is) (enumerationAt settings s rows attrs (counts .rows) i) refl told in
@@ -143,7 +143,7 @@ module _ (settings : Settings) (vendors sizes s rows attrs : List ℕ) (counts :
         let z : _≡_ {A = ℕ} 0 1 = cc in
         absurd (omega arith)
 
-    pub enumeration-filled : BothGiven (enumerationBy settings vendors sizes s rows attrs counts key values names) (read.Is e) values′ names′
+    pub enumeration-filled : BothGiven (processEnumerationTag settings vendors sizes s rows attrs counts key values names) (read.Is e) values′ names′
         → (i : ℕ) × (xs : List Listed) × EnumerationFilled settings vendors sizes s rows attrs counts key values names e values′ names′ i xs
-    unfolding enumerationBy
-    enumeration-filled g = by-row (inRow settings vendors sizes s rows attrs counts key keyed.Refused keyed.Row) refl g
+    unfolding processEnumerationTag
+    enumeration-filled g = by-row (inRowOfKey settings vendors sizes s rows attrs counts key keyed.Refused keyed.Row) refl g

@@ -13,8 +13,8 @@ use Rattle.format.specs.declared.refusal.Refusal.{Refusal}
 use Rattle.format.specs.declared.refusal.Reason.the-variants as reason
 use Rattle.attributes.specs.Text.{zeroFrom}
 use Rattle.attributes.specs.Parts.{blockAt}
-use Rattle.blocks.specs.Location.{offsetOf, addressOf}
-use Rattle.blocks.specs.Types.{typeAt}
+use Rattle.blocks.specs.Location.{processOffset, processAddress}
+use Rattle.blocks.specs.Types.{processType}
 use Rattle.blocks.specs.declared.location.Located.{Located}
 use Rattle.blocks.specs.declared.location.Located.the-variants as located
 use Rattle.blocks.specs.declared.types.Typed.{Typed}
@@ -110,10 +110,10 @@ replaced-refused key p q = ap typed.Refused q ∙ ap (replaced key) (sym p)
 
 module _ (s attrs : List ℕ) (run : Run) {told : Found} where
   pub type-there : {k : ℕ} {a : Attribute} {t r : Typed} → told ≡ found.At k → a ≡ attributeAt attrs k
-      → t ≡ typeAt (run .ends) s (a .number) (a .value) → r ≡ replaced (run .key) t → r ≡ typeBy s attrs run told
+      → t ≡ processType (run .ends) s (a .number) (a .value) → r ≡ replaced (run .key) t → r ≡ typeBy s attrs run told
   unfolding typeBy
   type-there p q h g =
-      g ∙ ap (replaced (run .key)) (h ∙ ap (λ (x : Attribute). typeAt (run .ends) s (x .number) (x .value)) q) ∙ ap (typeBy s attrs run) (sym p)
+      g ∙ ap (replaced (run .key)) (h ∙ ap (λ (x : Attribute). processType (run .ends) s (x .number) (x .value)) q) ∙ ap (typeBy s attrs run) (sym p)
 
   pub type-none : {why : Refusal} → told ≡ found.Nothing → why ≡ refusedAt (run .key) reason.Missing → typed.Refused why ≡ typeBy s attrs run told
   unfolding typeBy
@@ -127,20 +127,20 @@ type-last s attrs run is h = h ∙ ap (typeBy s attrs run) is
 -- ---- locations
 
 module _ (run : Run) (block : List ℕ) {told : Located} where
-  pub offset-is : told ≡ offsetOf (run .ends .section) block → {x : ℕ} → told ≡ located.Is x → need.Is x ≡ offsetIn run block
+  pub offset-is : told ≡ processOffset (run .ends .section) block → {x : ℕ} → told ≡ located.Is x → need.Is x ≡ offsetIn run block
   unfolding offsetIn asOffset
   offset-is is p = ap (asOffset (run .key)) (sym p ∙ is)
 
-  pub offset-refused : told ≡ offsetOf (run .ends .section) block → {why why′ : Refusal} → told ≡ located.Refused why
+  pub offset-refused : told ≡ processOffset (run .ends .section) block → {why why′ : Refusal} → told ≡ located.Refused why
       → why′ ≡ refusedAt (run .key) (why .reason) → need.Refused why′ ≡ offsetIn run block
   unfolding offsetIn asOffset
   offset-refused is p q = ap need.Refused q ∙ ap (asOffset (run .key)) (sym p ∙ is)
 
-  pub address-is : told ≡ addressOf (run .ends .section) block → {x : ℕ} → told ≡ located.Is x → word.Is x ≡ addressIn run block
+  pub address-is : told ≡ processAddress (run .ends .section) block → {x : ℕ} → told ≡ located.Is x → word.Is x ≡ addressIn run block
   unfolding addressIn asAddress
   address-is is p = ap asAddress (sym p ∙ is)
 
-  pub address-refused : told ≡ addressOf (run .ends .section) block → {why : Refusal} → told ≡ located.Refused why → word.Nothing ≡ addressIn run block
+  pub address-refused : told ≡ processAddress (run .ends .section) block → {why : Refusal} → told ≡ located.Refused why → word.Nothing ≡ addressIn run block
   unfolding addressIn asAddress
   address-refused is p = ap asAddress (sym p ∙ is)
 

@@ -16,7 +16,7 @@ use Rattle.tables.specs.Check.{refusedAt}
 use Rattle.tables.specs.declared.row.Row.{Row}
 use Rattle.links.specs.Links.{childWalk, nonNull}
 use Rattle.links.specs.Inside.Kids.{rowsMet}
-use Rattle.links.specs.Inside.Children.{filled}
+use Rattle.links.specs.Inside.Children.{gatheredInto}
 use Rattle.links.proofs.Laws.Kids.{walk-kids, counted-walk, counted-kids, endless-walk}
 use Rattle.links.specs.declared.children.Kids.{Kids}
 use Rattle.links.specs.declared.children.Kids.the-variants.{Count, Endless}
@@ -85,7 +85,7 @@ module _ (settings : Settings) (s rows attrs : List ℕ) (which : Record) (i : �
 
 -- ---- no children
 
-module _ (e : Endian) (s rows attrs : List ℕ) (n i : ℕ) {told : Kids} (is : told ≡ filled rows 0 [] (childWalk e s rows attrs n i) .answer) where
+module _ (e : Endian) (s rows attrs : List ℕ) (n i : ℕ) {told : Kids} (is : told ≡ gatheredInto rows 0 [] (childWalk e s rows attrs n i) .answer) where
   module _ {k : ℕ} (p : told ≡ Count k) where
     count-met : k ≡ length (nonNull rows (rowsMet (childWalk e s rows attrs n i)))
     count-met = counted-kids e s rows attrs n i is p ∙ ap length (walk-kids e s rows attrs n i (counted-walk e s rows attrs n i is p))

@@ -5,7 +5,7 @@ use mathlib.Core.List.{List}
 use Rattle.format.specs.declared.settings.Settings.{Settings}
 use Rattle.format.specs.declared.refusal.Refusal.{Refusal}
 use Rattle.tables.specs.declared.row.Counts.{Counts}
-use Rattle.tables.specs.Keyed.{inRow}
+use Rattle.tables.specs.Keyed.{inRowOfKey}
 use Rattle.tables.proofs.Laws.Keyed.{in-row}
 use Rattle.tables.specs.declared.keyed.Keyed.{Keyed}
 use Rattle.tables.specs.declared.keyed.Keyed.the-variants as keyed
@@ -22,6 +22,6 @@ fields-clear refused fields is p q h = unless-clear is refused p (h ∙ ap field
 
 -- the row of the key was found: the answer is what is said there
 pub record-there : {A : Type 0} (settings : Settings) (vendors sizes s rows attrs : List ℕ) (counts : Counts) (key : ℕ) (refused : Refusal → A) (there : ℕ → A)
-    {told : Keyed} {i : ℕ} {r : A} → told ≡ inRow settings vendors sizes s rows attrs counts key keyed.Refused keyed.Row → told ≡ keyed.Row i → r ≡ there i
-    → r ≡ inRow settings vendors sizes s rows attrs counts key refused there
+    {told : Keyed} {i : ℕ} {r : A} → told ≡ inRowOfKey settings vendors sizes s rows attrs counts key keyed.Refused keyed.Row → told ≡ keyed.Row i → r ≡ there i
+    → r ≡ inRowOfKey settings vendors sizes s rows attrs counts key refused there
 record-there settings vendors sizes s rows attrs counts key refused there is p h = h ∙ in-row settings vendors sizes s rows attrs counts key is refused there p

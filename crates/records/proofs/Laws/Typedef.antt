@@ -30,7 +30,7 @@ use Rattle.tables.specs.declared.find.Found.the-variants as found
 use Rattle.links.specs.Links.{childWalk}
 use Rattle.links.specs.Inside.Links.{Rows}
 use Rattle.links.specs.Inside.Children.{Asked}
-use Rattle.tables.specs.Keyed.{inRow}
+use Rattle.tables.specs.Keyed.{inRowOfKey}
 use Rattle.tables.proofs.Laws.Keyed.{no-row}
 use Rattle.tables.specs.declared.keyed.Keyed.{Keyed}
 use Rattle.tables.specs.declared.keyed.Keyed.the-variants as keyed
@@ -44,7 +44,7 @@ use Rattle.records.proofs.Laws.Fields.{by-told}
 use Rattle.records.specs.Front.{kindFault, childlessFault, unless}
 use Rattle.records.proofs.Laws.Front.{unless-clear, unless-refused}
 use Rattle.records.proofs.Laws.Record.{fields-clear, record-there}
-use Rattle.records.specs.Typedef.{firstFilling, typedefName, typedefType, withType, typedefWith, withName, typedefFields, typedefEnd, specifiedRow, specifiedBy, specified, filledBy, readSpecified, attributesFrom, typedefRun, typedefAt, typedefOf}
+use Rattle.records.specs.Typedef.{firstFilling, typedefName, typedefType, withType, typedefWith, withName, typedefFields, typedefEnd, specifiedRow, specifiedBy, specified, filledBy, readSpecified, attributesFrom, typedefRun, typedefAt, processTypedefTag}
 use Rattle.records.specs.Inside.Typedef.{pauseAt, pauseBy, pauseFrom}
 use Rattle.records.specs.declared.taken.Record.the-variants as record′
 use Rattle.records.specs.declared.scan.Run.{Run}
@@ -476,12 +476,12 @@ module _ (settings : Settings) (s rows attrs : List ℕ) (n i : ℕ) {told : Fau
   kind-refused p = unless-refused is Refused _ p
 
 module _ (settings : Settings) (vendors sizes s rows attrs : List ℕ) (counts : Counts) (key : ℕ) {told : Keyed}
-    (is : told ≡ inRow settings vendors sizes s rows attrs counts key keyed.Refused keyed.Row) where
+    (is : told ≡ inRowOfKey settings vendors sizes s rows attrs counts key keyed.Refused keyed.Row) where
   pub typedef-there : {i : ℕ} {r : TypedefRead} → told ≡ keyed.Row i → r ≡ typedefAt settings s rows attrs (counts .rows) i
-      → r ≡ typedefOf settings vendors sizes s rows attrs counts key
-  unfolding typedefOf
+      → r ≡ processTypedefTag settings vendors sizes s rows attrs counts key
+  unfolding processTypedefTag
   typedef-there p h = record-there settings vendors sizes s rows attrs counts key Refused (typedefAt settings s rows attrs (counts .rows)) is p h
 
-  pub typedef-nowhere : {why : Refusal} → told ≡ keyed.Refused why → Refused why ≡ typedefOf settings vendors sizes s rows attrs counts key
-  unfolding typedefOf
+  pub typedef-nowhere : {why : Refusal} → told ≡ keyed.Refused why → Refused why ≡ processTypedefTag settings vendors sizes s rows attrs counts key
+  unfolding processTypedefTag
   typedef-nowhere p = no-row settings vendors sizes s rows attrs counts key is Refused (typedefAt settings s rows attrs (counts .rows)) p

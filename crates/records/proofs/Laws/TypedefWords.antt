@@ -10,7 +10,7 @@ use borrow.Author.Tests.{eqb-true}
 use Rattle.numbers.proofs.Laws.Tests.{cond-map}
 use Rattle.format.specs.AttributeKind as attribute
 use Rattle.format.specs.declared.settings.Settings.{Settings}
-use Rattle.blocks.specs.Types.{typeAt}
+use Rattle.blocks.specs.Types.{processType}
 use Rattle.blocks.specs.declared.types.Typed.{Typed}
 use Rattle.blocks.specs.declared.types.Typed.the-variants as typed
 use Rattle.tables.specs.declared.find.Found.{Found}
@@ -36,9 +36,9 @@ use Rattle.records.specs.declared.typedef.Filling.{Filling}
 use Rattle.records.specs.declared.typedef.Filling.the-variants as filling
 use Rattle.records.specs.declared.typedef.Specified.{Specified}
 use Rattle.records.specs.declared.typedef.Specified.the-variants as specified′
-use Rattle.records.specs.TypedefWords.{Held, Known, unknown, nameFilled, typeFilled, filled, overwritten, saidType, said, wordsEnd, wordsFilled, wordsFrom, wordsRun, nothing, holds}
+use Rattle.records.specs.TypedefWords.{Held, Known, unknown, nameFilled, typeFilled, filledIn, overwritten, saidType, said, wordsEnd, wordsFilled, wordsFrom, wordsRun, nothing, holds}
 
--- ---- what is known after j attributes: the last of a kind among them, or what the first specification filled in
+-- ---- what is known after j attributes: the last of a kind among them, or what the first specification filledIn in
 
 module _ (s attrs : List ℕ) (run : Run) where
   abbrev heldType : Found → Filling → Held
@@ -71,8 +71,8 @@ module _ (s attrs : List ℕ) (run : Run) where
   fills-type found.Nothing (filling.Is first) t = refl
   fills-type found.Nothing filling.Nothing t = refl
 
-  fills : (j : ℕ) (f : Filling) (t : Typedef) → filled (knownAt j f) t ≡ knownAt j (firstFilling f t)
-  unfolding filled
+  fills : (j : ℕ) (f : Filling) (t : Typedef) → filledIn (knownAt j f) t ≡ knownAt j (firstFilling f t)
+  unfolding filledIn
   fills j f t = ap₂ both (fills-name (nameBy s attrs (lastName j)) f t) (fills-type (lastType j) f t)
 
   -- an attribute that overwrites
@@ -89,7 +89,7 @@ module _ (s attrs : List ℕ) (run : Run) where
   unfolding overwritten special isType
   leaves a known t =
       ap (λ (x : ℕ). both (cond (eqb x attribute.Name) (name.Is (textOf s (a .value))) (known .name))
-      (cond (isType x) (holds (replaced (run .key) (typeAt (run .ends) s x (a .value)))) (known .of))) (eqb-true (a .number) attribute.Specification t)
+      (cond (isType x) (holds (replaced (run .key) (processType (run .ends) s x (a .value)))) (known .of))) (eqb-true (a .number) attribute.Specification t)
 
   -- the end
   ends-type : (text : Text) (own : Found) (f : Filling) → saidType (run .key) text (heldType own f) ≡ withType s attrs run text (typedefType s attrs run own f)

@@ -12,14 +12,14 @@ use Rattle.lent.proofs.Laws.Filled.{sets-filled}
 use Rattle.lent.specs.Outcome.{Outcome, Given}
 use Rattle.format.specs.declared.settings.Settings.{Settings}
 use Rattle.tables.specs.declared.row.Counts.{Counts}
-use Rattle.tables.specs.Keyed.{inRow}
+use Rattle.tables.specs.Keyed.{inRowOfKey}
 use Rattle.tables.proofs.Laws.Keyed.{in-row, no-row, keyed-key}
 use Rattle.links.proofs.Laws.Typed.{keyed-asked}
 use Rattle.tables.specs.declared.keyed.Keyed.{Keyed}
 use Rattle.tables.specs.declared.keyed.Keyed.the-variants as keyed
 use Rattle.records.specs.MemberWords.{memberWidth, memberWords}
 use Rattle.records.proofs.Laws.MemberWords.{words-wide}
-use Rattle.records.specs.Unions.{Placed, Members, members, refused, rowMembers, unionAt, membersWords, membersInto, intoRoom, unionBy}
+use Rattle.records.specs.Unions.{Placed, Members, members, membersRefused, rowMembers, unionAt, membersWords, membersInto, unionInto, processUnionTag}
 use Rattle.records.proofs.Laws.Unions.{AsMany, union-counts}
 use Rattle.records.specs.declared.unions.Union.{Union}
 use Rattle.records.specs.declared.unions.UnionWhole.{UnionWhole}
@@ -38,7 +38,7 @@ isUnion u (Room k) = ⊥
 into-answer : (room : List ℕ) (all : Members) (answer : UnionRead) → membersInto room all answer .answer ≡ answer
 unfolding membersInto
 into-answer room (members ms) answer = refl
-into-answer room (refused why) answer = refl
+into-answer room (membersRefused why) answer = refl
 
 module _ (room : List ℕ) (all : Members) where
   -- a union was read whole, and its members fit
@@ -56,8 +56,8 @@ module _ (room : List ℕ) (all : Members) where
       }
   fits-by v {u} false h p = absurd (subst (isUnion u) (sym p) refl)
 
-  fits : (w : UnionWhole) {u : Union} → intoRoom room all w .answer ≡ Is u → Fits w u
-  unfolding intoRoom
+  fits : (w : UnionWhole) {u : Union} → unionInto room all w .answer ≡ Is u → Fits w u
+  unfolding unionInto
   fits (whole.Is v) p = fits-by v (leb (v .members) (length room / memberWidth)) refl p
   fits (whole.Refused why) {u} p = absurd (subst (isUnion u) (sym p) refl)
 
@@ -78,17 +78,17 @@ module _ (room : List ℕ) {all : Members} {w : UnionWhole} {u : Union} (f : Fit
   long : length (membersWords (these .list)) ≡ u .members * memberWidth
   long = words-long (these .list) ∙ ap (λ (k : ℕ). k * memberWidth) (these .many)
 
-  filled-room : intoRoom room all w .room ≡ sets room 0 (membersWords (these .list))
-  unfolding intoRoom membersInto
+  filled-room : unionInto room all w .room ≡ sets room 0 (membersWords (these .list))
+  unfolding unionInto membersInto
   filled-room =
       let enough : u .members ≤ length room / memberWidth = f .room-enough in
-      ap₂ (λ (x : Members) (y : UnionWhole). intoRoom room x y .room) (these .are) (f .read)
+      ap₂ (λ (x : Members) (y : UnionWhole). unionInto room x y .room) (these .are) (f .read)
       ∙ ap (λ (b : Bool). cond b (membersInto room (members (these .list)) (Is u)) (record { answer = Room (u .members); room = room }) .room) (le-leb (u .members) (length room / memberWidth) enough)
 
 -- ---- the theorem
 
 module _ (settings : Settings) (vendors sizes s rows attrs : List ℕ) (counts : Counts) (key : ℕ) (room : List ℕ) {r : UnionRead} {room′ : List ℕ} {u : Union}
-    (g : Given (unionBy settings vendors sizes s rows attrs counts key room) r room′) (p : r ≡ Is u) where
+    (g : Given (processUnionTag settings vendors sizes s rows attrs counts key room) r room′) (p : r ≡ Is u) where
   abbrev all : ℕ → Members
   all i = rowMembers settings s rows attrs (counts .rows) i
 
@@ -98,13 +98,13 @@ module _ (settings : Settings) (vendors sizes s rows attrs : List ℕ) (counts :
   abbrev end : ℕ
   end = u .members * memberWidth
 
-  by-key : (told : Keyed) → told ≡ inRow settings vendors sizes s rows attrs counts key keyed.Refused keyed.Row
+  by-key : (told : Keyed) → told ≡ inRowOfKey settings vendors sizes s rows attrs counts key keyed.Refused keyed.Row
       → UnionFilled settings s rows attrs (counts .rows) key u room room′
-  unfolding unionBy
+  unfolding processUnionTag
   by-key (keyed.Row i) is =
-      let same : intoRoom room (all i) (union i) ≡ unionBy settings vendors sizes s rows attrs counts key room =
+      let same : unionInto room (all i) (union i) ≡ processUnionTag settings vendors sizes s rows attrs counts key room =
       in-row settings vendors sizes s rows attrs counts key is (λ why. record { answer = Refused why; room = room })
-      (λ j. intoRoom room (all j) (union j)) refl
+      (λ j. unionInto room (all j) (union j)) refl
       in
       let f : Fits room (all i) (union i) u =
       fits room (all i) (union i)
@@ -127,11 +127,11 @@ module _ (settings : Settings) (vendors sizes s rows attrs : List ℕ) (counts :
         filled = sets-filled (membersWords (these .list)) end room (long room f these) enough after;
       }
   by-key (keyed.Refused why) is =
-      let same : record { answer = Refused why; room = room } ≡ unionBy settings vendors sizes s rows attrs counts key room =
+      let same : record { answer = Refused why; room = room } ≡ processUnionTag settings vendors sizes s rows attrs counts key room =
       no-row settings vendors sizes s rows attrs counts key is (λ w. record { answer = Refused w; room = room })
-      (λ j. intoRoom room (all j) (union j)) refl
+      (λ j. unionInto room (all j) (union j)) refl
       in
       absurd (subst (isUnion u) (sym p ∙ g .answer-is ∙ sym (ap (λ (o : Outcome UnionRead ℕ). o .answer) same)) refl)
 
   pub union-filled : UnionFilled settings s rows attrs (counts .rows) key u room room′
-  union-filled = by-key (inRow settings vendors sizes s rows attrs counts key keyed.Refused keyed.Row) refl
+  union-filled = by-key (inRowOfKey settings vendors sizes s rows attrs counts key keyed.Refused keyed.Row) refl

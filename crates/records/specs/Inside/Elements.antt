@@ -9,7 +9,7 @@ use lib.IntN.{ℤ}
 use Rattle.format.specs.declared.refusal.Reason.the-variants as reason
 use Rattle.tables.specs.Check.{refusedAt}
 use Rattle.records.specs.Elements.{Listed, Elements, are, missing}
-use Rattle.records.specs.Enumeration.{Lists, listed, refused}
+use Rattle.records.specs.Enumeration.{Lists, listed, listsRefused}
 use Rattle.records.specs.declared.counted.Counted.{Counted}
 use Rattle.records.specs.declared.counted.Counted.the-variants as counted
 use Rattle.records.specs.declared.elements.Slots.{Slots}
@@ -32,7 +32,7 @@ abbrev pub listedAs : ℤ → ℕ → ℕ → Listed
 listedAs value place len = record { value = value; place = place; length = len }
 
 -- in its slot of the two rooms, as far as it fits
-pub record Stored (slot : ℕ) (x : Listed) (values values′ : List ℤ) (names names′ : List ℕ) : Type 0 where
+pub record ElementsStored (slot : ℕ) (x : Listed) (values values′ : List ℤ) (names names′ : List ℕ) : Type 0 where
   pub values-are : values′ ≡ sets values (slot * 1) (valueWords x)
   pub names-are : names′ ≡ sets names (slot * 2) (nameWords x)
 
@@ -59,17 +59,17 @@ pub record Addable (base width : ℕ) (block : List ℕ) (k : ℕ) : Type 0 wher
 -- what a list comes to; 17 at the row where bytes are missing
 unfoldable pub asLists : ℕ → Elements → Lists
 asLists key (are xs) = listed xs
-asLists key missing = refused (refusedAt key reason.Block)
+asLists key missing = listsRefused (refusedAt key reason.Block)
 
 -- so many elements, and what follows
-unfoldable pub before : List Listed → Lists → Lists
-before xs (listed ys) = listed (xs ++ ys)
-before xs (refused why) = refused why
+unfoldable pub elementsBefore : List Listed → Lists → Lists
+elementsBefore xs (listed ys) = listed (xs ++ ys)
+elementsBefore xs (listsRefused why) = listsRefused why
 
 -- how many there are after k others; or the refusal
 unfoldable pub countFrom : ℕ → Lists → Counted
 countFrom k (listed xs) = counted.Count (k + length xs)
-countFrom k (refused why) = counted.Refused why
+countFrom k (listsRefused why) = counted.Refused why
 
 -- lists from number k on in their slots; of the rooms something is said only where all were read
 pub record StoredFrom (lists : Lists) (slots : Slots) (k : ℕ) (r : Counted) (values values′ : List ℤ) (names names′ : List ℕ) : Type 0 where

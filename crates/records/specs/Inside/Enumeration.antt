@@ -10,8 +10,8 @@ use Rattle.links.specs.Inside.Children.{Asked}
 use Rattle.records.specs.Scan.{faultAt}
 use Rattle.records.specs.Front.{unless}
 use Rattle.records.specs.Elements.{Listed}
-use Rattle.records.specs.Inside.Elements.{asLists, before, storeValues, storeNames}
-use Rattle.records.specs.Enumeration.{Lists, listed, refused, listAt, listsFrom}
+use Rattle.records.specs.Inside.Elements.{asLists, elementsBefore, storeValues, storeNames}
+use Rattle.records.specs.Enumeration.{Lists, listed, listsRefused, listAt, listsFrom}
 use Rattle.records.specs.declared.taken.Record.the-variants as record′
 use Rattle.records.specs.declared.scan.Run.{Run}
 use Rattle.records.specs.declared.elements.Slots.{Slots}
@@ -21,7 +21,7 @@ use Rattle.records.specs.declared.enumeration.EnumerationWhole.the-varia
 use Rattle.records.specs.declared.enumeration.Step.{Step}
 use Rattle.records.specs.declared.enumeration.Step.the-variants as step
 
--- so many elements before attribute j that no count overflows
+-- so many elements elementsBefore attribute j that no count overflows
 pub record Countable (s : List ℕ) (j count : ℕ) : Type 0 where
   pub short : length s < sectionLimit
   pub few : count ≤ j * sectionLimit
@@ -41,7 +41,7 @@ pub record AskedShort (s rows : List ℕ) (n i : ℕ) : Type 0 where
 module _ (settings : Settings) (s attrs : List ℕ) (run : Run) where
   -- attribute j, a list
   unfoldable pub oneList : ℕ → Lists
-  oneList j = unless (faultAt (settings .roles) record′.Enumeration run s attrs j) refused (asLists (run .key) (listAt s attrs run j))
+  oneList j = unless (faultAt (settings .roles) record′.Enumeration run s attrs j) listsRefused (asLists (run .key) (listAt s attrs run j))
 
   -- the attributes from j on
   unfoldable pub restFrom : ℕ → Lists
@@ -52,7 +52,7 @@ module _ (settings : Settings) (s attrs : List ℕ) (run : Run) where
     pub added : List Listed
     pub forward : j < at
     pub inside : at ≤ run .count
-    pub left : restFrom j ≡ before added (restFrom at)
+    pub left : restFrom j ≡ elementsBefore added (restFrom at)
     pub counted : more ≡ count + length added
     pub few : more ≤ at * sectionLimit
     pub values-are : values′ ≡ storeValues slots count added values
@@ -61,10 +61,10 @@ module _ (settings : Settings) (s attrs : List ℕ) (run : Run) where
   -- what a step answers: it goes on, or the refusal is that of the whole
   abbrev pub Steps : Slots → ℕ → ℕ → Step → List ℤ → List ℤ → List ℕ → List ℕ → Type 0
   Steps slots j count (step.Next at more) values values′ names names′ = Advanced slots j count at more values values′ names names′
-  Steps slots j count (step.Refused why) values values′ names names′ = restFrom j ≡ refused why
+  Steps slots j count (step.Refused why) values values′ names names′ = restFrom j ≡ listsRefused why
 
 -- the whole enumeration
-pub record WholeStored (answer : EnumerationWhole) (lists : Lists) (slots : Slots) (r : EnumerationWhole) (values values′ : List ℤ) (names names′ : List ℕ) : Type 0 where
+pub record EnumerationStored (answer : EnumerationWhole) (lists : Lists) (slots : Slots) (r : EnumerationWhole) (values values′ : List ℤ) (names names′ : List ℕ) : Type 0 where
   pub answer-is : r ≡ answer
   pub values-are : (e : Enumeration) → answer ≡ whole.Is e → (xs : List Listed) → lists ≡ listed xs → values′ ≡ storeValues slots 0 xs values
   pub names-are : (e : Enumeration) → answer ≡ whole.Is e → (xs : List Listed) → lists ≡ listed xs → names′ ≡ storeNames slots 0 xs names

@@ -11,11 +11,11 @@ use Rattle.blocks.specs.declared.types.Type.{«Type»}
 use Rattle.tables.specs.Row.{rowAt}
 use Rattle.tables.specs.Check.{refusedAt}
 use Rattle.records.specs.Member.{memberAt}
-use Rattle.records.specs.Unions.{Placed, Members, members, refused, andMember, memberThen}
+use Rattle.records.specs.Unions.{Placed, Members, members, membersRefused, andMember, memberThen}
 use Rattle.records.specs.declared.member.Member.{Member}
 use Rattle.records.specs.declared.member.MemberRead.{MemberRead}
 use Rattle.records.specs.declared.member.MemberRead.the-variants as read
-use Rattle.sizes.specs.Size.{sizeLimit, sizeThen, childThen, membersFrom, sizeOr, memberSize, larger, endThen, endsFrom}
+use Rattle.sizes.specs.Size.{sizeLimit, sizeThen, memberChildThen, memberRowsFrom, sizeOr, memberSize, larger, endThen, endsFrom}
 use Rattle.sizes.specs.Inside.Size.{withSize, readAdded, grown, addedEnd, memberAdded, childEnd, endsOver}
 use Rattle.sizes.specs.declared.sized.Sized.{Sized}
 use Rattle.sizes.specs.declared.sized.Sized.the-variants.{Is, Refused}
@@ -23,11 +23,11 @@ use Rattle.sizes.specs.declared.sized.Sized.the-variants.{Is, Refused}
 -- what members say
 abbrev areThese : List Placed → Members → Type 0
 areThese ms (members xs) = ms ≡ xs
-areThese ms (refused why) = ⊥
+areThese ms (membersRefused why) = ⊥
 
 abbrev areRefused : Members → Type 0
 areRefused (members xs) = ⊥
-areRefused (refused why) = Unit
+areRefused (membersRefused why) = Unit
 
 module _ (f g : ℕ → Sized) (same : (x : ℕ) → f x ≡ g x) where
   -- an end, then what goes on from it
@@ -58,7 +58,7 @@ module _ (rows : List ℕ) (typeSize : «Type» → Sized) where
     and-then (members xs) ms same p =
         sized-then f (λ x. endsFrom rows typeSize x xs) (same xs refl) rows c largest (m .offset) (sizeOr typeSize (m .of) (m .«byte_size»))
         ∙ ap (endsFrom rows typeSize largest) (subst (areThese (record { row = c; member = m } ∷ xs)) p refl)
-    and-then (refused why) ms same p = absurd (subst areRefused p tt)
+    and-then (membersRefused why) ms same p = absurd (subst areRefused p tt)
 
   module _ (c largest : ℕ) (f : ℕ → Sized) (all : Members) (ms : List Placed) (same : (xs : List Placed) → all ≡ members xs → (x : ℕ) → f x ≡ endsFrom rows typeSize x xs) where
     read-then : (m : MemberRead) → memberThen c m all ≡ members ms
@@ -75,10 +75,10 @@ module _ (rows : List ℕ) (typeSize : «Type» → Sized) where
     child-then false m p = same ms p largest
 
 module _ (settings : Settings) (s rows attrs : List ℕ) (n : ℕ) (typeSize : «Type» → Sized) where
-  pub ends-members : (largest : ℕ) (cs : List ℕ) {ms : List Placed} → membersFrom settings s rows attrs n cs ≡ members ms
+  pub ends-members : (largest : ℕ) (cs : List ℕ) {ms : List Placed} → memberRowsFrom settings s rows attrs n cs ≡ members ms
       → endsOver settings s rows attrs n typeSize largest cs ≡ endsFrom rows typeSize largest ms
-  unfolding membersFrom childThen endsOver childEnd memberAdded endsFrom
+  unfolding memberRowsFrom memberChildThen endsOver childEnd memberAdded endsFrom
   ends-members largest [] p = ap (endsFrom rows typeSize largest) (subst (areThese []) p refl)
   ends-members largest (c ∷ cs) {ms} p =
-      child-then rows typeSize c largest (λ next. endsOver settings s rows attrs n typeSize next cs) (membersFrom settings s rows attrs n cs) ms
+      child-then rows typeSize c largest (λ next. endsOver settings s rows attrs n typeSize next cs) (memberRowsFrom settings s rows attrs n cs) ms
       (λ xs q x. ends-members x cs q) (eqb (rowAt rows c .kind) tag.Member) (memberAt settings s rows attrs n c) p

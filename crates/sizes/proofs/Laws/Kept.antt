@@ -35,7 +35,7 @@ use Rattle.records.specs.declared.member.MemberRead.the-variants as read
 use Rattle.sizes.specs.Size.{fundamentalSize, kindSize, typeSizeBy, sizeOr, foundSize, shapeOf}
 use Rattle.sizes.specs.Inside.Known.{knownAt}
 use Rattle.sizes.specs.Inside.Prepare.{readFault, memberFault, structureFault}
-use Rattle.sizes.specs.Inside.Size.{withSize, readAdded, memberAdded, knownFound, entryFrom, typeFrom}
+use Rattle.sizes.specs.Inside.Size.{withSize, readAdded, memberAdded, knownFound, entrySizeFrom, typeSizeFrom}
 use Rattle.sizes.specs.Size.{isStructure}
 use Rattle.sizes.specs.Inside.Kept.{rowNamed, sizeNamed, firstOf, secondOf, sizeKept, addedBy, addedKept, faultSize, sizeFault, faultKept, SiblingsKept, FaultsKept, AllKept, MemberAsked, StructureAsked}
 use Rattle.sizes.specs.declared.kept.Added.{Added}
@@ -157,8 +157,8 @@ module _ {settings : Settings} {sizes s rows attrs : List ℕ} {n : ℕ} {known 
   known-there : 0 < length known
   known-there = w .all-kept .paired c (w .asked .asked .there) h
 
-  entry-known : (levels : ℕ) → entryKnown sizes rows n known ≡ entryFrom settings sizes s rows attrs n known levels
-  unfolding entryFrom
+  entry-known : (levels : ℕ) → entryKnown sizes rows n known ≡ entrySizeFrom settings sizes s rows attrs n known levels
+  unfolding entrySizeFrom
   entry-known levels =
       let some : 0 < length known = known-there in
       let test : eqb (length known) 0 ≡ false = ne-eqb (length known) 0 (λ z. omega (arith, z)) in
@@ -166,8 +166,8 @@ module _ {settings : Settings} {sizes s rows attrs : List ℕ} {n : ℕ} {known 
 
   -- the member that is kept is the member at row c
   pub member-kept : (levels : ℕ) {r : Added} → r ≡ addedKept known kept c
-      → r ≡ memberAdded settings s rows attrs n (typeFrom settings sizes s rows attrs n known levels) c
-  unfolding addedKept memberAdded typeFrom
+      → r ≡ memberAdded settings s rows attrs n (typeSizeFrom settings sizes s rows attrs n known levels) c
+  unfolding addedKept memberAdded typeSizeFrom
   member-kept levels p =
       p
       ∙ ap (λ (x : Sized). addedBy known x (knownAt kept (c * 3 + 1))) (w .all-kept .parts .rows-kept .faults .first c (w .asked .asked .there) h (w .is-member))

@@ -26,7 +26,7 @@ use Rattle.links.specs.Walk.{Walk, ends, endless}
 use Rattle.links.specs.Links.{childWalk, nonNull}
 use Rattle.links.specs.Inside.Kids.{kidsOf}
 use Rattle.links.proofs.Laws.Kids.{walk-kids, counted-walk, endless-walk}
-use Rattle.links.specs.Inside.Children.{filled}
+use Rattle.links.specs.Inside.Children.{gatheredInto}
 use Rattle.links.specs.declared.children.Kids.{Kids}
 use Rattle.links.specs.declared.children.Kids.the-variants as kids
 use Rattle.records.proofs.Laws.Taken.{by-case, test-passed, test-failed}
@@ -36,7 +36,7 @@ use Rattle.records.specs.Fields.{isSought, lastFrom, lastOf, wordOf}
 use Rattle.records.specs.Front.{unless}
 use Rattle.records.proofs.Laws.Front.{or-else-clear, or-else-refused, unless-clear, unless-refused}
 use Rattle.records.specs.Member.{memberAt}
-use Rattle.records.specs.Unions.{Placed, Members, members, refused, andMember, memberThen, unionAt}
+use Rattle.records.specs.Unions.{Placed, Members, members, membersRefused, andMember, memberThen, unionAt}
 use Rattle.records.specs.Enumeration.{enumerationAt}
 use Rattle.records.specs.PtrToMember.{ptrAt}
 use Rattle.records.specs.declared.scan.Run.{Run}
@@ -58,7 +58,7 @@ use Rattle.records.specs.declared.unions.UnionWhole.the-variants as union
 use Rattle.records.specs.declared.ptr_to_member.PtrToMember.{PtrToMember}
 use Rattle.records.specs.declared.ptr_to_member.PtrToMemberRead.{PtrToMemberRead}
 use Rattle.records.specs.declared.ptr_to_member.PtrToMemberRead.the-variants as pointer
-use Rattle.sizes.specs.Size.{countedSize, countedFault, subscriptBlock, subscriptFault, lastSize, arraySize, childThen, membersFrom, membersBy, membersOf, sizeOrEnds, membersSize, enumerationSize, unionSize, pointerSize, shapeOf, shapeSize, rowSize}
+use Rattle.sizes.specs.Size.{countedSize, countedFault, subscriptBlock, subscriptFault, lastSize, arraySize, memberChildThen, memberRowsFrom, memberRowsBy, membersOf, sizeOrEnds, membersSize, enumerationSize, unionSize, pointerSize, shapeOf, shapeSize, rowSize}
 use Rattle.sizes.specs.Inside.Prepare.{countedPrepared, preparedLast, lastPrepared, preparedArray, readFault, memberFault, membersFault, walkFault, structureFault, sizePrepared, preparedStructure, preparedEnumeration, preparedUnion, preparedPointer, preparedShape, preparedRow, finished}
 use Rattle.sizes.specs.declared.prepare.Shape.{Shape}
 use Rattle.sizes.specs.declared.prepare.Shape.the-variants as shape
@@ -222,7 +222,7 @@ module _ (settings : Settings) (s rows attrs : List ℕ) (n : ℕ) where
     unfolding membersFault
     members-refused p cs = or-else-refused is _ p
 
-  module _ (i : ℕ) {told : Kids} (is : told ≡ filled rows 0 [] (childWalk (settings .endian) s rows attrs n i) .answer) where
+  module _ (i : ℕ) {told : Kids} (is : told ≡ gatheredInto rows 0 [] (childWalk (settings .endian) s rows attrs n i) .answer) where
     pub structure-walked : {k : ℕ} {r : Fault} → told ≡ kids.Count k → r ≡ membersFault settings s rows attrs n (kidsOf (settings .endian) s rows attrs n i)
         → r ≡ structureFault settings s rows attrs n i
     unfolding structureFault walkFault
@@ -306,7 +306,7 @@ module _ (settings : Settings) (s rows attrs : List ℕ) (n i : ℕ) {row : Row}
 
 abbrev faultOf : Members → Fault
 faultOf (members ms) = fault.Clear
-faultOf (refused why) = fault.Refused why
+faultOf (membersRefused why) = fault.Refused why
 
 -- what each answer says
 abbrev isRefusal : Refusal → Fault → Type 0
@@ -325,7 +325,7 @@ pub record AllRead (all : Members) : Type 0 where
 and-fault : (c : ℕ) (m : Member) (rest : Members) → faultOf rest ≡ faultOf (andMember c m rest)
 unfolding andMember
 and-fault c m (members ms) = refl
-and-fault c m (refused why) = refl
+and-fault c m (membersRefused why) = refl
 
 read-fault : (c : ℕ) (m : MemberRead) (rest : Members) → orElse (readFault m) (faultOf rest) ≡ faultOf (memberThen c m rest)
 unfolding orElse readFault memberThen
@@ -340,22 +340,22 @@ child-fault false c m rest = refl
 
 clear-read : (all : Members) → faultOf all ≡ fault.Clear → AllRead all
 clear-read (members ms) p = record { list = ms; are = refl }
-clear-read (refused why) p = absurd (subst isClear (sym p) tt)
+clear-read (membersRefused why) p = absurd (subst isClear (sym p) tt)
 
-fault-refused : (all : Members) {why : Refusal} → faultOf all ≡ fault.Refused why → all ≡ refused why
+fault-refused : (all : Members) {why : Refusal} → faultOf all ≡ fault.Refused why → all ≡ membersRefused why
 fault-refused (members ms) {why} p = absurd (subst isClear p tt)
-fault-refused (refused w) {why} p = ap refused (subst (isRefusal w) p refl)
+fault-refused (membersRefused w) {why} p = ap membersRefused (subst (isRefusal w) p refl)
 
 module _ (settings : Settings) (s rows attrs : List ℕ) (n : ℕ) where
-  children-fault : (cs : List ℕ) → membersFault settings s rows attrs n cs ≡ faultOf (membersFrom settings s rows attrs n cs)
-  unfolding membersFault memberFault membersFrom childThen
+  children-fault : (cs : List ℕ) → membersFault settings s rows attrs n cs ≡ faultOf (memberRowsFrom settings s rows attrs n cs)
+  unfolding membersFault memberFault memberRowsFrom memberChildThen
   children-fault [] = refl
   children-fault (c ∷ cs) =
       ap (orElse (memberFault settings s rows attrs n c)) (children-fault cs)
-      ∙ child-fault (eqb (rowAt rows c .kind) tag.Member) c (memberAt settings s rows attrs n c) (membersFrom settings s rows attrs n cs)
+      ∙ child-fault (eqb (rowAt rows c .kind) tag.Member) c (memberAt settings s rows attrs n c) (memberRowsFrom settings s rows attrs n cs)
 
-  walk-fault : (i : ℕ) (w : Walk) → walkFault settings s rows attrs n i w ≡ faultOf (membersBy settings s rows attrs n (rowAt rows i .key) w)
-  unfolding walkFault membersBy
+  walk-fault : (i : ℕ) (w : Walk) → walkFault settings s rows attrs n i w ≡ faultOf (memberRowsBy settings s rows attrs n (rowAt rows i .key) w)
+  unfolding walkFault memberRowsBy
   walk-fault i (ends cs) = children-fault (nonNull rows cs)
   walk-fault i endless = refl
 
@@ -367,8 +367,8 @@ module _ (settings : Settings) (s rows attrs : List ℕ) (n : ℕ) where
   pub fault-members : (i : ℕ) → structureFault settings s rows attrs n i ≡ fault.Clear → AllRead (membersOf settings s rows attrs n i)
   fault-members i p = clear-read (membersOf settings s rows attrs n i) (sym (same-fault i) ∙ p)
 
-  -- a fault: they are refused for it
-  pub refused-members : (i : ℕ) {why : Refusal} → structureFault settings s rows attrs n i ≡ fault.Refused why → membersOf settings s rows attrs n i ≡ refused why
+  -- a fault: they are membersRefused for it
+  pub refused-members : (i : ℕ) {why : Refusal} → structureFault settings s rows attrs n i ≡ fault.Refused why → membersOf settings s rows attrs n i ≡ membersRefused why
   refused-members i p = fault-refused (membersOf settings s rows attrs n i) (sym (same-fault i) ∙ p)
 
 -- ---- what was prepared, with the sizes of types
@@ -402,7 +402,7 @@ module _ (settings : Settings) (s rows attrs : List ℕ) (n : ℕ) (typeSize : �
   unfolding finished unless sizePrepared membersSize sizeOrEnds
   members-finished (members ms) (word.Is x) p = refl
   members-finished (members ms) word.Nothing p = ap (membersSize rows typeSize word.Nothing) p
-  members-finished (refused why) w p = refl
+  members-finished (membersRefused why) w p = refl
 
   structure-finished : finish (preparedStructure settings s rows attrs n i)
       ≡ membersSize rows typeSize (wordOf s attrs run attribute.ByteSize) (membersOf settings s rows attrs n i)

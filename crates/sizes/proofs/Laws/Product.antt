@@ -14,8 +14,8 @@ use Rattle.numbers.proofs.Laws.Tests.{cond-map}
 use Rattle.numbers.specs.declared.Endian.{Endian}
 use Rattle.format.specs.declared.refusal.Refusal.{Refusal}
 use Rattle.format.specs.declared.refusal.Reason.the-variants as reason
-use Rattle.blocks.specs.Subscript.{subscriptOf}
-use Rattle.blocks.specs.Subscript.{Takes}
+use Rattle.blocks.specs.Subscript.{nextSubscript}
+use Rattle.blocks.specs.Subscript.{UsesInside}
 use Rattle.blocks.proofs.Laws.Subscript.{used-inside}
 use Rattle.blocks.specs.declared.types.Type.{«Type»}
 use Rattle.blocks.specs.declared.subscript.Subscript.{Subscript}
@@ -58,7 +58,7 @@ module _ (e : Endian) (key size : ℕ) (block : List ℕ) where
 
   -- before it, one subscript and then the rest
   one-turn : (turns : ℕ) → 0 < length block → length block ≤ turns
-      → productFrom e key turns size block ≡ subscriptThen e key (λ used product. productFrom e key (turns - 1) product (drop used block)) size (subscriptOf e block)
+      → productFrom e key turns size block ≡ subscriptThen e key (λ used product. productFrom e key (turns - 1) product (drop used block)) size (nextSubscript e block)
   unfolding productFrom
   one-turn zero h k = absurd (omega arith)
   one-turn (suc turns) h k =
@@ -80,7 +80,7 @@ module _ {e : Endian} {key : ℕ} {block : List ℕ} {element : ℕ} {rest : Lis
   pub product-done : length rest ≤ 0 → Is size ≡ productOf e key block element
   product-done h = sym (at-end e key size rest (l .turns) (omega arith)) ∙ l .left
 
-  module _ (more : 0 < length rest) {told : Subscript} (is : told ≡ subscriptOf e rest) where
+  module _ (more : 0 < length rest) {told : Subscript} (is : told ≡ nextSubscript e rest) where
     -- the rest as a part that is handed on
     abbrev after : ℕ → List ℕ
     after used = take (length rest - used) (drop used rest)
@@ -94,7 +94,7 @@ module _ {e : Endian} {key : ℕ} {block : List ℕ} {element : ℕ} {rest : Lis
     turned : {r : Subscript} → told ≡ r → subscriptThen e key goesOn size r ≡ productOf e key block element
     turned p = sym (one-turn e key size rest (l .turns) more (l .enough) ∙ ap (subscriptThen e key goesOn size) (sym is ∙ p)) ∙ l .left
 
-    inside : {r : Subscript} → told ≡ r → Takes rest r
+    inside : {r : Subscript} → told ≡ r → UsesInside rest r
     inside p = used-inside e rest (sym is ∙ p)
 
     shorter : {used : ℕ} → (1 ≤ used) × (used ≤ length rest) → length (drop used rest) < length rest

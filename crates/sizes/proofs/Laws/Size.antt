@@ -27,7 +27,7 @@ use Rattle.tables.proofs.Laws.Find.{row-found}
 use Rattle.tables.specs.Check.{refusedAt, Tells}
 use Rattle.tables.proofs.Laws.Check.{passed-answer, passed-checked, passed-short}
 use Rattle.tables.proofs.Laws.Checked.{checked-rising, checked-rows-few}
-use Rattle.tables.specs.Test.{Checked}
+use Rattle.tables.specs.Test.{TableHolds}
 use Rattle.tables.specs.declared.row.Row.{Row}
 use Rattle.tables.specs.declared.row.Counts.{Counts}
 use Rattle.tables.specs.declared.check.Check.{Check}
@@ -64,9 +64,9 @@ use Rattle.records.specs.declared.ptr_to_member.PtrToMemberRead.the-variants as
 use Rattle.sizes.specs.Inside.Prepare.{countedPrepared, preparedLast, lastPrepared, preparedArray, walkFault, structureFault, sizePrepared, preparedStructure, preparedEnumeration, preparedUnion, preparedPointer, preparedShape, preparedRow, finished}
 use Rattle.sizes.proofs.Laws.Prepare.{AllRead, fault-members, prepared-size}
 use Rattle.sizes.proofs.Laws.Ends.{ends-members}
-use Rattle.sizes.specs.Size.{sizeLimit, shapeOf, subscriptFault, membersFrom, membersBy, membersOf, sizeOrEnds, membersSize, sizeOr, typeSizeBy, kindSize, fundamentalSize, sizeThen, productOf, subscriptBlock, larger, endThen, rowSize, foundSize, entrySize, typeSize, sizeOfKey, sizeOfType}
+use Rattle.sizes.specs.Size.{sizeLimit, shapeOf, subscriptFault, memberRowsFrom, memberRowsBy, membersOf, sizeOrEnds, membersSize, sizeOr, typeSizeBy, kindSize, fundamentalSize, sizeThen, productOf, subscriptBlock, larger, endThen, rowSize, foundSize, entrySize, typeSize, sizeOfKey, sizeOfType}
 use Rattle.sizes.specs.Inside.Known.{knownAt}
-use Rattle.sizes.specs.Inside.Size.{Ready, EndsShort, withSize, readAdded, grown, addedEnd, memberAdded, childEnd, endsOver, arrayProduct, knownFound, entryFrom, typeFrom}
+use Rattle.sizes.specs.Inside.Size.{TableReady, EndsShort, withSize, readAdded, grown, addedEnd, memberAdded, childEnd, endsOver, arrayProduct, knownFound, entrySizeFrom, typeSizeFrom}
 use Rattle.sizes.specs.declared.prepare.Shape.{Shape}
 use Rattle.sizes.specs.declared.prepare.Shape.the-variants as shape
 use Rattle.sizes.specs.declared.prepare.Prepared.{Prepared}
@@ -247,8 +247,8 @@ module _ (settings : Settings) (s rows attrs : List ℕ) (n i : ℕ) where
   walk-ending endless p = absurd (subst isClear (sym p) tt)
 
   -- where the walk ends, the members are those among the children
-  pub walk-members : (key : ℕ) (w : Walk) → isEnding w ≡ true → membersFrom settings s rows attrs n (nonNull rows (rowsMet w)) ≡ membersBy settings s rows attrs n key w
-  unfolding isEnding rowsMet membersBy
+  pub walk-members : (key : ℕ) (w : Walk) → isEnding w ≡ true → memberRowsFrom settings s rows attrs n (nonNull rows (rowsMet w)) ≡ memberRowsBy settings s rows attrs n key w
+  unfolding isEnding rowsMet memberRowsBy
   walk-members key (ends cs) p = refl
   walk-members key endless p = absurd (true≢false (sym p))
 
@@ -262,7 +262,7 @@ module _ (settings : Settings) (s rows attrs : List ℕ) (n i : ℕ) where
       unfolding structureFault
       row-ending = walk-ending (childWalk (settings .endian) s rows attrs n i) row-clear
 
-      row-members : membersFrom settings s rows attrs n (kidsOf (settings .endian) s rows attrs n i) ≡ membersOf settings s rows attrs n i
+      row-members : memberRowsFrom settings s rows attrs n (kidsOf (settings .endian) s rows attrs n i) ≡ membersOf settings s rows attrs n i
       unfolding kidsOf kidsFrom walkOn childWalk membersOf
       row-members = walk-members (rowAt rows i .key) (childWalk (settings .endian) s rows attrs n i) row-ending
 
@@ -322,33 +322,33 @@ module _ (settings : Settings) (sizes s rows attrs : List ℕ) (n : ℕ) where
   entry-none (suc levels) key p = entry-more levels key p
 
   -- no sizes are known
-  pub entry-plain : (levels key : ℕ) → entryFrom settings sizes s rows attrs n [] levels key ≡ entrySize settings sizes s rows attrs n levels key
-  unfolding entryFrom
+  pub entry-plain : (levels key : ℕ) → entrySizeFrom settings sizes s rows attrs n [] levels key ≡ entrySize settings sizes s rows attrs n levels key
+  unfolding entrySizeFrom
   entry-plain levels key = refl
 
-  pub type-plain : (levels : ℕ) (t : «Type») → typeFrom settings sizes s rows attrs n [] levels t ≡ typeSize settings sizes s rows attrs n levels t
-  unfolding typeFrom typeSize entryFrom
+  pub type-plain : (levels : ℕ) (t : «Type») → typeSizeFrom settings sizes s rows attrs n [] levels t ≡ typeSize settings sizes s rows attrs n levels t
+  unfolding typeSizeFrom typeSize entrySizeFrom
   type-plain levels t = refl
 
   -- the same of any table of known sizes that is empty, for an entry that asks for types
   plain-entry : (known : List ℕ) (levels i : ℕ) → eqb (length known) 0 ≡ true
-      → rowSize settings s rows attrs n (typeFrom settings sizes s rows attrs n known levels) i
+      → rowSize settings s rows attrs n (typeSizeFrom settings sizes s rows attrs n known levels) i
       ≡ rowSize settings s rows attrs n (typeSize settings sizes s rows attrs n levels) i
-  unfolding typeFrom typeSize entryFrom
+  unfolding typeSizeFrom typeSize entrySizeFrom
   plain-entry known levels i h =
       ap (λ (b : Bool). rowSize settings s rows attrs n
       (typeSizeBy sizes (λ key. cond b (entrySize settings sizes s rows attrs n levels key) (knownFound known key (rowOfKey rows n key)))) i) h
 
   module _ (known : List ℕ) (levels key : ℕ) {f : Found} (is : f ≡ rowOfKey rows n key) where
-    pub entry-known : {i : ℕ} {r : Sized} → f ≡ found.At i → 0 < length known → r ≡ knownAt known i → r ≡ entryFrom settings sizes s rows attrs n known levels key
-    unfolding entryFrom knownFound
+    pub entry-known : {i : ℕ} {r : Sized} → f ≡ found.At i → 0 < length known → r ≡ knownAt known i → r ≡ entrySizeFrom settings sizes s rows attrs n known levels key
+    unfolding entrySizeFrom knownFound
     entry-known p h q =
         let test : eqb (length known) 0 ≡ false = ne-eqb (length known) 0 (λ z. omega (arith, z)) in
         q ∙ ap (knownFound known key) (sym p ∙ is) ∙ sym (rw test)
 
     pub entry-missing : {why : Refusal} → f ≡ found.Nothing → why ≡ refusedAt key reason.Entry
-        → Refused why ≡ entryFrom settings sizes s rows attrs n known levels key
-    unfolding entryFrom knownFound foundSize
+        → Refused why ≡ entrySizeFrom settings sizes s rows attrs n known levels key
+    unfolding entrySizeFrom knownFound foundSize
     entry-missing {why} p q =
         cond-all (λ (x : Sized). Refused why ≡ x) (eqb (length known) 0) (λ t. ap Refused q ∙ sym (entry-none levels key (sym is ∙ p)))
         (λ t. ap Refused q ∙ ap (knownFound known key) (sym p ∙ is))
@@ -357,18 +357,18 @@ module _ (settings : Settings) (sizes s rows attrs : List ℕ) (n : ℕ) where
       none-known : eqb (length known) 0 ≡ true
       none-known = eq-eqb (length known) 0 (omega arith)
 
-      entry-left : entrySize settings sizes s rows attrs n levels key ≡ entryFrom settings sizes s rows attrs n known levels key
-      unfolding entryFrom
+      entry-left : entrySize settings sizes s rows attrs n levels key ≡ entrySizeFrom settings sizes s rows attrs n known levels key
+      unfolding entrySizeFrom
       entry-left = sym (rw none-known)
 
-      pub entry-deep : levels ≡ 0 → {why : Refusal} → why ≡ refusedAt key reason.Depth → Refused why ≡ entryFrom settings sizes s rows attrs n known levels key
+      pub entry-deep : levels ≡ 0 → {why : Refusal} → why ≡ refusedAt key reason.Depth → Refused why ≡ entrySizeFrom settings sizes s rows attrs n known levels key
       unfolding foundSize
       entry-deep z q =
           ap Refused q ∙ sym (entry-zero key (sym is ∙ p)) ∙ ap (λ (l : ℕ). entrySize settings sizes s rows attrs n l key) (sym z) ∙ entry-left
 
       pub entry-row : (levels ≡ 0 → ⊥) → {r : Sized}
-          → r ≡ rowSize settings s rows attrs n (typeFrom settings sizes s rows attrs n known (levels - 1)) i
-          → r ≡ entryFrom settings sizes s rows attrs n known levels key
+          → r ≡ rowSize settings s rows attrs n (typeSizeFrom settings sizes s rows attrs n known (levels - 1)) i
+          → r ≡ entrySizeFrom settings sizes s rows attrs n known levels key
       unfolding foundSize
       entry-row z q =
           let one : suc (levels - 1) ≡ levels = omega (arith, z) in
@@ -407,7 +407,7 @@ module _ (sizes : List ℕ) (entry : ℕ → Sized) (t : «Type») where
     type-user p q = q ∙ ap (kindSize sizes entry) (sym p) ∙ type-kind
 
 -- a row that was found, of a table that was tested
-pub found-asked : {s rows : List ℕ} {n : ℕ} → Ready s rows n → (key : ℕ) {f : Found} → f ≡ rowOfKey rows n key → {i : ℕ} → f ≡ found.At i → AskedShort s rows n i
+pub found-asked : {s rows : List ℕ} {n : ℕ} → TableReady s rows n → (key : ℕ) {f : Found} → f ≡ rowOfKey rows n key → {i : ℕ} → f ≡ found.At i → AskedShort s rows n i
 found-asked {rows = rows} {n = n} w key is p =
     record { asked = record { table = w .table; there = row-found rows n key (sym is ∙ p) .0 }; short = w .short }
 
@@ -415,17 +415,17 @@ found-asked {rows = rows} {n = n} w key is p =
 
 module _ {settings : Settings} {vendors sizes s rows attrs : List ℕ} {counts : Counts} {told : Check} (is : Tells settings vendors sizes s rows attrs counts told)
     (p : told ≡ check.Passed) where
-  pub ready : Ready s rows (counts .rows)
+  pub ready : TableReady s rows (counts .rows)
   ready =
-      let c : Checked s vendors rows attrs counts = passed-checked is p in
+      let c : TableHolds s vendors rows attrs counts = passed-checked is p in
       record { table = record { rising = checked-rising c; few = checked-rows-few c }; short = passed-short is p }
 
-  pub key-sized : (key : ℕ) {r : Sized} → r ≡ entryFrom settings sizes s rows attrs (counts .rows) [] depthLimit key
+  pub key-sized : (key : ℕ) {r : Sized} → r ≡ entrySizeFrom settings sizes s rows attrs (counts .rows) [] depthLimit key
       → r ≡ sizeOfKey settings vendors sizes s rows attrs counts key
   unfolding sizeOfKey
   key-sized key q = q ∙ entry-plain settings sizes s rows attrs (counts .rows) depthLimit key ∙ passed-answer Refused _ is p
 
-  pub type-sized : (t : «Type») {r : Sized} → r ≡ typeFrom settings sizes s rows attrs (counts .rows) [] depthLimit t
+  pub type-sized : (t : «Type») {r : Sized} → r ≡ typeSizeFrom settings sizes s rows attrs (counts .rows) [] depthLimit t
       → r ≡ sizeOfType settings vendors sizes s rows attrs counts t
   unfolding sizeOfType
   type-sized t q = q ∙ type-plain settings sizes s rows attrs (counts .rows) depthLimit t ∙ passed-answer Refused _ is p

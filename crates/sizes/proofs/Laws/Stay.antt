@@ -1,4 +1,4 @@
--- A size that is not refused for its depth stays with every level above: what an entry's size asks for stays, so it stays.
+-- A size that is not membersRefused for its depth stays with every level above: what an entry's size asks for stays, so it stays.
 use Prim.Native.Nat.{ℕ, zero, suc, _+_}
 use mathlib.Core.Path.{_≡_, refl, ap, _∙_}
 use mathlib.Core.Bool.{Bool, true, false, cond}
@@ -22,7 +22,7 @@ use Rattle.tables.specs.declared.find.Found.the-variants as found
 use Rattle.records.specs.Scan.{runOf, faultsFrom}
 use Rattle.records.specs.Fields.{lastOf, wordOf}
 use Rattle.records.specs.Front.{unless}
-use Rattle.records.specs.Unions.{Placed, Members, members, refused}
+use Rattle.records.specs.Unions.{Placed, Members, members, membersRefused}
 use Rattle.records.specs.declared.scan.Run.{Run}
 use Rattle.records.specs.declared.scan.Fault.{Fault}
 use Rattle.records.specs.declared.scan.Fault.the-variants as fault
@@ -70,7 +70,7 @@ module _ (f g : «Type» → Sized) (stays : (t : «Type») → Settled (f t) �
   unfolding membersSize sizeOrEnds
   members-stay rows (word.Is size) (members ms) s = refl
   members-stay rows word.Nothing (members ms) s = ends-stay rows 0 ms s
-  members-stay rows w (refused why) s = refl
+  members-stay rows w (membersRefused why) s = refl
 
   module _ (s attrs : List ℕ) (run : Run) where
     counted-stays : (block : List ℕ) (c : Counted) → Settled (countedSize (run .ends .section) (run .key) f block c)

@@ -28,7 +28,7 @@ use Rattle.sizes.specs.declared.sized.Sized.{Sized}
 use Rattle.sizes.specs.declared.sized.Sized.the-variants.{Is, Refused}
 
 -- a table that was tested
-pub record Ready (s rows : List ℕ) (n : ℕ) : Type 0 where
+pub record TableReady (s rows : List ℕ) (n : ℕ) : Type 0 where
   pub table : Rows rows n
   pub short : length s < sectionLimit
 
@@ -82,8 +82,8 @@ knownFound known key found.Nothing = Refused (refusedAt key reason.Entry)
 
 module _ (settings : Settings) (sizes s rows attrs : List ℕ) (n : ℕ) (known : List ℕ) (levels : ℕ) where
   -- the size of an entry: from the known ones if there are any, else with so many levels left
-  unfoldable pub entryFrom : ℕ → Sized
-  entryFrom key = cond (eqb (length known) 0) (entrySize settings sizes s rows attrs n levels key) (knownFound known key (rowOfKey rows n key))
+  unfoldable pub entrySizeFrom : ℕ → Sized
+  entrySizeFrom key = cond (eqb (length known) 0) (entrySize settings sizes s rows attrs n levels key) (knownFound known key (rowOfKey rows n key))
 
-  unfoldable pub typeFrom : «Type» → Sized
-  typeFrom t = typeSizeBy sizes entryFrom t
+  unfoldable pub typeSizeFrom : «Type» → Sized
+  typeSizeFrom t = typeSizeBy sizes entrySizeFrom t

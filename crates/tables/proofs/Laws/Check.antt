@@ -11,7 +11,7 @@ use Rattle.format.specs.Settings.{settingsHold}
 use Rattle.format.specs.declared.settings.Settings.{Settings}
 use Rattle.format.specs.declared.refusal.Refusal.{Refusal}
 use Rattle.format.specs.declared.refusal.Reason.the-variants as reason
-use Rattle.tables.specs.Test.{tableHolds, Checked}
+use Rattle.tables.specs.Test.{tableHolds, TableHolds}
 use Rattle.tables.specs.Check.{refusedAt, afterTests, tested, Tells}
 use Rattle.tables.specs.declared.row.Counts.{Counts}
 use Rattle.tables.specs.declared.check.Check.{Check}
@@ -61,7 +61,7 @@ module _ {settings : Settings} {vendors sizes s rows attrs : List ℕ} {counts :
   passed-holds is p =
       subst (Holds _ _ _) (sym (is .told) ∙ p) (holds (settingsHold settings vendors sizes) (ltb (length s) sectionLimit) (tableHolds s vendors rows attrs counts))
 
-  pub passed-checked : Tells settings vendors sizes s rows attrs counts r → r ≡ Passed → Checked s vendors rows attrs counts
+  pub passed-checked : Tells settings vendors sizes s rows attrs counts r → r ≡ Passed → TableHolds s vendors rows attrs counts
   passed-checked is p = record { holds = passed-holds is p .2 }
 
   pub passed-short : Tells settings vendors sizes s rows attrs counts r → r ≡ Passed → length s < sectionLimit

@@ -1,4 +1,4 @@
--- What is known of a table that passed the test, `Checked`: what the crates above cite.
+-- What is known of a table that passed the test, `TableHolds`: what the crates above cite.
 use Prim.Native.Nat.{ℕ, zero, suc, _+_, _-_, _*_, _≤_, _<_}
 use native.Mathlib.Nat.{sub-zero}
 use native.Mathlib.Decide.{ℕ-discrete}
@@ -16,7 +16,7 @@ use Rattle.attributes.specs.End.{valueEnd}
 use Rattle.attributes.specs.declared.value.End.{End}
 use Rattle.attributes.specs.declared.value.End.the-variants.{At, Short}
 use Rattle.tables.specs.Row.{rowWidth, rowAt, attrAt, endianOf}
-use Rattle.tables.specs.Test.{fitting, isAt, attrHolds, runHolds, rowHolds, rowsHold, tableHolds, Checked}
+use Rattle.tables.specs.Test.{fitting, isAt, attrHolds, runHolds, rowHolds, rowsHold, tableHolds, TableHolds}
 use Rattle.tables.proofs.Laws.Test.{both, RowPassed, row-passed, rows-step, Fits, fits-all}
 use Rattle.tables.specs.Inside.Find.{Rising}
 use Rattle.tables.specs.declared.row.Attr.{Attr}
@@ -115,7 +115,7 @@ module _ (s vendors rows attrs : List ℕ) (total n : ℕ) where
 
 -- ---- the table
 
-module _ {s vendors rows attrs : List ℕ} {counts : Counts} (checked : Checked s vendors rows attrs counts) where
+module _ {s vendors rows attrs : List ℕ} {counts : Counts} (checked : TableHolds s vendors rows attrs counts) where
   parts : (fitting counts (length rows) (length attrs) ≡ true) × (rowsHold s vendors rows attrs (counts .attrs) 0 (counts .rows) 0 0 ≡ true)
   unfolding tableHolds
   parts = both (fitting counts (length rows) (length attrs)) (rowsHold s vendors rows attrs (counts .attrs) 0 (counts .rows) 0 0) (checked .holds)

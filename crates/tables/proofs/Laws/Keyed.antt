@@ -14,7 +14,7 @@ use Rattle.format.specs.declared.refusal.Reason.the-variants as reason
 use Rattle.tables.specs.Row.{rowAt}
 use Rattle.tables.specs.Find.{rowOfKey}
 use Rattle.tables.proofs.Laws.Find.{row-found}
-use Rattle.tables.specs.Test.{tableHolds, Checked}
+use Rattle.tables.specs.Test.{tableHolds, TableHolds}
 use Rattle.tables.specs.Check.{refusedAt, afterTests, tested, Tells}
 use Rattle.tables.proofs.Laws.Check.{passed-answer, refused-answer}
 use Rattle.tables.specs.declared.row.Counts.{Counts}
@@ -22,7 +22,7 @@ use Rattle.tables.specs.declared.check.Check.{Check}
 use Rattle.tables.specs.declared.check.Check.the-variants as check
 use Rattle.tables.specs.declared.find.Found.{Found}
 use Rattle.tables.specs.declared.find.Found.the-variants.{At, Nothing}
-use Rattle.tables.specs.Keyed.{rowBy, inRow}
+use Rattle.tables.specs.Keyed.{rowBy, inRowOfKey}
 use Rattle.tables.specs.declared.keyed.Keyed.{Keyed}
 use Rattle.tables.specs.declared.keyed.Keyed.the-variants as keyed
 
@@ -40,12 +40,12 @@ module _ (key : ℕ) {found f : Found} (is : found ≡ f) where
 module _ (settings : Settings) (vendors sizes s rows attrs : List ℕ) (counts : Counts) (key : ℕ) {told : Check}
     (is : Tells settings vendors sizes s rows attrs counts told) where
   pub row-passed : told ≡ check.Passed → {r : Keyed} → r ≡ rowBy key keyed.Refused keyed.Row (rowOfKey rows (counts .rows) key)
-      → r ≡ inRow settings vendors sizes s rows attrs counts key keyed.Refused keyed.Row
-  unfolding inRow
+      → r ≡ inRowOfKey settings vendors sizes s rows attrs counts key keyed.Refused keyed.Row
+  unfolding inRowOfKey
   row-passed p h = h ∙ passed-answer keyed.Refused _ is p
 
-  pub row-refused : {why : Refusal} → told ≡ check.Refused why → keyed.Refused why ≡ inRow settings vendors sizes s rows attrs counts key keyed.Refused keyed.Row
-  unfolding inRow
+  pub row-refused : {why : Refusal} → told ≡ check.Refused why → keyed.Refused why ≡ inRowOfKey settings vendors sizes s rows attrs counts key keyed.Refused keyed.Row
+  unfolding inRowOfKey
   row-refused p = refused-answer keyed.Refused _ is p
 
 -- ---- what the row comes to tells what every lookup comes to
@@ -69,20 +69,20 @@ module _ {A : Type 0} (refused : Refusal → A) (there : ℕ → A) (key : ℕ) 
   goes false b c f = refl
 
 module _ (settings : Settings) (vendors sizes s rows attrs : List ℕ) (counts : Counts) (key : ℕ) {told : Keyed}
-    (is : told ≡ inRow settings vendors sizes s rows attrs counts key keyed.Refused keyed.Row) where
+    (is : told ≡ inRowOfKey settings vendors sizes s rows attrs counts key keyed.Refused keyed.Row) where
   told-goes : {A : Type 0} (refused : Refusal → A) (there : ℕ → A)
-      → Goes refused there (inRow settings vendors sizes s rows attrs counts key refused there) told
-  unfolding inRow tested
+      → Goes refused there (inRowOfKey settings vendors sizes s rows attrs counts key refused there) told
+  unfolding inRowOfKey tested
   told-goes refused there =
       subst (Goes refused there _) (sym is)
       (goes refused there key (settingsHold settings vendors sizes) (ltb (length s) sectionLimit) (tableHolds s vendors rows attrs counts) (rowOfKey rows (counts .rows) key))
 
   pub in-row : {A : Type 0} (refused : Refusal → A) (there : ℕ → A) {i : ℕ} → told ≡ keyed.Row i
-      → there i ≡ inRow settings vendors sizes s rows attrs counts key refused there
+      → there i ≡ inRowOfKey settings vendors sizes s rows attrs counts key refused there
   in-row refused there p = subst (Goes refused there _) p (told-goes refused there)
 
   pub no-row : {A : Type 0} (refused : Refusal → A) (there : ℕ → A) {why : Refusal} → told ≡ keyed.Refused why
-      → refused why ≡ inRow settings vendors sizes s rows attrs counts key refused there
+      → refused why ≡ inRowOfKey settings vendors sizes s rows attrs counts key refused there
   no-row refused there p = subst (Goes refused there _) p (told-goes refused there)
 
 -- ---- what is known of a row that was found
@@ -105,14 +105,14 @@ known key true false c f = tt
 known key false b c f = tt
 
 module _ (settings : Settings) (vendors sizes s rows attrs : List ℕ) (counts : Counts) (key : ℕ) {told : Keyed}
-    (is : told ≡ inRow settings vendors sizes s rows attrs counts key keyed.Refused keyed.Row) {i : ℕ} (p : told ≡ keyed.Row i) where
+    (is : told ≡ inRowOfKey settings vendors sizes s rows attrs counts key keyed.Refused keyed.Row) {i : ℕ} (p : told ≡ keyed.Row i) where
   told-known : Known (ltb (length s) sectionLimit) (tableHolds s vendors rows attrs counts) (rowOfKey rows (counts .rows) key) (keyed.Row i)
-  unfolding inRow tested
+  unfolding inRowOfKey tested
   told-known =
       subst (Known _ _ _) (sym is ∙ p)
       (known key (settingsHold settings vendors sizes) (ltb (length s) sectionLimit) (tableHolds s vendors rows attrs counts) (rowOfKey rows (counts .rows) key))
 
-  pub keyed-checked : Checked s vendors rows attrs counts
+  pub keyed-checked : TableHolds s vendors rows attrs counts
   keyed-checked = record { holds = told-known .1 }
 
   pub keyed-short : length s < sectionLimit

@@ -9,7 +9,7 @@ use lib.ListN.{length, getD}
 use lib.Dec.{leb, ltb, eqb}
 use borrow.Author.Tests.{lt-ltb, le-ltb, le-leb, lt-leb, eq-eqb, ne-eqb, leb-true, ltb-true, eqb-true}
 use Rattle.numbers.specs.declared.Endian.{Endian}
-use Rattle.format.specs.Lookup.{member}
+use Rattle.format.specs.Lookup.{isOn}
 use Rattle.format.proofs.Laws.Computed.{allBelow, beyond}
 use Rattle.format.specs.TagKind.{tags}
 use Rattle.format.specs.AttributeKind.{attributeKinds}
@@ -31,19 +31,19 @@ use Rattle.tables.specs.Inside.Test.{headHolds}
 
 -- ---- a word of more than 16 bits is no tag and no known number
 
-no-member : (n : ℕ) (list : List ℕ) → ((k : ℕ) → getD list k 0 < 65536) → 65536 ≤ n → member n list ≡ false
-unfolding member
+no-member : (n : ℕ) (list : List ℕ) → ((k : ℕ) → getD list k 0 < 65536) → 65536 ≤ n → isOn n list ≡ false
+unfolding isOn
 no-member n [] small h = refl
 no-member n (x ∷ list) small h =
     let low : x < 65536 = small 0 in
     rw (ne-eqb x n (λ e. omega arith)) (no-member n list (λ k. small (suc k)) h)
 
-no-tag : (n : ℕ) → 65536 ≤ n → member n tags ≡ false
-unfolding tags allBelow member
+no-tag : (n : ℕ) → 65536 ≤ n → isOn n tags ≡ false
+unfolding tags allBelow isOn
 no-tag n h = beyond 65536 (length tags) tags n refl h
 
 not-known : (vendors : List ℕ) (n : ℕ) → ((k : ℕ) → getD vendors k 0 < 65536) → 65536 ≤ n → known vendors n ≡ false
-unfolding known attributeKinds allBelow member
+unfolding known attributeKinds allBelow isOn
 not-known vendors n small h = rw (beyond 65536 (length attributeKinds) attributeKinds n refl h) (no-member n vendors small h)
 
 -- ---- one attribute
@@ -111,7 +111,7 @@ module _ (s : List ℕ) (least : ℕ) (r : Row) where
   head-flags h = rw (lt-leb (r .flags) 7 h, and-false)
 
   -- what is left is the kind
-  pub head-kind : least ≤ r .key → r .key < length s → r .flags ≤ 7 → member (r .kind) tags ≡ headHolds s least r
+  pub head-kind : least ≤ r .key → r .key < length s → r .flags ≤ 7 → isOn (r .kind) tags ≡ headHolds s least r
   unfolding headHolds
   head-kind h₁ h₂ h₃ = rw (le-leb least (r .key) h₁, lt-ltb (r .key) (length s) h₂, le-leb (r .flags) 7 h₃, and-true)
 
@@ -223,7 +223,7 @@ fits-all c lentRows lentAttrs h =
 pub record RowPassed (s vendors attrs : List ℕ) (total least run : ℕ) (r : Row) : Type 0 where
   pub above : least ≤ r .key
   pub inside : r .key < length s
-  pub is-tag : member (r .kind) tags ≡ true
+  pub is-tag : isOn (r .kind) tags ≡ true
   pub flags-small : r .flags ≤ 7
   pub run-begins : r .first ≡ run
   pub run-inside : run + r .count ≤ total
@@ -235,7 +235,7 @@ unfolding rowHolds
 row-passed s vendors attrs total least run r h =
     let a : Bool = leb least (r .key) in
     let b : Bool = ltb (r .key) (length s) in
-    let c : Bool = member (r .kind) tags in
+    let c : Bool = isOn (r .kind) tags in
     let d : Bool = leb (r .flags) 7 in
     let e : Bool = eqb (r .first) run in
     let f : Bool = leb (run + r .count) total in

@@ -1,9 +1,9 @@
--- What follows from `chain`, `faultAt` and `faultFrom`, for each way that the code comes to an answer.
+-- What follows from `chain`, `faultOfRow` and `faultFrom`, for each way that the code comes to an answer.
 use Prim.Native.Nat.{ℕ, zero, suc, _+_, _-_, _≤_, _<_}
 use native.Mathlib.Omega.{arith}
 use mathlib.Core.Path.{_≡_, refl, sym, ap, _∙_}
 use borrow.Author.Tests.{lt-ltb, le-ltb, le-leb, lt-leb, eq-eqb, ne-eqb}
-use Rattle.tree.specs.Inside.Passing.{chain, faultAt, faultFrom}
+use Rattle.tree.specs.Inside.Passing.{chain, faultOfRow, faultFrom}
 use Rattle.tree.specs.Demand.{Reaching}
 use Rattle.tree.proofs.Laws.Fault.{good-later}
 use Rattle.tree.specs.Inside.Fault.{Along}
@@ -84,15 +84,15 @@ fault-begin n reach = let none : n - n ≡ 0 = omega arith in rw none
 
 module _ (n : ℕ) (reach : ℕ → ℕ) (i : ℕ) where
   module _ (b : ℕ) {end : ℕ} (is : end ≡ reach i) where
-    pub fault-here : end ≡ 0 → i ≡ faultAt n reach i b
-    unfolding faultAt
+    pub fault-here : end ≡ 0 → i ≡ faultOfRow n reach i b
+    unfolding faultOfRow
     fault-here h = rw (eq-eqb (reach i) 0 (sym is ∙ h))
 
-    pub fault-along : {r : ℕ} → (end ≡ 0 → ⊥) → r ≡ chain n reach end b n (suc i) → r ≡ faultAt n reach i b
-    unfolding faultAt
+    pub fault-along : {r : ℕ} → (end ≡ 0 → ⊥) → r ≡ chain n reach end b n (suc i) → r ≡ faultOfRow n reach i b
+    unfolding faultOfRow
     fault-along h p = p ∙ rw (ne-eqb (reach i) 0 (λ e. h (is ∙ e)), is)
 
-  pub fault-back : {b r : ℕ} → 0 < i → i ≤ n → b ≡ faultFrom n reach i (n - i) → r ≡ faultAt n reach (i - 1) b
+  pub fault-back : {b r : ℕ} → 0 < i → i ≤ n → b ≡ faultFrom n reach i (n - i) → r ≡ faultOfRow n reach (i - 1) b
       → r ≡ faultFrom n reach (i - 1) (n - (i - 1))
   unfolding faultFrom
   fault-back h l p q =

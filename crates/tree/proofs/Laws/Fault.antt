@@ -12,7 +12,7 @@ use Rattle.numbers.proofs.Laws.Tests.{cond-all}
 use Rattle.tree.specs.Pick.{anyBelow}
 use Rattle.tree.proofs.Laws.Pick.{first-unique, first-none, any-below}
 use Rattle.tree.specs.Nest.{lies, crosses, faulty, firstFault}
-use Rattle.tree.specs.Inside.Passing.{chain, faultAt, faultFrom}
+use Rattle.tree.specs.Inside.Passing.{chain, faultOfRow, faultFrom}
 use Rattle.tree.specs.Demand.{Reaching}
 use Rattle.tree.proofs.Laws.Nested.{Nested}
 
@@ -157,8 +157,8 @@ module _ {n : ℕ} {reach : ℕ → ℕ} {i b : ℕ} (reaching : Reaching n reac
 -- ---- from the last row back
 
 -- the first wrong row after row i, or one before it that crosses row i's reach
-wrong-step : {n : ℕ} {reach : ℕ → ℕ} {i b : ℕ} → Reaching n reach → i < n → FirstWrong n reach (suc i) b → FirstWrong n reach i (faultAt n reach i b)
-unfolding faultAt
+wrong-step : {n : ℕ} {reach : ℕ → ℕ} {i b : ℕ} → Reaching n reach → i < n → FirstWrong n reach (suc i) b → FirstWrong n reach i (faultOfRow n reach i b)
+unfolding faultOfRow
 wrong-step {n} {reach} {i} {b} reaching h w =
     cond-all (FirstWrong n reach i) (eqb (reach i) 0)
     (λ t. record { from = le-refl i; to = omega arith; before = λ j a l x. omega arith; here = λ g. bad (eqb-true (reach i) 0 t) })

@@ -11,7 +11,7 @@ use borrow.Author.Tests.{le-leb, lt-ltb}
 use Rattle.lent.specs.Outcome.{Outcome, outcome, Given, Outcomes, BothGiven, outcomes}
 use Rattle.numbers.specs.Value.{valueOf, there, readAt}
 use Rattle.numbers.specs.declared.Endian.the-variants.{Big}
-use Rattle.format.specs.Lookup.{member, indexOf, lookup}
+use Rattle.format.specs.Lookup.{isOn, indexOf, lookup}
 use Rattle.format.specs.TagKind.{tags}
 use Rattle.format.specs.TagKind as tag
 use Rattle.format.specs.AttributeKind.{used, alsoKnown, attributeKinds}
@@ -34,11 +34,11 @@ use Rattle.tables.specs.declared.row.Row.{Row}
 use Rattle.tables.specs.declared.row.Attr.{Attr}
 use Rattle.tables.specs.declared.row.Counts.{Counts}
 use Rattle.entries.specs.Head.{nullEnd, tagHead, sizeHead, headAt}
-use Rattle.entries.specs.Run.{attr, first, runEnds, readOn, runFrom}
-use Rattle.entries.specs.Entry.{littleFlag, flagOf, flagsOf, kindOf, ordinary, attributes, entryFrom, entryAt}
-use Rattle.entries.specs.Walk.{walked, join, andThen, onward, walkFrom, walkAt}
+use Rattle.entries.specs.Run.{attr, first, runEnds, readOn, readRun}
+use Rattle.entries.specs.Entry.{littleFlag, flagOf, flagsOf, kindOf, ordinary, attributes, entryFrom, readEntry}
+use Rattle.entries.specs.Walk.{entriesRead, join, entriesThen, onward, entriesFrom, readTags}
 use Rattle.tables.specs.Test.{fitting}
-use Rattle.entries.specs.Section.{counts, stored, wholeWalk, readSection}
+use Rattle.entries.specs.Section.{counts, intoTables, wholeWalk, readDebugSection}
 use Rattle.entries.proofs.Laws.Section.{attrs-decide}
 use Rattle.entries.specs.declared.section.Section.{Section}
 use Rattle.entries.specs.declared.section.Section.the-variants.{Read, Refused, Room}
@@ -46,26 +46,26 @@ use Rattle.links.specs.Attribute.{wants, attrFrom, attributeOf, asReference, re
 use Rattle.tree.specs.Pick.{countBelow, nearestBelow, firstFrom}
 use Rattle.tree.specs.Reach.{reachBy, reachEnd}
 use Rattle.tree.specs.Nest.{lies, depth, parent, crosses, faulty, deep, firstFault, firstDeep}
-use Rattle.tree.specs.Tree.{placeWidth, placesFrom, firstErased, listed, treeOf}
+use Rattle.tree.specs.Tree.{placeWidth, placesFrom, firstErased, listingOf, listTree}
 use Rattle.tree.proofs.Laws.TreeTheorem.{tree-listed}
 use Rattle.tree.specs.declared.listing.Listing.{Listing}
 use Rattle.tree.specs.declared.listing.Listing.the-variants as listing
 use Rattle.tree.specs.declared.listing.Listing.the-variants.{Listed}
-use Rattle.tree.specs.ShutOut.{sizes, reading, rowOf, nullSection, nullRow, twoSection}
+use Rattle.tree.specs.ShutOut.{fourEach, reading, rowOf, nullSection, firstNull, twoSection}
 
-settings-hold : settingsHold settings [] sizes ≡ true
-unfolding sizes fundTypes vendorsHold roleHolds roleForm rolesDiffer rolesHold settingsHold
+settings-hold : settingsHold settings [] fourEach ≡ true
+unfolding fourEach fundTypes vendorsHold roleHolds roleForm rolesDiffer rolesHold settingsHold
 settings-hold = refl
 
--- what a walk gives is stored in tables that are long enough
+-- what a walk gives is intoTables in tables that are long enough
 abbrev storing : List Row → List Attr → List ℕ → List ℕ → Outcomes Section ℕ ℕ
 storing rs xs rows attrs =
     outcomes (Read (counts (length rs) (length xs))) (sets rows 0 (rowsWords rs)) (sets attrs 0 (attrsWords xs))
 
-walk-stored : (s : List ℕ) (rs : List Row) (xs : List Attr) (place : ℕ) → wholeWalk settings [] s ≡ walked rs xs place → length s < sectionLimit
+walk-stored : (s : List ℕ) (rs : List Row) (xs : List Attr) (place : ℕ) → wholeWalk settings [] s ≡ entriesRead rs xs place → length s < sectionLimit
     → length rs ≤ entryLimit → length xs ≤ attributeLimit → (rows attrs : List ℕ) → length rs * rowWidth ≤ length rows → length xs * attrWidth ≤ length attrs
     → reading s rows attrs ≡ storing rs xs rows attrs
-unfolding readSection stored
+unfolding readDebugSection intoTables
 walk-stored s rs xs place walk short few-rows few-attrs rows attrs h k =
     let fits : fitting (counts (length rs) (length xs)) (length rows) (length attrs) ≡ true =
     sym (attrs-decide (counts (length rs) (length xs)) (length rows) (length attrs) few-rows h few-attrs) ∙ le-leb (length xs * attrWidth) (length attrs) k
@@ -98,16 +98,16 @@ rowsA = rowOf 0x00 tag.StructureType 0 2 ∷ rowOf 0x12 tag.Member 2 2 ∷ rowOf
 abbrev attrsA : List Attr
 attrsA = attr number.Sibling 8 ∷ attr number.ByteSize 14 ∷ attr number.FundType 26 ∷ attr number.Location 30 ∷ []
 
-walks : (wholeWalk settings [] nullSection ≡ walked (nullRow ∷ []) [] 4) × (wholeWalk settings [] twoSection ≡ walked twoRows twoAttrs 18)
-    × (wholeWalk settings [] inputA ≡ walked rowsA attrsA 42)
-unfolding valueOf there readAt member indexOf lookup tags used alsoKnown attributeKinds known forms formOf zeroFrom fixedEnd blockEnd textEnd valueEnd ending numbered readAttribute nullEnd tagHead sizeHead headAt first plays runEnds readOn runFrom littleFlag flagOf flagsOf kindOf ordinary attributes entryFrom entryAt join andThen onward walkFrom walkAt wholeWalk
+walks : (wholeWalk settings [] nullSection ≡ entriesRead (firstNull ∷ []) [] 4) × (wholeWalk settings [] twoSection ≡ entriesRead twoRows twoAttrs 18)
+    × (wholeWalk settings [] inputA ≡ entriesRead rowsA attrsA 42)
+unfolding valueOf there readAt isOn indexOf lookup tags used alsoKnown attributeKinds known forms formOf zeroFrom fixedEnd blockEnd textEnd valueEnd ending numbered readAttribute nullEnd tagHead sizeHead headAt first plays runEnds readOn readRun littleFlag flagOf flagsOf kindOf ordinary attributes entryFrom readEntry join entriesThen onward entriesFrom readTags wholeWalk
 walks = (refl, refl, refl)
 
 -- ---- one null entry
 
 module _ (rows attrs : List ℕ) (enough : 5 ≤ length rows) where
-  null-stored : reading nullSection rows attrs ≡ storing (nullRow ∷ []) [] rows attrs
-  null-stored = walk-stored nullSection (nullRow ∷ []) [] 4 (walks .0) (omega arith) (omega arith) (omega arith) rows attrs enough (omega arith)
+  null-stored : reading nullSection rows attrs ≡ storing (firstNull ∷ []) [] rows attrs
+  null-stored = walk-stored nullSection (firstNull ∷ []) [] 4 (walks .0) (omega arith) (omega arith) (omega arith) rows attrs enough (omega arith)
 
   null-answer : {r : Section} {rows′ attrs′ : List ℕ} → BothGiven (reading nullSection rows attrs) r rows′ attrs′ → r ≡ Read (counts 1 0)
   null-answer p = p .answer-is ∙ ap (λ (o : Outcomes Section ℕ ℕ). o .answer) null-stored
@@ -125,11 +125,11 @@ module _ (rows attrs : List ℕ) (enough : 5 ≤ length rows) where
   no-rows n p = let none : _≡_ {A = ℕ} 0 1 = ap (λ (r : Section). countsOf r .rows) (null-answer p) in absurd (omega arith)
 
   -- one that writes nothing, where the row does not stand in the table already
-  pub writes-nothing : (rowAt rows 0 ≡ nullRow → ⊥) → {r : Section} {attrs′ : List ℕ} → BothGiven (reading nullSection rows attrs) r rows attrs′ → ⊥
+  pub writes-nothing : (rowAt rows 0 ≡ firstNull → ⊥) → {r : Section} {attrs′ : List ℕ} → BothGiven (reading nullSection rows attrs) r rows attrs′ → ⊥
   unfolding rowsFrom
   writes-nothing other p =
-      let held : rowsFrom rows 0 1 ≡ nullRow ∷ [] =
-      ap (λ (t : List ℕ). rowsFrom t 0 1) (p .first-is ∙ ap (λ (o : Outcomes Section ℕ ℕ). o .first) null-stored) ∙ rows-back rows (nullRow ∷ []) enough
+      let held : rowsFrom rows 0 1 ≡ firstNull ∷ [] =
+      ap (λ (t : List ℕ). rowsFrom t 0 1) (p .first-is ∙ ap (λ (o : Outcomes Section ℕ ℕ). o .first) null-stored) ∙ rows-back rows (firstNull ∷ []) enough
       in
       other cc
 
@@ -150,15 +150,15 @@ first-and-padding rows attrs h k {r} {rows′} padded p =
 
 -- ---- any input
 
-module _ (settings : Settings) (vendors sizes s rows attrs : List ℕ) {c c′ : Counts} {rows₁ rows₁′ attrs₁ attrs₁′ : List ℕ} where
+module _ (settings : Settings) (vendors fourEach s rows attrs : List ℕ) {c c′ : Counts} {rows₁ rows₁′ attrs₁ attrs₁′ : List ℕ} where
   -- invented row counts: two answers that both meet the contract have the same counts
-  pub invented-counts : BothGiven (readSection settings vendors sizes s rows attrs) (Read c) rows₁ attrs₁
-      → BothGiven (readSection settings vendors sizes s rows attrs) (Read c′) rows₁′ attrs₁′ → c ≡ c′
+  pub invented-counts : BothGiven (readDebugSection settings vendors fourEach s rows attrs) (Read c) rows₁ attrs₁
+      → BothGiven (readDebugSection settings vendors fourEach s rows attrs) (Read c′) rows₁′ attrs₁′ → c ≡ c′
   invented-counts p q = ap countsOf (p .answer-is ∙ sym (q .answer-is))
 
   -- invented needed counts: so have two that tell what room is needed
-  pub invented-needed : BothGiven (readSection settings vendors sizes s rows attrs) (Room c) rows₁ attrs₁
-      → BothGiven (readSection settings vendors sizes s rows attrs) (Room c′) rows₁′ attrs₁′ → c ≡ c′
+  pub invented-needed : BothGiven (readDebugSection settings vendors fourEach s rows attrs) (Room c) rows₁ attrs₁
+      → BothGiven (readDebugSection settings vendors fourEach s rows attrs) (Room c′) rows₁′ attrs₁′ → c ≡ c′
   invented-needed p q = ap countsOf (p .answer-is ∙ sym (q .answer-is))
 
 -- ---- the listing of input A
@@ -168,9 +168,9 @@ abbrev placesA : List ℕ
 placesA = 0 ∷ 0 ∷ 1 ∷ 1 ∷ 1 ∷ 1 ∷ []
 
 A-listed : (rows attrs room : List ℕ) → 6 ≤ length room
-    → listed (rowsWords rowsA ++ rows) 3 (λ i. reachEnd Big inputA (rowsWords rowsA ++ rows) (attrsWords attrsA ++ attrs) 3 i) room
+    → listingOf (rowsWords rowsA ++ rows) 3 (λ i. reachEnd Big inputA (rowsWords rowsA ++ rows) (attrsWords attrsA ++ attrs) 3 i) room
     ≡ outcome (Listed 3) (sets room 0 placesA)
-unfolding valueOf there readAt rowWords attrWords rowsWords attrsWords rowAt attrAt erasedRow wants attrFrom attributeOf asReference referenceBy referenceOf countBelow nearestBelow firstFrom reachBy reachEnd lies depth parent crosses faulty deep firstFault firstDeep placesFrom firstErased listed
+unfolding valueOf there readAt rowWords attrWords rowsWords attrsWords rowAt attrAt erasedRow wants attrFrom attributeOf asReference referenceBy referenceOf countBelow nearestBelow firstFrom reachBy reachEnd lies depth parent crosses faulty deep firstFault firstDeep placesFrom firstErased listingOf
 A-listed rows attrs room h = ap (λ (b : Bool). cond b (outcome (Listed 3) (sets room 0 placesA)) (outcome (listing.Room 3) room)) (le-leb 6 (length room) h)
 
 module _ (rows₀ attrs₀ : List ℕ) (rows-enough : 15 ≤ length rows₀) (attrs-enough : 8 ≤ length attrs₀) {c : Counts} {rows attrs : List ℕ}
@@ -191,10 +191,10 @@ module _ (rows₀ attrs₀ : List ℕ) (rows-enough : 15 ≤ length rows₀) (at
 
   -- a listing of file order with depth 0 everywhere
   pub depth-zero : (room : List ℕ) → 6 ≤ length room → {r : Listing} {room′ : List ℕ} → ((j : ℕ) → j < 3 → getD room′ (j * placeWidth) 0 ≡ 0)
-      → Given (treeOf settings [] sizes inputA rows attrs c room) r room′ → ⊥
+      → Given (listTree settings [] fourEach inputA rows attrs c room) r room′ → ⊥
   depth-zero room h {r} {room′} zeros given =
-      let tree : treeOf settings [] sizes inputA rows attrs c room ≡ outcome (Listed 3) (sets room 0 placesA) =
-      tree-listed settings [] sizes inputA rows₀ attrs₀ c refl read room ∙ rw (A-counts, A-rows, A-attrs) (A-listed (drop 15 rows₀) (drop 8 attrs₀) room h)
+      let tree : listTree settings [] fourEach inputA rows attrs c room ≡ outcome (Listed 3) (sets room 0 placesA) =
+      tree-listed settings [] fourEach inputA rows₀ attrs₀ c refl read room ∙ rw (A-counts, A-rows, A-attrs) (A-listed (drop 15 rows₀) (drop 8 attrs₀) room h)
       in
       let inside : getD room′ 2 0 ≡ 1 =
       ap (λ (t : List ℕ). getD t 2 0) (given .room-is ∙ ap (λ (o : Outcome Listing ℕ). o .room) tree) ∙ sets-back room 0 placesA 2 h (omega arith)

@@ -32,7 +32,7 @@ use Rattle.tree.proofs.Laws.Nested.{Nested}
 use Rattle.tree.specs.Inside.Passing.{faultFrom, openDeep, openWords, OpenListed}
 use Rattle.tree.proofs.Laws.Fault.{first-fault, fault-none}
 use Rattle.tree.proofs.Laws.Open.{open-depth, open-parent}
-use Rattle.tree.specs.Tree.{placeWidth, placesFrom, firstErased, listed, treeOf}
+use Rattle.tree.specs.Tree.{placeWidth, placesFrom, firstErased, listingOf, listTree}
 use Rattle.tree.specs.declared.listing.Listing.{Listing}
 use Rattle.tree.specs.declared.listing.Listing.the-variants.{Listed, Refused, Room}
 
@@ -90,8 +90,8 @@ pub fault-row : (rows : List ℕ) (i : ℕ) (why : Reason) {row : Row} → row �
 fault-row rows i why p = ap (λ (r : Row). Refused (refusedAt (r .key) why)) p
 
 module _ (rows : List ℕ) (n : ℕ) (reach : ℕ → ℕ) (room : List ℕ) {erased : ℕ} (e : erased ≡ firstErased rows n) where
-  pub list-erased : {r : Listing} → erased < n → r ≡ Refused (refusedAt (rowAt rows erased .key) reason.Kind) → Given (listed rows n reach room) r room
-  unfolding listed
+  pub list-erased : {r : Listing} → erased < n → r ≡ Refused (refusedAt (rowAt rows erased .key) reason.Kind) → Given (listingOf rows n reach room) r room
+  unfolding listingOf
   list-erased h p =
       let test : ltb (firstErased rows n) n ≡ true = ap (λ (k : ℕ). ltb k n) (sym e) ∙ lt-ltb erased n h in
       record { answer-is = rw (test, ← e) p; room-is = rw test }
@@ -103,8 +103,8 @@ module _ (rows : List ℕ) (n : ℕ) (reach : ℕ → ℕ) (room : List ℕ) {er
     first : fault ≡ firstFault n reach
     first = f ∙ first-fault n reach reaching
 
-    pub list-fault : {r : Listing} → fault < n → r ≡ Refused (refusedAt (rowAt rows fault .key) reason.Link) → Given (listed rows n reach room) r room
-    unfolding listed
+    pub list-fault : {r : Listing} → fault < n → r ≡ Refused (refusedAt (rowAt rows fault .key) reason.Link) → Given (listingOf rows n reach room) r room
+    unfolding listingOf
     list-fault h p =
         let test : ltb (firstFault n reach) n ≡ true = ap (λ (k : ℕ). ltb k n) (sym first) ∙ lt-ltb fault n h in
         record { answer-is = rw (no-erased, test, ← first) p; room-is = rw (no-erased, test) }
@@ -124,8 +124,8 @@ module _ (rows : List ℕ) (n : ℕ) (reach : ℕ → ℕ) (room : List ℕ) {er
       first-too-deep : deepest ≡ firstDeep n reach
       first-too-deep = d ∙ deep-same all-nest
 
-      pub list-deep : {r : Listing} → deepest < n → r ≡ Refused (refusedAt (rowAt rows deepest .key) reason.Depth) → Given (listed rows n reach room) r room
-      unfolding listed
+      pub list-deep : {r : Listing} → deepest < n → r ≡ Refused (refusedAt (rowAt rows deepest .key) reason.Depth) → Given (listingOf rows n reach room) r room
+      unfolding listingOf
       list-deep h p =
           let test : ltb (firstDeep n reach) n ≡ true = ap (λ (k : ℕ). ltb k n) (sym first-too-deep) ∙ lt-ltb deepest n h in
           record { answer-is = rw (no-erased, no-fault, test, ← first-too-deep) p; room-is = rw (no-erased, no-fault, test) }
@@ -134,14 +134,14 @@ module _ (rows : List ℕ) (n : ℕ) (reach : ℕ → ℕ) (room : List ℕ) {er
         no-deep : ltb (firstDeep n reach) n ≡ false
         no-deep = ap (λ (k : ℕ). ltb k n) (sym first-too-deep) ∙ le-ltb deepest n shallow
 
-        pub list-unfit : length room < n * placeWidth → Given (listed rows n reach room) (Room n) room
-        unfolding listed
+        pub list-unfit : length room < n * placeWidth → Given (listingOf rows n reach room) (Room n) room
+        unfolding listingOf
         list-unfit h =
             let test : leb (n * placeWidth) (length room) ≡ false = lt-leb (n * placeWidth) (length room) h in
             record { answer-is = rw (no-erased, no-fault, no-deep, test); room-is = rw (no-erased, no-fault, no-deep, test) }
 
-        pub list-given : {r : ℕ} {room′ : List ℕ} → n * placeWidth ≤ length room → OpenListed reach n r room room′ → Given (listed rows n reach room) (Listed n) room′
-        unfolding listed
+        pub list-given : {r : ℕ} {room′ : List ℕ} → n * placeWidth ≤ length room → OpenListed reach n r room room′ → Given (listingOf rows n reach room) (Listed n) room′
+        unfolding listingOf
         list-given {r} {room′} h o =
             let test : leb (n * placeWidth) (length room) ≡ true = le-leb (n * placeWidth) (length room) h in
             let most : firstFrom (openDeep reach) 0 n ≤ 0 + n = first-from-is (openDeep reach) 0 n .to in
@@ -156,12 +156,12 @@ module _ (rows : List ℕ) (n : ℕ) (reach : ℕ → ℕ) (room : List ℕ) {er
 module _ (settings : Settings) (vendors sizes s rows attrs : List ℕ) (counts : Counts) (room : List ℕ) {told : Check}
     (is : Tells settings vendors sizes s rows attrs counts told) where
   pub tree-passed : told ≡ Passed → {r : Listing} {room′ : List ℕ}
-      → Given (listed rows (counts .rows) (λ i. reachEnd (settings .endian) s rows attrs (counts .rows) i) room) r room′
-      → Given (treeOf settings vendors sizes s rows attrs counts room) r room′
-  unfolding treeOf
+      → Given (listingOf rows (counts .rows) (λ i. reachEnd (settings .endian) s rows attrs (counts .rows) i) room) r room′
+      → Given (listTree settings vendors sizes s rows attrs counts room) r room′
+  unfolding listTree
   tree-passed p {r} {room′} g = subst (λ (o : Outcome Listing ℕ). Given o r room′) (passed-answer (λ why. outcome (Refused why) room) _ is p) g
 
-  pub tree-refused : {why : Refusal} → told ≡ check.Refused why → Given (treeOf settings vendors sizes s rows attrs counts room) (Refused why) room
-  unfolding treeOf
+  pub tree-refused : {why : Refusal} → told ≡ check.Refused why → Given (listTree settings vendors sizes s rows attrs counts room) (Refused why) room
+  unfolding listTree
   tree-refused {why} p =
       subst (λ (o : Outcome Listing ℕ). Given o (Refused why) room) (refused-answer (λ w. outcome (Refused w) room) _ is p) (record { answer-is = refl; room-is = refl })

@@ -18,12 +18,12 @@ use Rattle.format.specs.Limits.{depthLimit, sectionLimit}
 use Rattle.format.specs.Settings.{settingsHold}
 use Rattle.format.specs.declared.settings.Settings.{Settings}
 use Rattle.tables.specs.Row.{rowAt, erasedRow}
-use Rattle.tables.specs.Test.{tableHolds, Checked}
+use Rattle.tables.specs.Test.{tableHolds, TableHolds}
 use Rattle.tables.proofs.Laws.Checked.{checked-rising, checked-inside}
 use Rattle.lent.proofs.Laws.Stores.{sets-back}
 use Rattle.tables.specs.Check.{afterTests, tested}
 use Rattle.tables.specs.declared.row.Counts.{Counts}
-use Rattle.entries.specs.Section.{readSection}
+use Rattle.entries.specs.Section.{readDebugSection}
 use Rattle.entries.proofs.Laws.Filled.{filled-holds}
 use Rattle.entries.proofs.Laws.Unerased.{none-erased, answer-tested}
 use Rattle.entries.specs.declared.section.Section.the-variants.{Read}
@@ -40,7 +40,7 @@ use Rattle.tree.proofs.Laws.Nested.{Nested}
 use Rattle.tree.specs.Demand.{Reaching}
 use Rattle.tree.proofs.Laws.Fault.{fault-none}
 use Rattle.tree.proofs.Laws.Reach.{reaching}
-use Rattle.tree.specs.Tree.{placeWidth, placesFrom, firstErased, listed, treeOf}
+use Rattle.tree.specs.Tree.{placeWidth, placesFrom, firstErased, listingOf, listTree}
 use Rattle.tree.proofs.Laws.WalkTree.{Plain, children-given}
 use Rattle.tree.specs.Demand.{childrenIn}
 use Rattle.tree.specs.declared.listing.Listing.{Listing}
@@ -61,8 +61,8 @@ module _ (rows : List ℕ) (n : ℕ) (reach : ℕ → ℕ) (room : List ℕ) whe
       → (ltb (firstFault n reach) n ≡ false) × (ltb (firstDeep n reach) n ≡ false) × (leb (n * placeWidth) (length room) ≡ true)
       × (o .room ≡ sets room 0 (placesFrom n reach 0 n))
 
-  passes : Passes (listed rows n reach room)
-  unfolding listed
+  passes : Passes (listingOf rows n reach room)
+  unfolding listingOf
   passes =
       cond-all Passes (ltb (firstErased rows n) n) (λ t p. absurd (subst isListed (sym p) tt))
       (λ t. cond-all Passes (ltb (firstFault n reach) n) (λ u p. absurd (subst isListed (sym p) tt))
@@ -70,8 +70,8 @@ module _ (rows : List ℕ) (n : ℕ) (reach : ℕ → ℕ) (room : List ℕ) whe
       (λ v. cond-all Passes (leb (n * placeWidth) (length room)) (λ w p. (u, v, w, refl)) (λ w p. absurd (subst isListed (sym p) tt)))))
 
   gives : ltb (firstErased rows n) n ≡ false → ltb (firstFault n reach) n ≡ false → ltb (firstDeep n reach) n ≡ false
-      → leb (n * placeWidth) (length room) ≡ true → listed rows n reach room ≡ outcome (Listed n) (sets room 0 (placesFrom n reach 0 n))
-  unfolding listed
+      → leb (n * placeWidth) (length room) ≡ true → listingOf rows n reach room ≡ outcome (Listed n) (sets room 0 (placesFrom n reach 0 n))
+  unfolding listingOf
   gives a b c d = rw (a, b, c, d)
 
 -- ---- a first row that is not there
@@ -108,11 +108,11 @@ places-length n reach i (suc k) = let rest : length (placesFrom n reach (suc i) 
 -- ---- the theorem
 
 module _ (settings : Settings) (vendors sizes s rows₀ attrs₀ : List ℕ) (c : Counts) {rows attrs : List ℕ} (off : settings .erased ≡ false)
-    (read : BothGiven (readSection settings vendors sizes s rows₀ attrs₀) (Read c) rows attrs) where
+    (read : BothGiven (readDebugSection settings vendors sizes s rows₀ attrs₀) (Read c) rows attrs) where
   table-holds : tableHolds s vendors rows attrs c ≡ true
   table-holds = rw (read .first-is, read .second-is) (filled-holds settings vendors sizes s rows₀ attrs₀ c (sym (read .answer-is)))
 
-  checked : Checked s vendors rows attrs c
+  checked : TableHolds s vendors rows attrs c
   checked = record { holds = table-holds }
 
   tests-pass : (settingsHold settings vendors sizes ≡ true) × (ltb (length s) sectionLimit ≡ true)
@@ -129,12 +129,12 @@ module _ (settings : Settings) (vendors sizes s rows₀ attrs₀ : List ℕ) (c 
   no-erased = none-first (λ i. erasedRow (rowAt rows i .flags)) (c .rows) unerased
 
   -- with the tests passed, the listing is that of the table's reaches
-  pub tree-listed : (room : List ℕ) → treeOf settings vendors sizes s rows attrs c room ≡ listed rows (c .rows) (reachIn settings s rows attrs c) room
-  unfolding treeOf tested afterTests
+  pub tree-listed : (room : List ℕ) → listTree settings vendors sizes s rows attrs c room ≡ listingOf rows (c .rows) (reachIn settings s rows attrs c) room
+  unfolding listTree tested afterTests
   tree-listed room = rw (tests-pass .0, tests-pass .1, table-holds)
 
   -- it is given exactly when
-  pub listed-exactly : (room : List ℕ) {r : Listing} {room′ : List ℕ} → Given (treeOf settings vendors sizes s rows attrs c room) r room′
+  pub listed-exactly : (room : List ℕ) {r : Listing} {room′ : List ℕ} → Given (listTree settings vendors sizes s rows attrs c room) r room′
       → (r ≡ Listed (c .rows)) ↔ Listable (c .rows) (reachIn settings s rows attrs c) room
   unfolding firstFault firstDeep deep
   listed-exactly room given =
@@ -155,14 +155,14 @@ module _ (settings : Settings) (vendors sizes s rows₀ attrs₀ : List ℕ) (c 
       )
 
   -- what it holds: every row once, in file order, with its depth and its parent; words past them as they were
-  pub listing-holds : (room : List ℕ) {r : Listing} {room′ : List ℕ} → Given (treeOf settings vendors sizes s rows attrs c room) r room′
+  pub listing-holds : (room : List ℕ) {r : Listing} {room′ : List ℕ} → Given (listTree settings vendors sizes s rows attrs c room) r room′
       → r ≡ Listed (c .rows) → room′ ≡ sets room 0 (placesFrom (c .rows) (reachIn settings s rows attrs c) 0 (c .rows))
   listing-holds room given p =
       let answer = given .answer-is ∙ ap (λ (o : Outcome Listing ℕ). o .answer) (tree-listed room) in
       given .room-is ∙ ap (λ (o : Outcome Listing ℕ). o .room) (tree-listed room) ∙ passes rows (c .rows) (reachIn settings s rows attrs c) room (sym answer ∙ p) .3
 
   -- row j's two words
-  pub listing-places : (room : List ℕ) {r : Listing} {room′ : List ℕ} → Given (treeOf settings vendors sizes s rows attrs c room) r room′
+  pub listing-places : (room : List ℕ) {r : Listing} {room′ : List ℕ} → Given (listTree settings vendors sizes s rows attrs c room) r room′
       → r ≡ Listed (c .rows) → (j : ℕ) → j < c .rows
       → (getD room′ (j * placeWidth) 0 ≡ depth (c .rows) (reachIn settings s rows attrs c) j) × (getD room′ (j * placeWidth + 1) 0 ≡ parent (c .rows) (reachIn settings s rows attrs c) j)
   listing-places room {r} {room′} given p j h =
@@ -185,14 +185,14 @@ module _ (settings : Settings) (vendors sizes s rows₀ attrs₀ : List ℕ) (c 
   -- the child walk of any row, with room enough, gives exactly the non-null rows with that parent, in order
   pub walk-holds : Good (c .rows) (reachIn settings s rows attrs c) → NoneCross (c .rows) (reachIn settings s rows attrs c) → (i : ℕ) → i < c .rows → (kids : List ℕ)
       → length (childrenIn rows (c .rows) (reachIn settings s rows attrs c) i) ≤ length kids → {q : ChildRows} {kids′ : List ℕ}
-      → Given (children.childrenOf settings vendors sizes s rows attrs c (rowAt rows i .key) kids) q kids′
+      → Given (children.childrenOfKey settings vendors sizes s rows attrs c (rowAt rows i .key) kids) q kids′
       → (q ≡ child.Listed (length (childrenIn rows (c .rows) (reachIn settings s rows attrs c) i))) × (kids′ ≡ sets kids 0 (childrenIn rows (c .rows) (reachIn settings s rows attrs c) i))
-  unfolding children.childrenOf tested afterTests
+  unfolding children.childrenOfKey tested afterTests
   walk-holds good nest i l kids h {q} {kids′} given =
       let n : ℕ = c .rows in
       let all : Reaching n (reachIn settings s rows attrs c) = reaching (settings .endian) s rows attrs n in
       let nested : Nested n (reachIn settings s rows attrs c) = fault-none n (reachIn settings s rows attrs c) all (nests-exactly n (reachIn settings s rows attrs c) all .1 (good, nest)) in
-      let told : children.childrenOf settings vendors sizes s rows attrs c (rowAt rows i .key) kids
+      let told : children.childrenOfKey settings vendors sizes s rows attrs c (rowAt rows i .key) kids
       ≡ outcome (child.Listed (length (childrenIn rows n (reachIn settings s rows attrs c) i))) (sets kids 0 (childrenIn rows n (reachIn settings s rows attrs c) i)) =
       rw (tests-pass .0, tests-pass .1, table-holds) (children-given plain (settings .endian) attrs nested i l kids h)
       in

@@ -6,7 +6,7 @@ use Rattle.tables.specs.Inside.Find.{Rising}
 use Rattle.tree.specs.Inside.Passing.{chain}
 
 -- row i is in the table, and so is the end of its reach
-pub record Inside (rows : List ℕ) (n i end : ℕ) : Type 0 where
+pub record ReachInside (rows : List ℕ) (n i end : ℕ) : Type 0 where
   pub rising : Rising rows n
   pub there : i < n
   pub within : end ≤ n

@@ -19,13 +19,13 @@ module _ (n : ℕ) (reach : ℕ → ℕ) where
       b
 
   -- the first row at fault from row i on, where b is the first after row i
-  unfoldable pub faultAt : ℕ → ℕ → ℕ
-  faultAt i b = cond (eqb (reach i) 0) i (chain (reach i) b n (suc i))
+  unfoldable pub faultOfRow : ℕ → ℕ → ℕ
+  faultOfRow i b = cond (eqb (reach i) 0) i (chain (reach i) b n (suc i))
 
   -- from the last row back to row i, the k-th from the end
   unfoldable pub faultFrom : ℕ → ℕ → ℕ
   faultFrom i zero = i
-  faultFrom i (suc k) = faultAt i (faultFrom (suc i) k)
+  faultFrom i (suc k) = faultOfRow i (faultFrom (suc i) k)
 
 -- the open rows, the nearest first, without those whose reach has ended at row j
 unfoldable pub closing : (ℕ → ℕ) → ℕ → List ℕ → List ℕ

@@ -1,7 +1,7 @@
 use Rattle.blocks.specs.declared.modifiers.Modifiers.the-variants.{Refused}
 use borrow.Author.Tests.{not-true, not-false}
 use Rattle.blocks.proofs.Laws.Modifiers.{modifiersFrom, begin, unknown, again, done}
-use Rattle.blocks.specs.Modifiers.{modifiersOf}
+use Rattle.blocks.specs.Modifiers.{processModifiers}
 use borrow.Author.Needs.{needs}
 use Prim.Native.Nat.{_-_}
 use mathlib.Core.Path.{_≡_, ap, _∙_}
@@ -10,7 +10,7 @@ use Rattle.blocks.proofs.modifiers.process_modifiers.Statement.{stateme
 use Rattle.blocks.proofs.modifiers.process_modifiers.Tie as tie
 
 abbrev Inv-loop : tie.InvT-loop
-Inv-loop block pointer₀ i₀ pointer i = modifiersFrom pointer (drop i block) ≡ modifiersOf block
+Inv-loop block pointer₀ i₀ pointer i = modifiersFrom pointer (drop i block) ≡ processModifiers block
 
 abbrev μ-loop : tie.MeasureT-loop
 μ-loop block pointer₀ i₀ pointer i = length block - i

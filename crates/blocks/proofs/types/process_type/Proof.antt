@@ -1,5 +1,5 @@
 use Rattle.blocks.proofs.Laws.Types.{type-of, no-type, past-end}
-use Rattle.blocks.specs.Types.{typeAt, modFundType, modUDType}
+use Rattle.blocks.specs.Types.{processType, modFundType, modUDType}
 use borrow.Author.Needs.{needs}
 use mathlib.Core.Path.{ap, _∙_}
 use Rattle.blocks.proofs.types.process_type.Statement.{statement}
@@ -9,19 +9,19 @@ returns : tie.Need-returns
 returns c = past-end _ _ _ _ (c .before .if1 .taken) (c .refused-block .ensures)
 
 returns-2 : tie.Need-returns-2
-unfolding typeAt
+unfolding processType
 returns-2 c = type-of _ _ _ (c .before .match .keys1) (c .fund-type .ensures)
 
 returns-3 : tie.Need-returns-3
-unfolding typeAt
+unfolding processType
 returns-3 c = type-of _ _ _ (c .before .before .match .keys2) (c .mod-fund-type .ensures ∙ ap (modFundType _ _) (c .before .block2 .ensures))
 
 returns-4 : tie.Need-returns-4
-unfolding typeAt
+unfolding processType
 returns-4 c = type-of _ _ _ (c .before .match .keys3) (c .user-def-type .ensures)
 
 returns-5 : tie.Need-returns-5
-unfolding typeAt
+unfolding processType
 returns-5 c = type-of _ _ _ (c .before .before .match .keys4) (c .mod-u-d-type .ensures ∙ ap (modUDType _ _) (c .before .block22 .ensures))
 
 returns-6 : tie.Need-returns-6

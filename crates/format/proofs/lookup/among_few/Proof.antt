@@ -1,5 +1,5 @@
 use Rattle.format.proofs.Laws.Lookup.{scan-next, scan-end}
-use Rattle.format.specs.Lookup.{member}
+use Rattle.format.specs.Lookup.{isOn}
 use mathlib.Core.Bool.{_||_}
 use borrow.Author.Needs.{needs}
 use denote.Ref.{now}
@@ -10,7 +10,7 @@ use Rattle.format.proofs.lookup.among_few.Statement.{statement}
 use Rattle.format.proofs.lookup.among_few.Tie as tie
 
 abbrev Inv-loop : tie.InvT-loop
-Inv-loop list x found₀ i₀ found i = (found || member x (drop i list)) ≡ member x list
+Inv-loop list x found₀ i₀ found i = (found || isOn x (drop i list)) ≡ isOn x list
 
 abbrev μ-loop : tie.MeasureT-loop
 μ-loop list x found₀ i₀ found i = length list - i

@@ -1,5 +1,5 @@
-use Rattle.sizes.specs.Inside.Size.{typeFrom}
-use Rattle.layout.specs.Inside.All.{Told}
+use Rattle.sizes.specs.Inside.Size.{typeSizeFrom}
+use Rattle.layout.specs.Inside.All.{WholesTold}
 use Rattle.layout.proofs.Laws.All.{Counting, counting-begins, counting-asked, counting-on, counting-ends, told-none, told-more, told-all}
 use Prim.Native.Nat.{_-_}
 use mathlib.Core.Path.{_≡_, refl, _∙_}
@@ -10,8 +10,8 @@ use Rattle.layout.proofs.all.count_layouts.Tie as tie
 
 abbrev Inv-loop : tie.InvT-loop
 Inv-loop s settings sizes rows attrs n known kept told₀ counts₀ i₀ told counts i =
-    Counting settings s rows attrs n (typeFrom settings sizes s rows attrs n known 0) counts i
-    × (Told settings s rows attrs n (typeFrom settings sizes s rows attrs n known 0) i told × (length told ≡ length told₀))
+    Counting settings s rows attrs n (typeSizeFrom settings sizes s rows attrs n known 0) counts i
+    × (WholesTold settings s rows attrs n (typeSizeFrom settings sizes s rows attrs n known 0) i told × (length told ≡ length told₀))
 
 abbrev μ-loop : tie.MeasureT-loop
 μ-loop s settings sizes rows attrs n known kept told₀ counts₀ i₀ told counts i = n - i

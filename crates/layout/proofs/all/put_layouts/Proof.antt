@@ -1,4 +1,4 @@
-use Rattle.sizes.specs.Inside.Size.{typeFrom}
+use Rattle.sizes.specs.Inside.Size.{typeSizeFrom}
 use Rattle.layout.proofs.Laws.All.{Putting, putting-begins, putting-asked, putting-on, putting-ends}
 use Prim.Native.Nat.{_-_}
 use borrow.Author.Needs.{needs}
@@ -7,7 +7,7 @@ use Rattle.layout.proofs.all.put_layouts.Tie as tie
 
 abbrev Inv-loop : tie.InvT-loop
 Inv-loop s settings sizes rows attrs n known kept told structures₀ members₀ counts₀ i₀ structures members counts i =
-    Putting settings s rows attrs n (typeFrom settings sizes s rows attrs n known 0) structures₀ members₀ structures members counts i
+    Putting settings s rows attrs n (typeSizeFrom settings sizes s rows attrs n known 0) structures₀ members₀ structures members counts i
 
 abbrev μ-loop : tie.MeasureT-loop
 μ-loop s settings sizes rows attrs n known kept told structures₀ members₀ counts₀ i₀ structures members counts i = n - i

@@ -2,7 +2,7 @@ use Rattle.format.specs.declared.refusal.Reason.the-variants as reason
 use Rattle.tables.specs.Check.{refusedAt}
 use Rattle.tables.specs.declared.row.Row.{Row}
 use Rattle.sizes.specs.declared.sized.Sized.the-variants.{Refused}
-use Rattle.layout.specs.Inside.Levels.{lastLevel, Filled}
+use Rattle.layout.specs.Inside.Levels.{lastLevel, KnownUpTo}
 use Rattle.layout.proofs.Laws.Levels.{filled-none, filled-more, filled-all}
 use borrow.Author.Needs.{needs}
 use Prim.Native.Nat.{_-_}
@@ -12,7 +12,7 @@ use Rattle.layout.proofs.levels.last_level.Statement.{statement}
 use Rattle.layout.proofs.levels.last_level.Tie as tie
 
 abbrev Inv-loop : tie.InvT-loop
-Inv-loop rows n known₀ i₀ known i = Filled (lastLevel rows) n i known × (length known ≡ length known₀)
+Inv-loop rows n known₀ i₀ known i = KnownUpTo (lastLevel rows) n i known × (length known ≡ length known₀)
 
 abbrev μ-loop : tie.MeasureT-loop
 μ-loop rows n known₀ i₀ known i = n - i

@@ -3,7 +3,7 @@ use Rattle.links.specs.Inside.Kids.{kidsFrom, kidsOf}
 use Rattle.sizes.proofs.Laws.Walking.{walking-asked, walking-ending, walking-less}
 use Rattle.layout.proofs.Laws.Layout.{Laying′, laying-begins, laying-asked, laying-on, laying-refused, laying-ends}
 use Rattle.layout.specs.Inside.Layout.{childrenLaid}
-use Rattle.sizes.specs.Inside.Size.{typeFrom}
+use Rattle.sizes.specs.Inside.Size.{typeSizeFrom}
 use borrow.Author.Needs.{needs}
 use mathlib.Core.Path.{_∙_}
 use lib.ListN.{length}
@@ -12,8 +12,8 @@ use Rattle.layout.proofs.one.lay_children.Tie as tie
 
 abbrev Inv-loop : tie.InvT-loop
 Inv-loop s settings sizes rows attrs n known kept levels bounded i room₀ e end c₀ k₀ most₀ room c k most =
-    Laying′ settings s rows attrs n end (typeFrom settings sizes s rows attrs n known levels) bounded
-    (childrenLaid settings s rows attrs n (typeFrom settings sizes s rows attrs n known levels) bounded 0 (kidsOf (settings .endian) s rows attrs n i)) room₀ room c k most
+    Laying′ settings s rows attrs n end (typeSizeFrom settings sizes s rows attrs n known levels) bounded
+    (childrenLaid settings s rows attrs n (typeSizeFrom settings sizes s rows attrs n known levels) bounded 0 (kidsOf (settings .endian) s rows attrs n i)) room₀ room c k most
 
 abbrev μ-loop : tie.MeasureT-loop
 μ-loop s settings sizes rows attrs n known kept levels bounded i room₀ e end c₀ k₀ most₀ room c k most = length (kidsFrom (settings .endian) s rows attrs n end c)

@@ -1,4 +1,4 @@
-use Rattle.records.specs.Member.{memberBy}
+use Rattle.records.specs.Member.{processStructureMemberTag}
 use Rattle.records.proofs.Laws.Record.{record-there}
 use Rattle.tables.proofs.Laws.Keyed.{no-row}
 use Rattle.links.proofs.Laws.Typed.{keyed-asked}
@@ -10,11 +10,11 @@ member-at-requires : tie.Need-member-at-requires
 member-at-requires c κs = keyed-asked _ _ _ _ _ _ _ _ (c .before .before .before .row-of .ensures) (c .before .i .given .1)
 
 returns : tie.Need-returns
-unfolding memberBy
+unfolding processStructureMemberTag
 returns c = record-there _ _ _ _ _ _ _ _ _ _ (c .before .before .before .before .row-of .ensures) (c .before .before .i .given .1) (c .member-at .ensures)
 
 returns-2 : tie.Need-returns-2
-unfolding memberBy
+unfolding processStructureMemberTag
 returns-2 c = no-row _ _ _ _ _ _ _ _ (c .before .before .before .row-of .ensures) _ _ (c .before .why .given .1)
 
 pub process-structure-member-tag-spec : {M : Type 1} → statement M

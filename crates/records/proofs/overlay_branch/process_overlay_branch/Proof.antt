@@ -1,4 +1,4 @@
-use Rattle.records.specs.OverlayBranch.{overlayBy}
+use Rattle.records.specs.OverlayBranch.{processOverlayBranch}
 use Rattle.records.proofs.Laws.Record.{record-there}
 use Rattle.tables.proofs.Laws.Keyed.{no-row}
 use borrow.Author.Needs.{needs}
@@ -6,11 +6,11 @@ use Rattle.records.proofs.overlay_branch.process_overlay_branch.Stateme
 use Rattle.records.proofs.overlay_branch.process_overlay_branch.Tie as tie
 
 returns : tie.Need-returns
-unfolding overlayBy
+unfolding processOverlayBranch
 returns c = record-there _ _ _ _ _ _ _ _ _ _ (c .before .before .before .before .row-of .ensures) (c .before .before .i .given .1) (c .overlay-at .ensures)
 
 returns-2 : tie.Need-returns-2
-unfolding overlayBy
+unfolding processOverlayBranch
 returns-2 c = no-row _ _ _ _ _ _ _ _ (c .before .before .before .row-of .ensures) _ _ (c .before .why .given .1)
 
 pub process-overlay-branch-spec : {M : Type 1} → statement M

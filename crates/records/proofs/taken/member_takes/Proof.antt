@@ -1,5 +1,5 @@
 use Rattle.format.proofs.Laws.Lookup.{unlisted}
-use Rattle.format.specs.Lookup.{member}
+use Rattle.format.specs.Lookup.{isOn}
 use Rattle.records.specs.Taken.{takenBy}
 use Rattle.records.specs.declared.taken.Record.the-variants.{Member}
 use Prim.Native.Nat.{ℕ, _-_}
@@ -9,14 +9,14 @@ use Rattle.records.proofs.taken.member_takes.Statement.{statement}
 use Rattle.records.proofs.taken.member_takes.Tie as tie
 
 abbrev taken : ℕ → Bool
-taken number = member number (takenBy Member)
+taken number = isOn number (takenBy Member)
 
 returns-13 : tie.Need-returns-13
-unfolding takenBy member
+unfolding takenBy isOn
 returns-13 c = ap taken (sym (c .match .keys13))
 
 pub member-takes-spec : {M : Type 1} → statement M
-unfolding takenBy member
+unfolding takenBy isOn
 member-takes-spec =
     tie.close
     (tie.spec

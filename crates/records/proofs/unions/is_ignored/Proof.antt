@@ -1,17 +1,17 @@
 use Rattle.format.proofs.Laws.Lookup.{unlisted}
 use Rattle.records.specs.Unions.{ignored, ignoredKinds}
-use Rattle.format.specs.Lookup.{member}
+use Rattle.format.specs.Lookup.{isOn}
 use Prim.Native.Nat.{_-_}
 use mathlib.Core.Path.{sym, ap}
 use Rattle.records.proofs.unions.is_ignored.Statement.{statement}
 use Rattle.records.proofs.unions.is_ignored.Tie as tie
 
 returns-8 : tie.Need-returns-8
-unfolding ignored ignoredKinds member
+unfolding ignored ignoredKinds isOn
 returns-8 c = ap ignored (sym (c .match .keys8))
 
 pub is-ignored-spec : {M : Type 1} → statement M
-unfolding ignored ignoredKinds member
+unfolding ignored ignoredKinds isOn
 is-ignored-spec =
     tie.close
     (tie.spec

@@ -1,4 +1,4 @@
-use Rattle.records.specs.Unions.{unionIs, sizedBy}
+use Rattle.records.specs.Unions.{unionIs, unionSized}
 use Rattle.records.proofs.Laws.Fields.{byte-size-there, byte-size-missing}
 use Rattle.records.specs.declared.unions.UnionWhole.the-variants as whole
 use borrow.Author.Needs.{needs}
@@ -7,11 +7,11 @@ use Rattle.records.proofs.unions.union_sized.Statement.{statement}
 use Rattle.records.proofs.unions.union_sized.Tie as tie
 
 returns : tie.Need-returns
-unfolding sizedBy
+unfolding unionSized
 returns c = byte-size-there whole.Refused (unionIs (c .before .before .before .before .before .before .before .before .args .members)) _ _ _ (c .before .before .before .before .before .last-word .ensures) (c .before .before .before .before .needs .ensures) (c .before .before .size .given .1) (c .last-name .ensures)
 
 returns-2 : tie.Need-returns-2
-unfolding sizedBy
+unfolding unionSized
 returns-2 c = byte-size-missing whole.Refused (unionIs (c .before .before .before .before .before .before .before .args .members)) _ _ _ (c .before .before .before .before .last-word .ensures) (c .before .before .before .needs .ensures) (c .before .why .given .1)
 
 pub union-sized-spec : {M : Type 1} → statement M

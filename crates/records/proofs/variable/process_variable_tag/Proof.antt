@@ -1,4 +1,4 @@
-use Rattle.records.specs.Variable.{variableBy}
+use Rattle.records.specs.Variable.{processVariableTag}
 use Rattle.records.proofs.Laws.Record.{record-there}
 use Rattle.tables.proofs.Laws.Keyed.{no-row}
 use Rattle.links.proofs.Laws.Typed.{keyed-asked}
@@ -10,11 +10,11 @@ variable-at-requires : tie.Need-variable-at-requires
 variable-at-requires c κs = keyed-asked _ _ _ _ _ _ _ _ (c .before .before .before .row-of .ensures) (c .before .i .given .1)
 
 returns : tie.Need-returns
-unfolding variableBy
+unfolding processVariableTag
 returns c = record-there _ _ _ _ _ _ _ _ _ _ (c .before .before .before .before .row-of .ensures) (c .before .before .i .given .1) (c .variable-at .ensures)
 
 returns-2 : tie.Need-returns-2
-unfolding variableBy
+unfolding processVariableTag
 returns-2 c = no-row _ _ _ _ _ _ _ _ (c .before .before .before .row-of .ensures) _ _ (c .before .why .given .1)
 
 pub process-variable-tag-spec : {M : Type 1} → statement M

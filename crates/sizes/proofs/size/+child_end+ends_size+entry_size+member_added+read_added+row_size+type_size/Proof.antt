@@ -1,6 +1,6 @@
 use Rattle.links.proofs.Laws.Kids.{ends-at}
 use Rattle.links.specs.Inside.Kids.{kidsFrom, kidsOf}
-use Rattle.sizes.specs.Inside.Size.{endsOver, typeFrom}
+use Rattle.sizes.specs.Inside.Size.{endsOver, typeSizeFrom}
 use Rattle.sizes.proofs.Laws.Walking.{Walking, walking-begins, walking-ends, walking-asked, walking-stops, walking-ending, walking-less, walking-on}
 use Rattle.sizes.proofs.Laws.Kept.{member-kept, kind-is}
 use Rattle.sizes.proofs.Laws.Size.{ends-done, ends-next, ends-refused, added-own, added-typed, added-refused, child-other, child-added, child-refused, found-asked, entry-known, entry-deep, entry-row, entry-missing, type-pointer, type-fundamental, type-user, row-sized, row-element, row-sizeless, row-ends, row-refused, ends-asked}
@@ -148,8 +148,8 @@ child-end-returns-3 t c = child-refused _ _ _ _ _ _ _ _ (c .before .before .befo
 
 abbrev ends-size-Inv-loop : ends-size-lts.InvT-loop
 ends-size-Inv-loop s settings sizes rows attrs n known kept levels i e end c₀ largest₀ c largest =
-    Walking (settings .endian) s rows attrs n end (endsOver settings s rows attrs n (typeFrom settings sizes s rows attrs n known levels) largest)
-    (endsOver settings s rows attrs n (typeFrom settings sizes s rows attrs n known levels) 0 (kidsOf (settings .endian) s rows attrs n i)) c
+    Walking (settings .endian) s rows attrs n end (endsOver settings s rows attrs n (typeSizeFrom settings sizes s rows attrs n known levels) largest)
+    (endsOver settings s rows attrs n (typeSizeFrom settings sizes s rows attrs n known levels) 0 (kidsOf (settings .endian) s rows attrs n i)) c
 
 abbrev ends-size-μ-loop : ends-size-lts.MeasureT-loop
 ends-size-μ-loop s settings sizes rows attrs n known kept levels i e end c₀ largest₀ c largest = length (kidsFrom (settings .endian) s rows attrs n end c)
@@ -263,18 +263,18 @@ row-size-returns-5 : (t : ℕ) → row-size-lts.Need-returns-5 (row-size-G t) (r
 row-size-returns-5 t c = row-refused _ _ _ _ _ _ (c .before .before .before .prepare-row .ensures) _ (c .before .why2 .given .1)
 
 type-size-returns : (t : ℕ) → type-size-lts.Need-returns (type-size-G t) (type-size-at t) type-size.Post
-unfolding typeFrom
+unfolding typeSizeFrom
 type-size-returns t c = type-pointer _ _ _ (c .if1 .taken)
 
 type-size-entry-size-requires : (t : ℕ) → type-size-lts.Need-entry-size-requires (type-size-G t) (type-size-at t) type-size.Post
 type-size-entry-size-requires t c κs = (omega (arith, c .before .before .before .before .before .before .before .before .before .before .pre .0), c .before .before .before .before .before .before .before .before .before .before .pre .1)
 
 type-size-returns-2 : (t : ℕ) → type-size-lts.Need-returns-2 (type-size-G t) (type-size-at t) type-size.Post
-unfolding typeFrom
+unfolding typeSizeFrom
 type-size-returns-2 t c = type-fundamental _ _ _ (c .before .before .before .before .if1 .left) (c .before .before .kind .given .1) (c .fundamental-size .ensures)
 
 type-size-returns-3 : (t : ℕ) → type-size-lts.Need-returns-3 (type-size-G t) (type-size-at t) type-size.Post
-unfolding typeFrom
+unfolding typeSizeFrom
 type-size-returns-3 t c = type-user _ _ _ (c .before .before .before .before .if1 .left) (c .before .before .kind2 .given .1) (c .entry-size .ensures)
 
 pub +child-end+ends-size+entry-size+member-added+read-added+row-size+type-size-spec : {M : Type 1} → statement M
