@@ -12,6 +12,7 @@ ghost use mathlib.Core.Path.{_≡_};
 ghost use Prim.Native.Nat.{suc};
 ghost use lib.ListN.{length};
 ghost use mathlib.Core.Bool.{false};
+ghost use Rattle.tables.specs.Table.{table};
 ghost use Rattle.format.specs.Settings.{plays};
 ghost use Rattle.entries.specs.Run.{runEnds, readRun};
 ghost use Rattle.entries.specs.Inside.Promise.{RunReady, RunRead};

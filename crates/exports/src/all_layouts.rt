@@ -10,6 +10,7 @@ use layout::all::AllLayouts;
 use layout::all::LayoutCounts;
 use layout::all::all_layouts;
 ghost use mathlib.Core.Path.{_≡_};
+ghost use Rattle.tables.specs.Table.{table};
 ghost use Rattle.layout.specs.All.{allLayouts};
 ghost use Rattle.exports.specs.Crossing.{settingsFrom, countsFrom, layoutsAs, layoutsTold, LayoutsCross};
 
@@ -55,8 +56,7 @@ pub extern "C" fn capbeacon_all_layouts(
     member_count: &mut u64,
 ) -> u32
     ensures { λ r. ⌜
-        LayoutsCross (allLayouts (settingsFrom endian erased producer «global_ref» mangled «overlay_name» «overlay_id») (now (vendors .entry))
-        (now (sizes .entry)) (now (s .entry)) (now (rows .entry)) (now (attrs .entry)) (countsFrom «row_count» «attr_count») (now (structures .entry))
+        LayoutsCross (allLayouts (table (now (s .entry)) (settingsFrom endian erased producer «global_ref» mangled «overlay_name» «overlay_id») (now (vendors .entry)) (now (sizes .entry)) (now (rows .entry)) (now (attrs .entry)) (countsFrom «row_count» «attr_count»)) (now (structures .entry))
         (now (members .entry))) r (now (place .exit)) (now («structure_count» .exit)) (now («member_count» .exit)) (now (structures .exit))
         (now (members .exit))
         ⌝ }

@@ -9,6 +9,7 @@ use format::refusal::number_of;
 use tree::listing::Listing;
 use tree::listing::list_tree;
 ghost use mathlib.Core.Path.{_≡_};
+ghost use Rattle.tables.specs.Table.{table};
 ghost use Rattle.tree.specs.Tree.{listTree};
 ghost use Rattle.exports.specs.Crossing.{settingsFrom, countsFrom, treeTold, TreeCrosses};
 
@@ -44,8 +45,7 @@ pub extern "C" fn capbeacon_list_tree(
     listed: &mut u64,
 ) -> u32
     ensures { λ r. ⌜
-        TreeCrosses (listTree (settingsFrom endian erased producer «global_ref» mangled «overlay_name» «overlay_id») (now (vendors .entry))
-        (now (sizes .entry)) (now (s .entry)) (now (rows .entry)) (now (attrs .entry)) (countsFrom «row_count» «attr_count») (now (room .entry))) r
+        TreeCrosses (listTree (table (now (s .entry)) (settingsFrom endian erased producer «global_ref» mangled «overlay_name» «overlay_id») (now (vendors .entry)) (now (sizes .entry)) (now (rows .entry)) (now (attrs .entry)) (countsFrom «row_count» «attr_count»)) (now (room .entry))) r
         (now (place .exit)) (now (listed .exit)) (now (room .exit))
         ⌝ }
 {

@@ -10,6 +10,7 @@ use layout::one::Layout;
 use layout::one::LayoutRead;
 use layout::one::layout_of_key;
 ghost use mathlib.Core.Path.{_≡_};
+ghost use Rattle.tables.specs.Table.{table};
 ghost use Rattle.layout.specs.Layout.{layoutOfKey};
 ghost use Rattle.exports.specs.Crossing.{settingsFrom, countsFrom, laidAs, layoutTold, LayoutCrosses};
 
@@ -61,8 +62,7 @@ pub extern "C" fn capbeacon_layout_of_key(
     members: &mut u64,
 ) -> u32
     ensures { λ r. ⌜
-        LayoutCrosses (layoutOfKey (settingsFrom endian erased producer «global_ref» mangled «overlay_name» «overlay_id») (now (vendors .entry))
-        (now (sizes .entry)) (now (s .entry)) (now (rows .entry)) (now (attrs .entry)) (countsFrom «row_count» «attr_count») key (now (room .entry)))
+        LayoutCrosses (layoutOfKey (table (now (s .entry)) (settingsFrom endian erased producer «global_ref» mangled «overlay_name» «overlay_id») (now (vendors .entry)) (now (sizes .entry)) (now (rows .entry)) (now (attrs .entry)) (countsFrom «row_count» «attr_count»)) key (now (room .entry)))
         r (now (place .exit)) (now (row .exit)) (now (size .exit)) (now (members .exit)) (now (room .exit))
         ⌝ }
 {

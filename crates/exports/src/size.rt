@@ -7,6 +7,7 @@ use crate::told::told_as;
 use sizes::size::size_of_key;
 use sizes::sized::Sized;
 ghost use mathlib.Core.Path.{_≡_};
+ghost use Rattle.tables.specs.Table.{table};
 ghost use Rattle.sizes.specs.Size.{sizeOfKey};
 ghost use Rattle.exports.specs.Crossing.{settingsFrom, countsFrom, sizeTold, SizeCrosses};
 
@@ -41,8 +42,7 @@ pub extern "C" fn capbeacon_size_of_key(
     size: &mut u64,
 ) -> u32
     ensures { λ r. ⌜
-        SizeCrosses (sizeOfKey (settingsFrom endian erased producer «global_ref» mangled «overlay_name» «overlay_id») (now (vendors .entry))
-        (now (sizes .entry)) (now (s .entry)) (now (rows .entry)) (now (attrs .entry)) (countsFrom «row_count» «attr_count») key) r
+        SizeCrosses (sizeOfKey (table (now (s .entry)) (settingsFrom endian erased producer «global_ref» mangled «overlay_name» «overlay_id») (now (vendors .entry)) (now (sizes .entry)) (now (rows .entry)) (now (attrs .entry)) (countsFrom «row_count» «attr_count»)) key) r
         (now (place .exit)) (now (size .exit))
         ⌝ }
 {

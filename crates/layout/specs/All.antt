@@ -6,20 +6,19 @@ use mathlib.Core.List.{List, [], _∷_, _++_}
 use lib.ListN.{length}
 use lib.Seq.{sets}
 use lib.Dec.{leb}
+use Rattle.tables.specs.Table.{Table}
 use Rattle.lent.specs.Outcome.{Outcomes, outcomes}
 use Rattle.format.specs.AttributeKind as attribute
-use Rattle.format.specs.Limits.{depthLimit}
 use Rattle.format.specs.Refusal.{numberOf}
 use Rattle.format.specs.declared.settings.Settings.{Settings}
 use Rattle.blocks.specs.declared.types.Type.{«Type»}
 use Rattle.tables.specs.Row.{rowAt}
 use Rattle.tables.specs.Check.{tested}
-use Rattle.tables.specs.declared.row.Counts.{Counts}
 use Rattle.records.specs.Scan.{runOf}
 use Rattle.records.specs.Fields.{nameOf}
 use Rattle.records.specs.MemberWords.{namePlace, nameLength}
 use Rattle.records.specs.declared.fields.Name.{Name}
-use Rattle.sizes.specs.Size.{shapeOf, typeSize}
+use Rattle.sizes.specs.Size.{innerSize, shapeOf}
 use Rattle.layout.specs.Layout.{Laid, Lay, laid, unlaid, rowLay, layoutAt, laidWords, laidWidth}
 use Rattle.sizes.specs.Size.{isStructure}
 use Rattle.sizes.specs.declared.sized.Sized.{Sized}
@@ -100,8 +99,8 @@ layoutsInto structures members xs =
     (outcomes (all.Room (countsOf xs)) structures members)
 
 -- all layouts of a table; each structure is depth 1: the entries that its members name are depth 2
-unfoldable pub allLayouts : Settings → List ℕ → List ℕ → List ℕ → List ℕ → List ℕ → Counts → List ℕ → List ℕ → Outcomes AllLayouts ℕ ℕ
-allLayouts settings vendors sizes s rows attrs counts structures members =
-    tested settings vendors sizes s rows attrs counts (λ why. outcomes (all.Refused why) structures members)
+unfoldable pub allLayouts : Table → List ℕ → List ℕ → Outcomes AllLayouts ℕ ℕ
+allLayouts t structures members =
+    tested t (λ why. outcomes (all.Refused why) structures members)
     (layoutsInto structures members
-    (structuresFrom settings s rows attrs (counts .rows) (typeSize settings sizes s rows attrs (counts .rows) (depthLimit - 1)) 0 (counts .rows)))
+    (structuresFrom (t .settings) (t .section) (t .rows) (t .attrs) (t .counts .rows) (innerSize t) 0 (t .counts .rows)))

@@ -8,16 +8,15 @@ use mathlib.Core.List.{List, [], _∷_}
 use lib.ListN.{length}
 use lib.Seq.{sets}
 use lib.Dec.{leb}
+use Rattle.tables.specs.Table.{Table}
 use Rattle.lent.specs.Outcome.{Outcome, outcome}
 use Rattle.format.specs.AttributeKind as attribute
-use Rattle.format.specs.Limits.{depthLimit}
 use Rattle.format.specs.declared.settings.Settings.{Settings}
 use Rattle.format.specs.declared.refusal.Refusal.{Refusal}
 use Rattle.format.specs.declared.refusal.Reason.the-variants as reason
 use Rattle.blocks.specs.declared.types.Type.{«Type»}
 use Rattle.tables.specs.Row.{rowAt}
 use Rattle.tables.specs.Check.{refusedAt}
-use Rattle.tables.specs.declared.row.Counts.{Counts}
 use Rattle.tables.specs.Keyed.{inRowOfKey}
 use Rattle.records.specs.Scan.{runOf}
 use Rattle.records.specs.Fields.{wordOf}
@@ -25,7 +24,7 @@ use Rattle.records.specs.MemberWords.{namePlace, nameLength}
 use Rattle.records.specs.Unions.{Placed, Members, members, membersRefused}
 use Rattle.records.specs.declared.fields.Word.{Word}
 use Rattle.records.specs.declared.fields.Word.the-variants as word
-use Rattle.sizes.specs.Size.{isStructure, endThen, memberSize, membersOf, shapeOf, typeSize}
+use Rattle.sizes.specs.Size.{innerSize, isStructure, endThen, memberSize, membersOf, shapeOf}
 use Rattle.sizes.specs.declared.prepare.Shape.{Shape}
 use Rattle.sizes.specs.declared.sized.Sized.{Sized}
 use Rattle.sizes.specs.declared.sized.Sized.the-variants.{Is, Refused}
@@ -134,9 +133,9 @@ layoutInto room lay (whole.Is x) =
 layoutInto room lay (whole.Refused why) = outcome (layout.Refused why) room
 
 -- the layout of a key's entry, which is depth 1: the entries that its members name are depth 2
-unfoldable pub layoutOfKey : Settings → List ℕ → List ℕ → List ℕ → List ℕ → List ℕ → Counts → ℕ → List ℕ → Outcome LayoutRead ℕ
-layoutOfKey settings vendors sizes s rows attrs counts key room =
-    inRowOfKey settings vendors sizes s rows attrs counts key (λ why. outcome (layout.Refused why) room)
+unfoldable pub layoutOfKey : Table → ℕ → List ℕ → Outcome LayoutRead ℕ
+layoutOfKey t key room =
+    inRowOfKey t key (λ why. outcome (layout.Refused why) room)
     (λ i.
-    layoutInto room (rowLay settings s rows attrs (counts .rows) (typeSize settings sizes s rows attrs (counts .rows) (depthLimit - 1)) i)
-    (layoutAt settings s rows attrs (counts .rows) (typeSize settings sizes s rows attrs (counts .rows) (depthLimit - 1)) i))
+    layoutInto room (rowLay (t .settings) (t .section) (t .rows) (t .attrs) (t .counts .rows) (innerSize t) i)
+    (layoutAt (t .settings) (t .section) (t .rows) (t .attrs) (t .counts .rows) (innerSize t) i))

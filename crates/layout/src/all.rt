@@ -27,6 +27,7 @@ ghost use mathlib.Core.Path.{_≡_};
 ghost use Prim.Native.Nat.{_*_, _≤_};
 ghost use lib.ListN.{length};
 ghost use lib.Seq.{sets};
+ghost use Rattle.tables.specs.Table.{table};
 ghost use Rattle.lent.specs.Outcome.{BothGiven};
 ghost use Rattle.sizes.specs.Size.{typeSize};
 ghost use Rattle.sizes.specs.Inside.Size.{TableReady, typeSizeFrom};
@@ -446,7 +447,7 @@ pub fn all_layouts(
     members: &mut [u64],
 ) -> AllLayouts
     ensures { λ r. ⌜
-        BothGiven (allLayouts settings (now (vendors .entry)) (now (sizes .entry)) (now (s .entry)) (now (rows .entry)) (now (attrs .entry)) counts
+        BothGiven (allLayouts (table (now (s .entry)) settings (now (vendors .entry)) (now (sizes .entry)) (now (rows .entry)) (now (attrs .entry)) counts)
         (now (structures .entry)) (now (members .entry))) r (now (structures .exit)) (now (members .exit))
         ⌝ }
 {

@@ -32,6 +32,7 @@ ghost use mathlib.Core.Path.{_≡_};
 ghost use Prim.Native.Nat.{_+_, _*_, _^_, _<_};
 ghost use lib.Seq.{sets};
 ghost use mathlib.Core.List.{[], _∷_};
+ghost use Rattle.tables.specs.Table.{table};
 ghost use Rattle.lent.specs.Outcome.{Given};
 ghost use Rattle.records.specs.Inside.Enumeration.{AskedShort};
 ghost use Rattle.tables.specs.Row.{rowAt};
@@ -442,7 +443,7 @@ pub fn layout_of_key(
     room: &mut [u64],
 ) -> LayoutRead
     ensures { λ r. ⌜
-        Given (layoutOfKey settings (now (vendors .entry)) (now (sizes .entry)) (now (s .entry)) (now (rows .entry)) (now (attrs .entry)) counts key
+        Given (layoutOfKey (table (now (s .entry)) settings (now (vendors .entry)) (now (sizes .entry)) (now (rows .entry)) (now (attrs .entry)) counts) key
         (now (room .entry))) r (now (room .exit))
         ⌝ }
 {

@@ -5,13 +5,12 @@ use mathlib.Core.List.{List}
 use lib.ListN.{length}
 use lib.Seq.{sets}
 use lib.Dec.{leb}
+use Rattle.tables.specs.Table.{Table}
 use Rattle.lent.specs.Outcome.{Outcome, outcome}
 use Rattle.numbers.specs.declared.Endian.{Endian}
-use Rattle.format.specs.declared.settings.Settings.{Settings}
 use Rattle.format.specs.declared.refusal.Reason.the-variants as reason
 use Rattle.tables.specs.Find.{rowOfKey}
 use Rattle.tables.specs.Check.{refusedAt, tested}
-use Rattle.tables.specs.declared.row.Counts.{Counts}
 use Rattle.tables.specs.declared.find.Found.{Found}
 use Rattle.tables.specs.declared.find.Found.the-variants.{At, Nothing}
 use Rattle.links.specs.Walk.{Walk, ends, endless}
@@ -32,7 +31,7 @@ childrenBy e s rows attrs n key room (At i) = given rows key room (childWalk e s
 childrenBy e s rows attrs n key room Nothing = outcome (Refused (refusedAt key reason.Entry)) room
 
 -- `children`: the tests, then the row of the key
-unfoldable pub childrenOfKey : Settings → List ℕ → List ℕ → List ℕ → List ℕ → List ℕ → Counts → ℕ → List ℕ → Outcome ChildRows ℕ
-childrenOfKey settings vendors sizes s rows attrs counts key room =
-    tested settings vendors sizes s rows attrs counts (λ why. outcome (Refused why) room)
-    (childrenBy (settings .endian) s rows attrs (counts .rows) key room (rowOfKey rows (counts .rows) key))
+unfoldable pub childrenOfKey : Table → ℕ → List ℕ → Outcome ChildRows ℕ
+childrenOfKey t key room =
+    tested t (λ why. outcome (Refused why) room)
+    (childrenBy (t .settings .endian) (t .section) (t .rows) (t .attrs) (t .counts .rows) key room (rowOfKey (t .rows) (t .counts .rows) key))

@@ -1,13 +1,11 @@
 -- The next row and the sibling of the row of a key, the public calls: 1, 2, 3; 11 for a key without a row; else a row number, or nothing.
 use Prim.Native.Nat.{ℕ}
 use mathlib.Core.Bool.{cond}
-use mathlib.Core.List.{List}
 use lib.Dec.{ltb}
-use Rattle.format.specs.declared.settings.Settings.{Settings}
+use Rattle.tables.specs.Table.{Table}
 use Rattle.format.specs.declared.refusal.Reason.the-variants as reason
 use Rattle.tables.specs.Find.{rowOfKey}
 use Rattle.tables.specs.Check.{refusedAt, tested}
-use Rattle.tables.specs.declared.row.Counts.{Counts}
 use Rattle.tables.specs.declared.find.Found.{Found}
 use Rattle.tables.specs.declared.find.Found.the-variants.{At, Nothing}
 use Rattle.links.specs.Links.{nextRow, siblingRow}
@@ -25,13 +23,14 @@ neighbourBy to n key (At i) = answerOf n (to i)
 neighbourBy to n key Nothing = Refused (refusedAt key reason.Entry)
 
 -- the next row of the row of a key
-unfoldable pub nextTag : Settings → List ℕ → List ℕ → List ℕ → List ℕ → List ℕ → Counts → ℕ → Neighbour
-nextTag settings vendors sizes s rows attrs counts key =
-    tested settings vendors sizes s rows attrs counts Refused
-    (neighbourBy (λ i. nextRow rows (counts .rows) i) (counts .rows) key (rowOfKey rows (counts .rows) key))
+unfoldable pub nextTag : Table → ℕ → Neighbour
+nextTag t key =
+    tested t Refused
+    (neighbourBy (λ i. nextRow (t .rows) (t .counts .rows) i) (t .counts .rows) key (rowOfKey (t .rows) (t .counts .rows) key))
 
 -- its sibling
-unfoldable pub nextSibling : Settings → List ℕ → List ℕ → List ℕ → List ℕ → List ℕ → Counts → ℕ → Neighbour
-nextSibling settings vendors sizes s rows attrs counts key =
-    tested settings vendors sizes s rows attrs counts Refused
-    (neighbourBy (λ i. siblingRow (settings .endian) s rows attrs (counts .rows) i) (counts .rows) key (rowOfKey rows (counts .rows) key))
+unfoldable pub nextSibling : Table → ℕ → Neighbour
+nextSibling t key =
+    tested t Refused
+    (neighbourBy (λ i. siblingRow (t .settings .endian) (t .section) (t .rows) (t .attrs) (t .counts .rows) i) (t .counts .rows) key
+    (rowOfKey (t .rows) (t .counts .rows) key))

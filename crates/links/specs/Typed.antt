@@ -3,6 +3,7 @@ use Prim.Native.Nat.{ℕ}
 use mathlib.Core.Path.{_≡_}
 use mathlib.Core.Bool.{cond}
 use mathlib.Core.List.{List, [], _∷_}
+use Rattle.tables.specs.Table.{Table}
 use Rattle.numbers.specs.declared.Endian.{Endian}
 use Rattle.numbers.specs.declared.unsigned.Read16.{Read16}
 use Rattle.numbers.specs.declared.unsigned.Read16.the-variants as read16
@@ -12,12 +13,10 @@ use Rattle.format.specs.FormKind.{isForm}
 use Rattle.format.specs.Refusal.{numberOf}
 use Rattle.format.specs.declared.form_kind.FormKind.{FormKind}
 use Rattle.format.specs.declared.form_kind.FormKind.the-variants.{Addr, Ref, Block2, Block4, Data2, Data4, Data8, String, Undefined}
-use Rattle.format.specs.declared.settings.Settings.{Settings}
 use Rattle.attributes.specs.Decode.{addressAt, referenceAt, data2At, data4At}
 use Rattle.attributes.specs.Parts.{blockAt, textAt}
 use Rattle.attributes.specs.declared.decode.Endians.{Endians}
 use Rattle.tables.specs.Row.{attrAt, endsOf}
-use Rattle.tables.specs.declared.row.Counts.{Counts}
 use Rattle.tables.specs.declared.find.Found.{Found}
 use Rattle.tables.specs.declared.find.Found.the-variants.{At, Nothing}
 use Rattle.tables.specs.Keyed.{inRowOfKey}
@@ -42,9 +41,9 @@ unfoldable pub lookedIn : List ℕ → List ℕ → Wanted → ℕ → Looked
 lookedIn rows attrs w i = asLooked attrs (attributeOf rows attrs i w)
 
 -- the first that is wanted in the row of a key
-unfoldable pub attributeOfKey : Settings → List ℕ → List ℕ → List ℕ → List ℕ → List ℕ → Counts → ℕ → Wanted → Looked
-attributeOfKey settings vendors sizes s rows attrs counts key w =
-    inRowOfKey settings vendors sizes s rows attrs counts key looked.Refused (lookedIn rows attrs w)
+unfoldable pub attributeOfKey : Table → ℕ → Wanted → Looked
+attributeOfKey t key w =
+    inRowOfKey t key looked.Refused (lookedIn (t .rows) (t .attrs) w)
 
 -- ---- where a value of a form stands
 
@@ -62,9 +61,9 @@ unfoldable pub spotIn : Endian → List ℕ → List ℕ → ℕ → FormKind �
 spotIn e rows attrs number form i = cond (isForm form number) (spotAt e rows attrs number i) placed.Nothing
 
 -- the same in the row of a key
-unfoldable pub placeOfKey : Settings → List ℕ → List ℕ → List ℕ → List ℕ → List ℕ → Counts → ℕ → ℕ → FormKind → Placed
-placeOfKey settings vendors sizes s rows attrs counts key number form =
-    inRowOfKey settings vendors sizes s rows attrs counts key placed.Refused (spotIn (settings .endian) rows attrs number form)
+unfoldable pub placeOfKey : Table → ℕ → ℕ → FormKind → Placed
+placeOfKey t key number form =
+    inRowOfKey t key placed.Refused (spotIn (t .settings .endian) (t .rows) (t .attrs) number form)
 
 -- ---- numbers
 
@@ -97,9 +96,9 @@ wordOfPlace form s placed.Nothing = value.Nothing
 wordOfPlace form s (placed.Refused why) = value.Refused why
 
 -- what the first attribute of this number in the row of a key says, if it has this form
-unfoldable pub valueOfKey : Settings → List ℕ → List ℕ → List ℕ → List ℕ → List ℕ → Counts → ℕ → ℕ → FormKind → Value
-valueOfKey settings vendors sizes s rows attrs counts key number form =
-    wordOfPlace form s (placeOfKey settings vendors sizes s rows attrs counts key number form)
+unfoldable pub valueOfKey : Table → ℕ → ℕ → FormKind → Value
+valueOfKey t key number form =
+    wordOfPlace form (t .section) (placeOfKey t key number form)
 
 -- ---- parts of the section
 

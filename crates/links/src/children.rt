@@ -13,6 +13,7 @@ use tables::find::find_row;
 use tables::row::Counts;
 use tables::row::row_at;
 ghost use mathlib.Core.Path.{_≡_};
+ghost use Rattle.tables.specs.Table.{table};
 ghost use Rattle.lent.specs.Outcome.{Given};
 ghost use Rattle.tables.specs.Check.{refusedAt};
 ghost use Rattle.links.specs.Walk.{walkFrom};
@@ -188,7 +189,7 @@ pub fn children(
     room: &mut [u32],
 ) -> ChildRows
     ensures { λ r. ⌜
-        Given (childrenOfKey settings (now (vendors .entry)) (now (sizes .entry)) (now (s .entry)) (now (rows .entry)) (now (attrs .entry)) counts key
+        Given (childrenOfKey (table (now (s .entry)) settings (now (vendors .entry)) (now (sizes .entry)) (now (rows .entry)) (now (attrs .entry)) counts) key
         (now (room .entry))) r (now (room .exit))
         ⌝ }
 {

@@ -11,6 +11,7 @@ use tables::find::Found;
 use tables::find::find_row;
 use tables::row::Counts;
 ghost use mathlib.Core.Path.{_≡_};
+ghost use Rattle.tables.specs.Table.{table};
 ghost use Rattle.tables.specs.Check.{refusedAt};
 ghost use Rattle.tables.specs.Find.{rowOfKey};
 ghost use Rattle.links.specs.Links.{nextRow, siblingRow};
@@ -76,7 +77,7 @@ pub fn next_tag(
     key: u32,
 ) -> Neighbour
     ensures { λ r. ⌜
-        r ≡ nextTag settings (now (vendors .entry)) (now (sizes .entry)) (now (s .entry)) (now (rows .entry)) (now (attrs .entry)) counts key
+        r ≡ nextTag (table (now (s .entry)) settings (now (vendors .entry)) (now (sizes .entry)) (now (rows .entry)) (now (attrs .entry)) counts) key
         ⌝ }
 {
     match check_table(s, settings, vendors, sizes, rows, attrs, counts) {
@@ -97,7 +98,7 @@ pub fn next_sibling(
     key: u32,
 ) -> Neighbour
     ensures { λ r. ⌜
-        r ≡ nextSibling settings (now (vendors .entry)) (now (sizes .entry)) (now (s .entry)) (now (rows .entry)) (now (attrs .entry)) counts key
+        r ≡ nextSibling (table (now (s .entry)) settings (now (vendors .entry)) (now (sizes .entry)) (now (rows .entry)) (now (attrs .entry)) counts) key
         ⌝ }
 {
     match check_table(s, settings, vendors, sizes, rows, attrs, counts) {

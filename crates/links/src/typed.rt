@@ -25,6 +25,7 @@ use tables::row::Counts;
 use tables::row::attr_at;
 use tables::row::ends_of;
 ghost use mathlib.Core.Path.{_≡_};
+ghost use Rattle.tables.specs.Table.{table};
 ghost use Rattle.links.specs.Typed.{lookedIn, attributeOfKey, blockForm, spotAt, spotIn, placeOfKey, asValue, asWidened, wordAt, valueOfKey};
 ghost use Rattle.links.specs.Typed.{partAs, partOf, toldWords, Handed};
 
@@ -75,8 +76,7 @@ fn look(
     wanted: Wanted,
 ) -> Looked
     ensures { λ r. ⌜
-        r ≡ attributeOfKey settings (now (vendors .entry)) (now (sizes .entry)) (now (s .entry)) (now (rows .entry))
-        (now (attrs .entry)) counts key wanted
+        r ≡ attributeOfKey (table (now (s .entry)) settings (now (vendors .entry)) (now (sizes .entry)) (now (rows .entry)) (now (attrs .entry)) counts) key wanted
         ⌝ }
 {
     match row_of(s, settings, vendors, sizes, rows, attrs, counts, key) {
@@ -98,7 +98,7 @@ pub fn attribute(
     number: u16,
 ) -> Looked
     ensures { λ r. ⌜
-        r ≡ attributeOfKey settings (now (vendors .entry)) (now (sizes .entry)) (now (s .entry)) (now (rows .entry)) (now (attrs .entry)) counts key
+        r ≡ attributeOfKey (table (now (s .entry)) settings (now (vendors .entry)) (now (sizes .entry)) (now (rows .entry)) (now (attrs .entry)) counts) key
         (Wanted.Number number)
         ⌝ }
 {
@@ -128,8 +128,7 @@ pub fn type_attribute(
     key: u32,
 ) -> Looked
     ensures { λ r. ⌜
-        r ≡ attributeOfKey settings (now (vendors .entry)) (now (sizes .entry)) (now (s .entry)) (now (rows .entry))
-        (now (attrs .entry)) counts key Wanted.Type
+        r ≡ attributeOfKey (table (now (s .entry)) settings (now (vendors .entry)) (now (sizes .entry)) (now (rows .entry)) (now (attrs .entry)) counts) key Wanted.Type
         ⌝ }
 {
     look(
@@ -186,8 +185,7 @@ fn place_of(
     form: FormKind,
 ) -> Placed
     ensures { λ r. ⌜
-        r ≡ placeOfKey settings (now (vendors .entry)) (now (sizes .entry)) (now (s .entry)) (now (rows .entry))
-        (now (attrs .entry)) counts key number form
+        r ≡ placeOfKey (table (now (s .entry)) settings (now (vendors .entry)) (now (sizes .entry)) (now (rows .entry)) (now (attrs .entry)) counts) key number form
         ⌝ }
 {
     match row_of(s, settings, vendors, sizes, rows, attrs, counts, key) {
@@ -248,8 +246,7 @@ fn value_of(
     form: FormKind,
 ) -> Value
     ensures { λ r. ⌜
-        r ≡ valueOfKey settings (now (vendors .entry)) (now (sizes .entry)) (now (s .entry)) (now (rows .entry))
-        (now (attrs .entry)) counts key number form
+        r ≡ valueOfKey (table (now (s .entry)) settings (now (vendors .entry)) (now (sizes .entry)) (now (rows .entry)) (now (attrs .entry)) counts) key number form
         ⌝ }
 {
     match place_of(
@@ -283,8 +280,7 @@ pub fn address_attribute(
     number: u16,
 ) -> Value
     ensures { λ r. ⌜
-        r ≡ valueOfKey settings (now (vendors .entry)) (now (sizes .entry)) (now (s .entry)) (now (rows .entry))
-        (now (attrs .entry)) counts key number FormKind.Addr
+        r ≡ valueOfKey (table (now (s .entry)) settings (now (vendors .entry)) (now (sizes .entry)) (now (rows .entry)) (now (attrs .entry)) counts) key number FormKind.Addr
         ⌝ }
 {
     value_of(
@@ -314,8 +310,7 @@ pub fn reference_attribute(
     number: u16,
 ) -> Value
     ensures { λ r. ⌜
-        r ≡ valueOfKey settings (now (vendors .entry)) (now (sizes .entry)) (now (s .entry)) (now (rows .entry))
-        (now (attrs .entry)) counts key number FormKind.Ref
+        r ≡ valueOfKey (table (now (s .entry)) settings (now (vendors .entry)) (now (sizes .entry)) (now (rows .entry)) (now (attrs .entry)) counts) key number FormKind.Ref
         ⌝ }
 {
     value_of(
@@ -345,8 +340,7 @@ pub fn data2_attribute(
     number: u16,
 ) -> Value
     ensures { λ r. ⌜
-        r ≡ valueOfKey settings (now (vendors .entry)) (now (sizes .entry)) (now (s .entry)) (now (rows .entry))
-        (now (attrs .entry)) counts key number FormKind.Data2
+        r ≡ valueOfKey (table (now (s .entry)) settings (now (vendors .entry)) (now (sizes .entry)) (now (rows .entry)) (now (attrs .entry)) counts) key number FormKind.Data2
         ⌝ }
 {
     value_of(
@@ -376,8 +370,7 @@ pub fn data4_attribute(
     number: u16,
 ) -> Value
     ensures { λ r. ⌜
-        r ≡ valueOfKey settings (now (vendors .entry)) (now (sizes .entry)) (now (s .entry)) (now (rows .entry))
-        (now (attrs .entry)) counts key number FormKind.Data4
+        r ≡ valueOfKey (table (now (s .entry)) settings (now (vendors .entry)) (now (sizes .entry)) (now (rows .entry)) (now (attrs .entry)) counts) key number FormKind.Data4
         ⌝ }
 {
     value_of(
@@ -454,8 +447,7 @@ fn hand<'a>(
     told: &mut [u64; 3],
 ) -> &'a [u8]
     ensures { λ r. ⌜
-        Handed form (now (s .entry)) (placeOfKey settings (now (vendors .entry)) (now (sizes .entry)) (now (s .entry)) (now (rows .entry))
-        (now (attrs .entry)) counts key number form) (now r) (now (told .exit))
+        Handed form (now (s .entry)) (placeOfKey (table (now (s .entry)) settings (now (vendors .entry)) (now (sizes .entry)) (now (rows .entry)) (now (attrs .entry)) counts) key number form) (now r) (now (told .exit))
         ⌝ }
 {
     let placed = place_of(
@@ -488,8 +480,7 @@ pub fn string_attribute<'a>(
     told: &mut [u64; 3],
 ) -> &'a [u8]
     ensures { λ r. ⌜
-        Handed FormKind.String (now (s .entry)) (placeOfKey settings (now (vendors .entry)) (now (sizes .entry)) (now (s .entry)) (now (rows .entry))
-        (now (attrs .entry)) counts key number FormKind.String) (now r) (now (told .exit))
+        Handed FormKind.String (now (s .entry)) (placeOfKey (table (now (s .entry)) settings (now (vendors .entry)) (now (sizes .entry)) (now (rows .entry)) (now (attrs .entry)) counts) key number FormKind.String) (now r) (now (told .exit))
         ⌝ }
 {
     hand(
@@ -532,7 +523,7 @@ pub fn block_attribute<'a>(
 ) -> &'a [u8]
     ensures { λ r. ⌜
         Handed (blockForm number) (now (s .entry))
-        (placeOfKey settings (now (vendors .entry)) (now (sizes .entry)) (now (s .entry)) (now (rows .entry)) (now (attrs .entry)) counts key number
+        (placeOfKey (table (now (s .entry)) settings (now (vendors .entry)) (now (sizes .entry)) (now (rows .entry)) (now (attrs .entry)) counts) key number
         (blockForm number)) (now r) (now (told .exit))
         ⌝ }
 {

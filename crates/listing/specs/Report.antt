@@ -3,6 +3,7 @@ use Prim.Native.Nat.{ℕ}
 use mathlib.Core.Bool.{Bool, false, cond}
 use mathlib.Core.List.{List, []}
 use lib.ListN.{replicate}
+use Rattle.tables.specs.Table.{table}
 use Rattle.lent.specs.Outcome.{Outcome, Outcomes}
 use Rattle.numbers.specs.declared.Endian.the-variants.{Big}
 use Rattle.format.specs.Refusal.{numberOf}
@@ -45,7 +46,7 @@ listingRead s rows attrs = readDebugSection listingSettings [] listingSizes s ro
 
 -- the tree of such tables, into lent room
 abbrev pub listingTree : List ℕ → List ℕ → List ℕ → Counts → List ℕ → Outcome Listing ℕ
-listingTree s rows attrs counts room = listTree listingSettings [] listingSizes s rows attrs counts room
+listingTree s rows attrs counts room = listTree (table s listingSettings [] listingSizes rows attrs counts) room
 
 -- refusal 8, at 0
 abbrev pub roomText : List ℕ

@@ -7,6 +7,7 @@ use lib.ListN.{length}
 use lib.Seq.{sets}
 use lib.Dec.{leb}
 use lib.IntN.{ℤ}
+use Rattle.tables.specs.Table.{Table}
 use Rattle.lent.specs.Outcome.{Outcomes, outcomes}
 use Rattle.format.specs.AttributeKind as attribute
 use Rattle.format.specs.declared.settings.Settings.{Settings}
@@ -16,7 +17,6 @@ use Rattle.format.specs.declared.refusal.Refusal.{Refusal}
 use Rattle.format.specs.declared.refusal.Reason.the-variants as reason
 use Rattle.attributes.specs.Parts.{blockAt}
 use Rattle.tables.specs.Check.{refusedAt}
-use Rattle.tables.specs.declared.row.Counts.{Counts}
 use Rattle.links.specs.Links.{childWalk}
 use Rattle.tables.specs.Keyed.{inRowOfKey}
 use Rattle.records.specs.Taken.{special}
@@ -132,9 +132,9 @@ enumerationInto producer values names lists (whole.Is e) =
 enumerationInto producer values names lists (whole.Refused why) = outcomes (Refused why) values names
 
 -- the enumeration of a key
-unfoldable pub processEnumerationTag : Settings → List ℕ → List ℕ → List ℕ → List ℕ → List ℕ → Counts → ℕ → List ℤ → List ℕ
+unfoldable pub processEnumerationTag : Table → ℕ → List ℤ → List ℕ
     → Outcomes EnumerationRead ℤ ℕ
-processEnumerationTag settings vendors sizes s rows attrs counts key values names =
-    inRowOfKey settings vendors sizes s rows attrs counts key (λ why. outcomes (Refused why) values names)
-    (λ i. enumerationInto (settings .producer) values names (rowLists settings s rows attrs (counts .rows) i)
-    (enumerationAt settings s rows attrs (counts .rows) i))
+processEnumerationTag t key values names =
+    inRowOfKey t key (λ why. outcomes (Refused why) values names)
+    (λ i. enumerationInto (t .settings .producer) values names (rowLists (t .settings) (t .section) (t .rows) (t .attrs) (t .counts .rows) i)
+    (enumerationAt (t .settings) (t .section) (t .rows) (t .attrs) (t .counts .rows) i))

@@ -1,11 +1,11 @@
 -- Labels (the Rust's `process_subroutine_label_tag`): a name and an address are needed.
 use Prim.Native.Nat.{ℕ}
 use mathlib.Core.List.{List}
+use Rattle.tables.specs.Table.{Table}
 use Rattle.format.specs.AttributeKind as attribute
 use Rattle.format.specs.declared.settings.Settings.{Settings}
 use Rattle.format.specs.declared.refusal.Reason.the-variants as reason
 use Rattle.tables.specs.Check.{refusedAt}
-use Rattle.tables.specs.declared.row.Counts.{Counts}
 use Rattle.tables.specs.Keyed.{inRowOfKey}
 use Rattle.records.specs.Scan.{runOf}
 use Rattle.records.specs.Fields.{nameOf, wordOf, needed}
@@ -45,6 +45,6 @@ labelAt settings s rows attrs n i =
     unless (frontOf settings s rows attrs n record′.Label i) Refused (labelFields s attrs (runOf (settings .endian) rows i))
 
 -- the label of a key
-unfoldable pub processSubroutineLabelTag : Settings → List ℕ → List ℕ → List ℕ → List ℕ → List ℕ → Counts → ℕ → LabelRead
-processSubroutineLabelTag settings vendors sizes s rows attrs counts key =
-    inRowOfKey settings vendors sizes s rows attrs counts key Refused (labelAt settings s rows attrs (counts .rows))
+unfoldable pub processSubroutineLabelTag : Table → ℕ → LabelRead
+processSubroutineLabelTag t key =
+    inRowOfKey t key Refused (labelAt (t .settings) (t .section) (t .rows) (t .attrs) (t .counts .rows))

@@ -1,6 +1,7 @@
 -- Members (the Rust's `process_structure_member_tag`): a type and an offset are needed, and both bit attributes or neither.
 use Prim.Native.Nat.{ℕ}
 use mathlib.Core.List.{List}
+use Rattle.tables.specs.Table.{Table}
 use Rattle.format.specs.AttributeKind as attribute
 use Rattle.format.specs.declared.settings.Settings.{Settings}
 use Rattle.format.specs.declared.refusal.Reason.the-variants as reason
@@ -8,7 +9,6 @@ use Rattle.blocks.specs.declared.types.Type.{«Type»}
 use Rattle.blocks.specs.declared.types.Typed.{Typed}
 use Rattle.blocks.specs.declared.types.Typed.the-variants as typed
 use Rattle.tables.specs.Check.{refusedAt}
-use Rattle.tables.specs.declared.row.Counts.{Counts}
 use Rattle.tables.specs.Keyed.{inRowOfKey}
 use Rattle.records.specs.Scan.{runOf}
 use Rattle.records.specs.Fields.{nameOf, typeOf, offsetField, wordOf, visibilityOf}
@@ -74,6 +74,6 @@ memberAt settings s rows attrs n i =
     unless (frontOf settings s rows attrs n record′.Member i) Refused (memberFields s attrs (runOf (settings .endian) rows i))
 
 -- the member of a key
-unfoldable pub processStructureMemberTag : Settings → List ℕ → List ℕ → List ℕ → List ℕ → List ℕ → Counts → ℕ → MemberRead
-processStructureMemberTag settings vendors sizes s rows attrs counts key =
-    inRowOfKey settings vendors sizes s rows attrs counts key Refused (memberAt settings s rows attrs (counts .rows))
+unfoldable pub processStructureMemberTag : Table → ℕ → MemberRead
+processStructureMemberTag t key =
+    inRowOfKey t key Refused (memberAt (t .settings) (t .section) (t .rows) (t .attrs) (t .counts .rows))

@@ -2,12 +2,12 @@
 -- child test.
 use Prim.Native.Nat.{ℕ}
 use mathlib.Core.List.{List}
+use Rattle.tables.specs.Table.{Table}
 use Rattle.format.specs.AttributeKind as attribute
 use Rattle.format.specs.declared.settings.Roles.{Roles}
 use Rattle.format.specs.declared.settings.Settings.{Settings}
 use Rattle.format.specs.declared.refusal.Reason.the-variants as reason
 use Rattle.tables.specs.Check.{refusedAt}
-use Rattle.tables.specs.declared.row.Counts.{Counts}
 use Rattle.tables.specs.Keyed.{inRowOfKey}
 use Rattle.records.specs.Scan.{runOf}
 use Rattle.records.specs.Fields.{roleName, roleWord, wordOf, needed}
@@ -72,6 +72,6 @@ overlayAt settings s rows attrs i =
     unless (headOf settings s rows attrs record′.OverlayBranch i) Refused (overlayFields s attrs (runOf (settings .endian) rows i) (settings .roles))
 
 -- the overlay branch of a key
-unfoldable pub processOverlayBranch : Settings → List ℕ → List ℕ → List ℕ → List ℕ → List ℕ → Counts → ℕ → OverlayBranchRead
-processOverlayBranch settings vendors sizes s rows attrs counts key =
-    inRowOfKey settings vendors sizes s rows attrs counts key Refused (overlayAt settings s rows attrs)
+unfoldable pub processOverlayBranch : Table → ℕ → OverlayBranchRead
+processOverlayBranch t key =
+    inRowOfKey t key Refused (overlayAt (t .settings) (t .section) (t .rows) (t .attrs))

@@ -1,12 +1,12 @@
 -- Pointers to member (the Rust's `process_ptr_to_member_tag`): a type and a containing type are needed.
 use Prim.Native.Nat.{ℕ}
 use mathlib.Core.List.{List}
+use Rattle.tables.specs.Table.{Table}
 use Rattle.format.specs.AttributeKind as attribute
 use Rattle.format.specs.declared.settings.Settings.{Settings}
 use Rattle.blocks.specs.declared.types.Type.{«Type»}
 use Rattle.blocks.specs.declared.types.Typed.{Typed}
 use Rattle.blocks.specs.declared.types.Typed.the-variants as typed
-use Rattle.tables.specs.declared.row.Counts.{Counts}
 use Rattle.tables.specs.Keyed.{inRowOfKey}
 use Rattle.records.specs.Scan.{runOf}
 use Rattle.records.specs.Fields.{typeOf, wordOf, needed}
@@ -43,6 +43,6 @@ ptrAt settings s rows attrs n i =
     unless (frontOf settings s rows attrs n record′.PtrToMember i) Refused (ptrFields s attrs (runOf (settings .endian) rows i))
 
 -- the pointer to member of a key
-unfoldable pub processPtrToMemberTag : Settings → List ℕ → List ℕ → List ℕ → List ℕ → List ℕ → Counts → ℕ → PtrToMemberRead
-processPtrToMemberTag settings vendors sizes s rows attrs counts key =
-    inRowOfKey settings vendors sizes s rows attrs counts key Refused (ptrAt settings s rows attrs (counts .rows))
+unfoldable pub processPtrToMemberTag : Table → ℕ → PtrToMemberRead
+processPtrToMemberTag t key =
+    inRowOfKey t key Refused (ptrAt (t .settings) (t .section) (t .rows) (t .attrs) (t .counts .rows))

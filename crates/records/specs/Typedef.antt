@@ -5,6 +5,7 @@ use Prim.Native.Nat.{ℕ, zero, suc, _+_, _-_}
 use mathlib.Core.Bool.{true, false, cond}
 use mathlib.Core.List.{List}
 use lib.Dec.{eqb}
+use Rattle.tables.specs.Table.{Table}
 use Rattle.numbers.specs.Value.{readAt}
 use Rattle.format.specs.AttributeKind as attribute
 use Rattle.format.specs.Limits.{specificationLimit}
@@ -15,7 +16,6 @@ use Rattle.blocks.specs.declared.types.Typed.the-variants as typed
 use Rattle.tables.specs.Row.{rowAt}
 use Rattle.tables.specs.Find.{rowOfKey}
 use Rattle.tables.specs.Check.{refusedAt}
-use Rattle.tables.specs.declared.row.Counts.{Counts}
 use Rattle.tables.specs.declared.find.Found.{Found}
 use Rattle.tables.specs.declared.find.Found.the-variants as found
 use Rattle.links.specs.Links.{childWalk}
@@ -142,6 +142,6 @@ module _ (settings : Settings) (s rows attrs : List ℕ) (n : ℕ) where
   typedefAt i = unless (kindFault settings rows record′.Typedef i) Refused (typedefRun specificationLimit i)
 
 -- the typedef of a key
-unfoldable pub processTypedefTag : Settings → List ℕ → List ℕ → List ℕ → List ℕ → List ℕ → Counts → ℕ → TypedefRead
-processTypedefTag settings vendors sizes s rows attrs counts key =
-    inRowOfKey settings vendors sizes s rows attrs counts key Refused (typedefAt settings s rows attrs (counts .rows))
+unfoldable pub processTypedefTag : Table → ℕ → TypedefRead
+processTypedefTag t key =
+    inRowOfKey t key Refused (typedefAt (t .settings) (t .section) (t .rows) (t .attrs) (t .counts .rows))

@@ -6,6 +6,7 @@ use mathlib.Core.List.{List, [], _∷_, _++_}
 use lib.ListN.{length}
 use lib.Seq.{sets}
 use lib.Dec.{eqb, leb}
+use Rattle.tables.specs.Table.{Table}
 use Rattle.lent.specs.Outcome.{Outcome, outcome}
 use Rattle.format.specs.Lookup.{isOn}
 use Rattle.format.specs.TagKind as tag
@@ -14,7 +15,6 @@ use Rattle.format.specs.declared.refusal.Refusal.{Refusal}
 use Rattle.format.specs.declared.refusal.Reason.the-variants as reason
 use Rattle.tables.specs.Row.{rowAt}
 use Rattle.tables.specs.Check.{refusedAt}
-use Rattle.tables.specs.declared.row.Counts.{Counts}
 use Rattle.links.specs.Walk.{Walk, ends, endless}
 use Rattle.links.specs.Links.{childWalk, nonNull}
 use Rattle.tables.specs.Keyed.{inRowOfKey}
@@ -122,7 +122,8 @@ unionInto room ms (whole.Is u) = cond (leb (u .members) (length room / memberWid
 unionInto room ms (whole.Refused why) = outcome (Refused why) room
 
 -- the union of a key
-unfoldable pub processUnionTag : Settings → List ℕ → List ℕ → List ℕ → List ℕ → List ℕ → Counts → ℕ → List ℕ → Outcome UnionRead ℕ
-processUnionTag settings vendors sizes s rows attrs counts key room =
-    inRowOfKey settings vendors sizes s rows attrs counts key (λ why. outcome (Refused why) room)
-    (λ i. unionInto room (rowMembers settings s rows attrs (counts .rows) i) (unionAt settings s rows attrs (counts .rows) i))
+unfoldable pub processUnionTag : Table → ℕ → List ℕ → Outcome UnionRead ℕ
+processUnionTag t key room =
+    inRowOfKey t key (λ why. outcome (Refused why) room)
+    (λ i. unionInto room (rowMembers (t .settings) (t .section) (t .rows) (t .attrs) (t .counts .rows) i)
+    (unionAt (t .settings) (t .section) (t .rows) (t .attrs) (t .counts .rows) i))

@@ -3,13 +3,13 @@ use Prim.Native.Nat.{ℕ}
 use mathlib.Core.Bool.{Bool}
 use mathlib.Core.List.{List}
 use lib.Dec.{eqb}
+use Rattle.tables.specs.Table.{Table}
 use Rattle.format.specs.AttributeKind as attribute
 use Rattle.format.specs.TagKind as tag
 use Rattle.format.specs.declared.settings.Settings.{Settings}
 use Rattle.blocks.specs.declared.types.Typed.{Typed}
 use Rattle.blocks.specs.declared.types.Typed.the-variants as typed
 use Rattle.tables.specs.Row.{rowAt}
-use Rattle.tables.specs.declared.row.Counts.{Counts}
 use Rattle.tables.specs.Keyed.{inRowOfKey}
 use Rattle.records.specs.Scan.{runOf}
 use Rattle.records.specs.Fields.{nameOf, roleName, typeOf, addressField}
@@ -43,6 +43,6 @@ variableAt settings s rows attrs n i =
     (variableFields s attrs (runOf (settings .endian) rows i) (settings .roles .mangled) (eqb (rowAt rows i .kind) tag.LocalVariable))
 
 -- the variable of a key
-unfoldable pub processVariableTag : Settings → List ℕ → List ℕ → List ℕ → List ℕ → List ℕ → Counts → ℕ → VariableRead
-processVariableTag settings vendors sizes s rows attrs counts key =
-    inRowOfKey settings vendors sizes s rows attrs counts key Refused (variableAt settings s rows attrs (counts .rows))
+unfoldable pub processVariableTag : Table → ℕ → VariableRead
+processVariableTag t key =
+    inRowOfKey t key Refused (variableAt (t .settings) (t .section) (t .rows) (t .attrs) (t .counts .rows))

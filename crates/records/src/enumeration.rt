@@ -35,6 +35,7 @@ use tables::row::attr_at;
 ghost use mathlib.Core.Path.{_≡_};
 ghost use Prim.Native.Nat.{_<_};
 ghost use lib.ListN.{length};
+ghost use Rattle.tables.specs.Table.{table};
 ghost use Rattle.lent.specs.Outcome.{BothGiven};
 ghost use Rattle.links.specs.Inside.Children.{Asked};
 ghost use Rattle.format.specs.Limits.{sectionLimit};
@@ -349,8 +350,7 @@ pub fn process_enumeration_tag(
     names: &mut [u64],
 ) -> EnumerationRead
     ensures { λ r. ⌜
-        BothGiven (processEnumerationTag settings (now (vendors .entry)) (now (sizes .entry)) (now (s .entry)) (now (rows .entry))
-        (now (attrs .entry)) counts key (now (values .entry)) (now (names .entry))) r (now (values .exit)) (now (names .exit))
+        BothGiven (processEnumerationTag (table (now (s .entry)) settings (now (vendors .entry)) (now (sizes .entry)) (now (rows .entry)) (now (attrs .entry)) counts) key (now (values .entry)) (now (names .entry))) r (now (values .exit)) (now (names .exit))
         ⌝ }
 {
     match row_of(s, settings, vendors, sizes, rows, attrs, counts, key) {

@@ -27,6 +27,7 @@ use tables::keyed::Keyed;
 use tables::keyed::row_of;
 use tables::row::Counts;
 ghost use mathlib.Core.Path.{_≡_};
+ghost use Rattle.tables.specs.Table.{table};
 ghost use Rattle.links.specs.Inside.Children.{Asked};
 ghost use Rattle.records.specs.Member.{bitsBy, memberWith, memberPlaced, memberFields, memberAt, processStructureMemberTag};
 
@@ -141,8 +142,7 @@ pub fn process_structure_member_tag(
     key: u32,
 ) -> MemberRead
     ensures { λ r. ⌜
-        r ≡ processStructureMemberTag settings (now (vendors .entry)) (now (sizes .entry)) (now (s .entry)) (now (rows .entry))
-        (now (attrs .entry)) counts key
+        r ≡ processStructureMemberTag (table (now (s .entry)) settings (now (vendors .entry)) (now (sizes .entry)) (now (rows .entry)) (now (attrs .entry)) counts) key
         ⌝ }
 {
     match row_of(s, settings, vendors, sizes, rows, attrs, counts, key) {

@@ -24,6 +24,7 @@ use tables::keyed::Keyed;
 use tables::keyed::row_of;
 use tables::row::Counts;
 ghost use mathlib.Core.Path.{_≡_};
+ghost use Rattle.tables.specs.Table.{table};
 ghost use Rattle.records.specs.OverlayBranch.{overlayEnded, overlayBegun, overlayNumbered, overlayFields, overlayAt, processOverlayBranch};
 
 pub struct OverlayBranch {
@@ -121,8 +122,7 @@ pub fn process_overlay_branch(
     key: u32,
 ) -> OverlayBranchRead
     ensures { λ r. ⌜
-        r ≡ processOverlayBranch settings (now (vendors .entry)) (now (sizes .entry)) (now (s .entry)) (now (rows .entry))
-        (now (attrs .entry)) counts key
+        r ≡ processOverlayBranch (table (now (s .entry)) settings (now (vendors .entry)) (now (sizes .entry)) (now (rows .entry)) (now (attrs .entry)) counts) key
         ⌝ }
 {
     match row_of(s, settings, vendors, sizes, rows, attrs, counts, key) {

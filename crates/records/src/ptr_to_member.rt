@@ -17,6 +17,7 @@ use tables::keyed::Keyed;
 use tables::keyed::row_of;
 use tables::row::Counts;
 ghost use mathlib.Core.Path.{_≡_};
+ghost use Rattle.tables.specs.Table.{table};
 ghost use Rattle.links.specs.Inside.Children.{Asked};
 ghost use Rattle.records.specs.PtrToMember.{ptrTyped, ptrFields, ptrAt, processPtrToMemberTag};
 
@@ -83,8 +84,7 @@ pub fn process_ptr_to_member_tag(
     key: u32,
 ) -> PtrToMemberRead
     ensures { λ r. ⌜
-        r ≡ processPtrToMemberTag settings (now (vendors .entry)) (now (sizes .entry)) (now (s .entry)) (now (rows .entry))
-        (now (attrs .entry)) counts key
+        r ≡ processPtrToMemberTag (table (now (s .entry)) settings (now (vendors .entry)) (now (sizes .entry)) (now (rows .entry)) (now (attrs .entry)) counts) key
         ⌝ }
 {
     match row_of(s, settings, vendors, sizes, rows, attrs, counts, key) {

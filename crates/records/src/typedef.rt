@@ -32,6 +32,7 @@ use tables::keyed::Keyed;
 use tables::keyed::row_of;
 use tables::row::Counts;
 ghost use mathlib.Core.Path.{_≡_};
+ghost use Rattle.tables.specs.Table.{table};
 ghost use Rattle.links.specs.Inside.Links.{Rows};
 ghost use Rattle.links.specs.Inside.Children.{Asked};
 ghost use Rattle.records.specs.Typedef.{firstFilling, typedefName, typedefType, typedefWith, typedefFields, typedefEnd, specifiedRow};
@@ -291,8 +292,7 @@ pub fn process_typedef_tag(
     key: u32,
 ) -> TypedefRead
     ensures { λ r. ⌜
-        r ≡ processTypedefTag settings (now (vendors .entry)) (now (sizes .entry)) (now (s .entry)) (now (rows .entry))
-        (now (attrs .entry)) counts key
+        r ≡ processTypedefTag (table (now (s .entry)) settings (now (vendors .entry)) (now (sizes .entry)) (now (rows .entry)) (now (attrs .entry)) counts) key
         ⌝ }
 {
     match row_of(s, settings, vendors, sizes, rows, attrs, counts, key) {

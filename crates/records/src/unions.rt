@@ -30,6 +30,7 @@ use tables::keyed::row_of;
 use tables::row::Counts;
 use tables::row::row_at;
 ghost use mathlib.Core.Path.{_≡_};
+ghost use Rattle.tables.specs.Table.{table};
 ghost use Rattle.lent.specs.Outcome.{Given};
 ghost use Rattle.links.specs.Inside.Children.{Asked};
 ghost use Rattle.records.specs.Unions.{ignored, unionSized, membersFrom, rowMembers, unionAt, unionInto, processUnionTag};
@@ -270,8 +271,7 @@ pub fn process_union_tag(
     room: &mut [u64],
 ) -> UnionRead
     ensures { λ r. ⌜
-        Given (processUnionTag settings (now (vendors .entry)) (now (sizes .entry)) (now (s .entry)) (now (rows .entry))
-        (now (attrs .entry)) counts key (now (room .entry))) r (now (room .exit))
+        Given (processUnionTag (table (now (s .entry)) settings (now (vendors .entry)) (now (sizes .entry)) (now (rows .entry)) (now (attrs .entry)) counts) key (now (room .entry))) r (now (room .exit))
         ⌝ }
 {
     match row_of(s, settings, vendors, sizes, rows, attrs, counts, key) {

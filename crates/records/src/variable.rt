@@ -20,6 +20,7 @@ use tables::keyed::row_of;
 use tables::row::Counts;
 use tables::row::row_at;
 ghost use mathlib.Core.Path.{_≡_};
+ghost use Rattle.tables.specs.Table.{table};
 ghost use Rattle.links.specs.Inside.Children.{Asked};
 ghost use Rattle.records.specs.Variable.{variableFields, variableAt, processVariableTag};
 
@@ -87,8 +88,7 @@ pub fn process_variable_tag(
     key: u32,
 ) -> VariableRead
     ensures { λ r. ⌜
-        r ≡ processVariableTag settings (now (vendors .entry)) (now (sizes .entry)) (now (s .entry)) (now (rows .entry))
-        (now (attrs .entry)) counts key
+        r ≡ processVariableTag (table (now (s .entry)) settings (now (vendors .entry)) (now (sizes .entry)) (now (rows .entry)) (now (attrs .entry)) counts) key
         ⌝ }
 {
     match row_of(s, settings, vendors, sizes, rows, attrs, counts, key) {

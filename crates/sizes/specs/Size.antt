@@ -7,6 +7,7 @@ use mathlib.Core.Bool.{Bool, true, false, cond}
 use mathlib.Core.List.{List, [], _∷_}
 use lib.ListN.{length, getD, drop}
 use lib.Dec.{eqb, leb, ltb}
+use Rattle.tables.specs.Table.{Table}
 use Rattle.numbers.specs.declared.Endian.{Endian}
 use Rattle.format.specs.Lookup.{Line, _means_, lookup, indexOf}
 use Rattle.format.specs.FundType.{fundTypes}
@@ -28,7 +29,6 @@ use Rattle.blocks.specs.declared.subscripts.Counted.the-variants as counted
 use Rattle.tables.specs.Row.{rowAt}
 use Rattle.tables.specs.Find.{rowOfKey}
 use Rattle.tables.specs.Check.{refusedAt, tested}
-use Rattle.tables.specs.declared.row.Counts.{Counts}
 use Rattle.tables.specs.declared.find.Found.{Found}
 use Rattle.tables.specs.declared.find.Found.the-variants as found
 use Rattle.links.specs.Walk.{Walk, ends, endless}
@@ -277,15 +277,14 @@ module _ (settings : Settings) (sizes s rows attrs : List ℕ) (n : ℕ) where
 -- ---- the public calls; the entry asked for is depth 1
 
 -- the size of a key's entry
-unfoldable pub sizeOfKey : Settings → List ℕ → List ℕ → List ℕ → List ℕ → List ℕ → Counts → ℕ → Sized
-sizeOfKey settings vendors sizes s rows attrs counts key =
-    tested settings vendors sizes s rows attrs counts Refused (entrySize settings sizes s rows attrs (counts .rows) depthLimit key)
+unfoldable pub sizeOfKey : Table → ℕ → Sized
+sizeOfKey t key =
+    tested t Refused (entrySize (t .settings) (t .sizes) (t .section) (t .rows) (t .attrs) (t .counts .rows) depthLimit key)
 
 -- the size of a type: an entry that it names is the one asked for
-unfoldable pub sizeOfType : Settings → List ℕ → List ℕ → List ℕ → List ℕ → List ℕ → Counts → «Type» → Sized
-sizeOfType settings vendors sizes s rows attrs counts t =
-    tested settings vendors sizes s rows attrs counts Refused (typeSize settings sizes s rows attrs (counts .rows) depthLimit t)
+unfoldable pub sizeOfType : Table → «Type» → Sized
+sizeOfType t of = tested t Refused (typeSize (t .settings) (t .sizes) (t .section) (t .rows) (t .attrs) (t .counts .rows) depthLimit of)
 
 -- the size of a type that the entry asked for names: one level down
-abbrev pub innerSize : Settings → List ℕ → List ℕ → List ℕ → List ℕ → Counts → «Type» → Sized
-innerSize settings sizes s rows attrs counts = typeSize settings sizes s rows attrs (counts .rows) (depthLimit - 1)
+abbrev pub innerSize : Table → «Type» → Sized
+innerSize t = typeSize (t .settings) (t .sizes) (t .section) (t .rows) (t .attrs) (t .counts .rows) (depthLimit - 1)

@@ -30,6 +30,7 @@ use tables::find::find_row;
 use tables::row::Counts;
 use tables::row::row_at;
 ghost use mathlib.Core.Path.{_≡_};
+ghost use Rattle.tables.specs.Table.{table};
 ghost use Rattle.links.specs.Inside.Kids.{kidsOf};
 ghost use Rattle.records.specs.Inside.Enumeration.{AskedShort};
 ghost use Rattle.sizes.specs.Size.{fundamentalSize, rowSize, sizeOfKey, sizeOfType};
@@ -351,7 +352,7 @@ pub fn size_of_key(
     key: u32,
 ) -> Sized
     ensures { λ r. ⌜
-        r ≡ sizeOfKey settings (now (vendors .entry)) (now (sizes .entry)) (now (s .entry)) (now (rows .entry)) (now (attrs .entry)) counts key
+        r ≡ sizeOfKey (table (now (s .entry)) settings (now (vendors .entry)) (now (sizes .entry)) (now (rows .entry)) (now (attrs .entry)) counts) key
         ⌝ }
 {
     match check_table(s, settings, vendors, sizes, rows, attrs, counts) {
@@ -386,7 +387,7 @@ pub fn size_of_type(
     of: Type,
 ) -> Sized
     ensures { λ r. ⌜
-        r ≡ sizeOfType settings (now (vendors .entry)) (now (sizes .entry)) (now (s .entry)) (now (rows .entry)) (now (attrs .entry)) counts of
+        r ≡ sizeOfType (table (now (s .entry)) settings (now (vendors .entry)) (now (sizes .entry)) (now (rows .entry)) (now (attrs .entry)) counts) of
         ⌝ }
 {
     match check_table(s, settings, vendors, sizes, rows, attrs, counts) {

@@ -2,17 +2,15 @@
 use Prim.Native.Nat.{ℕ}
 use mathlib.Core.Path.{_≡_}
 use mathlib.Core.Bool.{Bool, cond}
-use mathlib.Core.List.{List}
 use lib.ListN.{length}
 use lib.Dec.{ltb}
+use Rattle.tables.specs.Table.{Table}
 use Rattle.format.specs.Limits.{sectionLimit}
 use Rattle.format.specs.Settings.{settingsHold}
-use Rattle.format.specs.declared.settings.Settings.{Settings}
 use Rattle.format.specs.declared.refusal.Refusal.{Refusal}
 use Rattle.format.specs.declared.refusal.Reason.{Reason}
 use Rattle.format.specs.declared.refusal.Reason.the-variants as reason
 use Rattle.tables.specs.Test.{tableHolds}
-use Rattle.tables.specs.declared.row.Counts.{Counts}
 use Rattle.tables.specs.declared.check.Check.{Check}
 use Rattle.tables.specs.declared.check.Check.the-variants.{Passed, Refused}
 
@@ -27,10 +25,11 @@ afterTests settings short table refused answer =
     (refused (refusedAt 0 reason.Settings))
 
 -- the same, the tests being those of settings, section and table
-unfoldable pub tested : {A : Type 0} → Settings → List ℕ → List ℕ → List ℕ → List ℕ → List ℕ → Counts → (Refusal → A) → A → A
-tested settings vendors sizes s rows attrs counts refused answer =
-    afterTests (settingsHold settings vendors sizes) (ltb (length s) sectionLimit) (tableHolds s vendors rows attrs counts) refused answer
+unfoldable pub tested : {A : Type 0} → Table → (Refusal → A) → A → A
+tested t refused answer =
+    afterTests (settingsHold (t .settings) (t .vendors) (t .sizes)) (ltb (length (t .section)) sectionLimit)
+    (tableHolds (t .section) (t .vendors) (t .rows) (t .attrs) (t .counts)) refused answer
 
 -- what the tests alone answer
-pub record Tells (settings : Settings) (vendors sizes s rows attrs : List ℕ) (counts : Counts) (r : Check) : Type 0 where
-  pub told : r ≡ tested settings vendors sizes s rows attrs counts Refused Passed
+pub record Tells (t : Table) (r : Check) : Type 0 where
+  pub told : r ≡ tested t Refused Passed

@@ -1,12 +1,10 @@
 -- An answer from the row of a key: 1, 2, 3; then 11 at the key where no row has it.
 use Prim.Native.Nat.{ℕ}
-use mathlib.Core.List.{List}
-use Rattle.format.specs.declared.settings.Settings.{Settings}
+use Rattle.tables.specs.Table.{Table}
 use Rattle.format.specs.declared.refusal.Refusal.{Refusal}
 use Rattle.format.specs.declared.refusal.Reason.the-variants as reason
 use Rattle.tables.specs.Find.{rowOfKey}
 use Rattle.tables.specs.Check.{refusedAt, tested}
-use Rattle.tables.specs.declared.row.Counts.{Counts}
 use Rattle.tables.specs.declared.find.Found.{Found}
 use Rattle.tables.specs.declared.find.Found.the-variants.{At, Nothing}
 
@@ -16,6 +14,6 @@ rowBy key refused there (At i) = there i
 rowBy key refused there Nothing = refused (refusedAt key reason.Entry)
 
 -- an answer from the row of a key, after the tests; `refused` makes a refusal an answer
-unfoldable pub inRowOfKey : {A : Type 0} → Settings → List ℕ → List ℕ → List ℕ → List ℕ → List ℕ → Counts → ℕ → (Refusal → A) → (ℕ → A) → A
-inRowOfKey settings vendors sizes s rows attrs counts key refused there =
-    tested settings vendors sizes s rows attrs counts refused (rowBy key refused there (rowOfKey rows (counts .rows) key))
+unfoldable pub inRowOfKey : {A : Type 0} → Table → ℕ → (Refusal → A) → (ℕ → A) → A
+inRowOfKey t key refused there =
+    tested t refused (rowBy key refused there (rowOfKey (t .rows) (t .counts .rows) key))

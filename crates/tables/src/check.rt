@@ -7,6 +7,7 @@ use format::refusal::Refusal;
 use format::settings::Settings;
 use format::settings::settings_hold;
 ghost use mathlib.Core.Path.{_≡_};
+ghost use Rattle.tables.specs.Table.{table};
 ghost use Rattle.tables.specs.Check.{Tells, refusedAt};
 
 pub enum Check {
@@ -30,7 +31,9 @@ pub fn check_table(
     attrs: &[u32],
     counts: Counts,
 ) -> Check
-    ensures { λ r. ⌜ Tells settings (now (vendors .entry)) (now (sizes .entry)) (now (s .entry)) (now (rows .entry)) (now (attrs .entry)) counts r ⌝ }
+    ensures { λ r. ⌜
+        Tells (table (now (s .entry)) settings (now (vendors .entry)) (now (sizes .entry)) (now (rows .entry)) (now (attrs .entry)) counts) r
+        ⌝ }
 {
     if !settings_hold(settings, vendors, sizes) {
         return refuse(Reason::Settings);

@@ -8,6 +8,7 @@ use format::refusal::Reason;
 use format::refusal::Refusal;
 use format::settings::Settings;
 ghost use mathlib.Core.Path.{_≡_};
+ghost use Rattle.tables.specs.Table.{table};
 ghost use Rattle.tables.specs.Find.{rowOfKey};
 ghost use Rattle.tables.specs.Inside.Find.{Rising};
 ghost use Rattle.tables.specs.Keyed.{rowBy, inRowOfKey};
@@ -44,8 +45,7 @@ pub fn row_of(
     key: u32,
 ) -> Keyed
     ensures { λ r. ⌜
-        r ≡ inRowOfKey settings (now (vendors .entry)) (now (sizes .entry)) (now (s .entry)) (now (rows .entry))
-        (now (attrs .entry)) counts key Keyed.Refused Keyed.Row
+        r ≡ inRowOfKey (table (now (s .entry)) settings (now (vendors .entry)) (now (sizes .entry)) (now (rows .entry)) (now (attrs .entry)) counts) key Keyed.Refused Keyed.Row
         ⌝ }
 {
     match check_table(s, settings, vendors, sizes, rows, attrs, counts) {

@@ -5,9 +5,8 @@ use mathlib.Core.List.{List}
 use lib.ListN.{length}
 use lib.Dec.{ltb, eqb}
 use Rattle.numbers.specs.declared.Endian.{Endian}
-use Rattle.format.specs.declared.settings.Settings.{Settings}
+use Rattle.tables.specs.Table.{Table}
 use Rattle.tables.specs.Find.{rowOfKey}
-use Rattle.tables.specs.declared.row.Counts.{Counts}
 use Rattle.tables.specs.declared.find.Found.{Found}
 use Rattle.tables.specs.declared.find.Found.the-variants.{At, Nothing}
 use Rattle.links.specs.Attribute.{siblingNumber, referenceOf}
@@ -29,6 +28,6 @@ reachBy s rows n i reference.Nothing = suc i
 unfoldable pub reachEnd : Endian → List ℕ → List ℕ → List ℕ → ℕ → ℕ → ℕ
 reachEnd e s rows attrs n i = reachBy s rows n i (referenceOf e s rows attrs i siblingNumber)
 
--- the same of a table with its counts, as it was read with these settings
-abbrev pub reachIn : Settings → List ℕ → List ℕ → List ℕ → Counts → ℕ → ℕ
-reachIn settings s rows attrs counts i = reachEnd (settings .endian) s rows attrs (counts .rows) i
+-- the same of a table and what it is asked with
+abbrev pub reachIn : Table → ℕ → ℕ
+reachIn t i = reachEnd (t .settings .endian) (t .section) (t .rows) (t .attrs) (t .counts .rows) i

@@ -6,13 +6,12 @@ use mathlib.Core.List.{List, [], _∷_}
 use lib.ListN.{length}
 use lib.Seq.{sets}
 use lib.Dec.{leb, ltb}
+use Rattle.tables.specs.Table.{Table}
 use Rattle.lent.specs.Outcome.{Outcome, outcome}
-use Rattle.format.specs.declared.settings.Settings.{Settings}
 use Rattle.format.specs.declared.refusal.Reason.{Reason}
 use Rattle.format.specs.declared.refusal.Reason.the-variants as reason
 use Rattle.tables.specs.Row.{rowAt, erasedRow}
 use Rattle.tables.specs.Check.{refusedAt, tested}
-use Rattle.tables.specs.declared.row.Counts.{Counts}
 use Rattle.tree.specs.Pick.{firstFrom}
 use Rattle.tree.specs.Reach.{reachEnd}
 use Rattle.tree.specs.Nest.{depth, parent, firstFault, firstDeep}
@@ -45,7 +44,7 @@ listingOf rows n reach room =
     (cond (leb (n * placeWidth) (length room)) (outcome (Listed n) (sets room 0 (placesFrom n reach 0 n))) (outcome (Room n) room))))
 
 -- `list_tree`: the tests, then the listing
-unfoldable pub listTree : Settings → List ℕ → List ℕ → List ℕ → List ℕ → List ℕ → Counts → List ℕ → Outcome Listing ℕ
-listTree settings vendors sizes s rows attrs counts room =
-    tested settings vendors sizes s rows attrs counts (λ why. outcome (Refused why) room)
-    (listingOf rows (counts .rows) (λ i. reachEnd (settings .endian) s rows attrs (counts .rows) i) room)
+unfoldable pub listTree : Table → List ℕ → Outcome Listing ℕ
+listTree t room =
+    tested t (λ why. outcome (Refused why) room)
+    (listingOf (t .rows) (t .counts .rows) (λ i. reachEnd (t .settings .endian) (t .section) (t .rows) (t .attrs) (t .counts .rows) i) room)

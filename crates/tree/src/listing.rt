@@ -11,6 +11,7 @@ use tables::row::Counts;
 use tables::row::is_erased;
 use tables::row::row_at;
 ghost use mathlib.Core.Path.{_≡_};
+ghost use Rattle.tables.specs.Table.{table};
 ghost use Rattle.lent.specs.Outcome.{Given};
 ghost use Rattle.links.specs.Inside.Links.{Rows};
 ghost use Rattle.tables.specs.Row.{rowAt};
@@ -104,7 +105,7 @@ pub fn list_tree(
     room: &mut [u32],
 ) -> Listing
     ensures { λ r. ⌜
-        Given (listTree settings (now (vendors .entry)) (now (sizes .entry)) (now (s .entry)) (now (rows .entry)) (now (attrs .entry)) counts
+        Given (listTree (table (now (s .entry)) settings (now (vendors .entry)) (now (sizes .entry)) (now (rows .entry)) (now (attrs .entry)) counts)
         (now (room .entry))) r (now (room .exit))
         ⌝ }
 {

@@ -2,6 +2,7 @@
 use Prim.Native.Nat.{ℕ}
 use mathlib.Core.Path.{_≡_, ap, _∙_, subst}
 use mathlib.Core.List.{List}
+use Rattle.tables.specs.Table.{table}
 use Rattle.lent.specs.Outcome.{Given, BothGiven}
 use Rattle.numbers.specs.declared.Endian.{Endian}
 use Rattle.format.specs.declared.settings.Settings.{Settings}
@@ -51,36 +52,36 @@ module _ {settings settings′ : Settings} (same : settings ≡ settings′) (ve
         (record { says = said-two _ (q ∙ ap sectionTold (p .answer-is)); row-table = p .first-is; attr-table = p .second-is })
 
     module _ {counts counts′ : Counts} (many : counts ≡ counts′) where
-      pub size-crosses : (key : ℕ) {answer : Sized} {t : Told} → answer ≡ sizeOfKey settings vendors sizes s rows attrs counts key → t ≡ sizeTold answer
-          → SizeCrosses (sizeOfKey settings′ vendors sizes s rows attrs counts′ key) (t .number) (t .place) (t .first)
+      pub size-crosses : (key : ℕ) {answer : Sized} {t : Told} → answer ≡ sizeOfKey (table s settings vendors sizes rows attrs counts) key → t ≡ sizeTold answer
+          → SizeCrosses (sizeOfKey (table s settings′ vendors sizes rows attrs counts′) key) (t .number) (t .place) (t .first)
       size-crosses key p q =
           said-one _
           (q
           ∙ ap sizeTold
-          (p ∙ ap (λ (x : Settings). sizeOfKey x vendors sizes s rows attrs counts key) same ∙ ap (λ (n : Counts). sizeOfKey settings′ vendors sizes s rows attrs n key) many))
+          (p ∙ ap (λ (x : Settings). sizeOfKey (table s x vendors sizes rows attrs counts) key) same ∙ ap (λ (n : Counts). sizeOfKey (table s settings′ vendors sizes rows attrs n) key) many))
 
       pub tree-crosses : (room : List ℕ) {answer : Listing} {t : Told} {room₁ : List ℕ}
-          → Given (listTree settings vendors sizes s rows attrs counts room) answer room₁ → t ≡ treeTold answer
-          → TreeCrosses (listTree settings′ vendors sizes s rows attrs counts′ room) (t .number) (t .place) (t .first) room₁
+          → Given (listTree (table s settings vendors sizes rows attrs counts) room) answer room₁ → t ≡ treeTold answer
+          → TreeCrosses (listTree (table s settings′ vendors sizes rows attrs counts′) room) (t .number) (t .place) (t .first) room₁
       tree-crosses room {answer} {t} {room₁} p q =
-          subst (λ (n : Counts). TreeCrosses (listTree settings′ vendors sizes s rows attrs n room) (t .number) (t .place) (t .first) room₁) many
-          (subst (λ (x : Settings). TreeCrosses (listTree x vendors sizes s rows attrs counts room) (t .number) (t .place) (t .first) room₁) same
+          subst (λ (n : Counts). TreeCrosses (listTree (table s settings′ vendors sizes rows attrs n) room) (t .number) (t .place) (t .first) room₁) many
+          (subst (λ (x : Settings). TreeCrosses (listTree (table s x vendors sizes rows attrs counts) room) (t .number) (t .place) (t .first) room₁) same
           (record { says = said-one _ (q ∙ ap treeTold (p .answer-is)); room-is = p .room-is }))
 
       pub layout-crosses : (key : ℕ) (room : List ℕ) {answer : LayoutRead} {t : Told} {room₁ : List ℕ}
-          → Given (layoutOfKey settings vendors sizes s rows attrs counts key room) answer room₁ → t ≡ layoutTold answer
-          → LayoutCrosses (layoutOfKey settings′ vendors sizes s rows attrs counts′ key room) (t .number) (t .place) (t .first) (t .second) (t .third) room₁
+          → Given (layoutOfKey (table s settings vendors sizes rows attrs counts) key room) answer room₁ → t ≡ layoutTold answer
+          → LayoutCrosses (layoutOfKey (table s settings′ vendors sizes rows attrs counts′) key room) (t .number) (t .place) (t .first) (t .second) (t .third) room₁
       layout-crosses key room {answer} {t} {room₁} p q =
-          subst (λ (n : Counts). LayoutCrosses (layoutOfKey settings′ vendors sizes s rows attrs n key room) (t .number) (t .place) (t .first) (t .second) (t .third) room₁) many
-          (subst (λ (x : Settings). LayoutCrosses (layoutOfKey x vendors sizes s rows attrs counts key room) (t .number) (t .place) (t .first) (t .second) (t .third) room₁) same
+          subst (λ (n : Counts). LayoutCrosses (layoutOfKey (table s settings′ vendors sizes rows attrs n) key room) (t .number) (t .place) (t .first) (t .second) (t .third) room₁) many
+          (subst (λ (x : Settings). LayoutCrosses (layoutOfKey (table s x vendors sizes rows attrs counts) key room) (t .number) (t .place) (t .first) (t .second) (t .third) room₁) same
           (record { says = said-three _ (q ∙ ap layoutTold (p .answer-is)); room-is = p .room-is }))
 
       pub layouts-cross : (structures room : List ℕ) {answer : AllLayouts} {t : Told} {structures₁ room₁ : List ℕ}
-          → BothGiven (allLayouts settings vendors sizes s rows attrs counts structures room) answer structures₁ room₁ → t ≡ layoutsTold answer
-          → LayoutsCross (allLayouts settings′ vendors sizes s rows attrs counts′ structures room) (t .number) (t .place) (t .first) (t .second) structures₁ room₁
+          → BothGiven (allLayouts (table s settings vendors sizes rows attrs counts) structures room) answer structures₁ room₁ → t ≡ layoutsTold answer
+          → LayoutsCross (allLayouts (table s settings′ vendors sizes rows attrs counts′) structures room) (t .number) (t .place) (t .first) (t .second) structures₁ room₁
       layouts-cross structures room {answer} {t} {structures₁} {room₁} p q =
-          subst (λ (n : Counts). LayoutsCross (allLayouts settings′ vendors sizes s rows attrs n structures room) (t .number) (t .place) (t .first) (t .second) structures₁ room₁) many
-          (subst (λ (x : Settings). LayoutsCross (allLayouts x vendors sizes s rows attrs counts structures room) (t .number) (t .place) (t .first) (t .second) structures₁ room₁) same
+          subst (λ (n : Counts). LayoutsCross (allLayouts (table s settings′ vendors sizes rows attrs n) structures room) (t .number) (t .place) (t .first) (t .second) structures₁ room₁) many
+          (subst (λ (x : Settings). LayoutsCross (allLayouts (table s x vendors sizes rows attrs counts) structures room) (t .number) (t .place) (t .first) (t .second) structures₁ room₁) same
           (record { says = said-two _ (q ∙ ap layoutsTold (p .answer-is)); structure-room = p .first-is; member-room = p .second-is }))
 
 pub offset-crosses : {e e′ : Endian} → e ≡ e′ → (block : List ℕ) {answer : Located} {t : Told} → answer ≡ processOffset e block → t ≡ offsetTold answer

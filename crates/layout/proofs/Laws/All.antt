@@ -10,6 +10,7 @@ use lib.ListN.{length, take, drop, set, length-append}
 use lib.Seq.{sets, length-sets}
 use lib.Dec.{leb, eqb}
 use borrow.Author.Tests.{le-leb, lt-leb}
+use Rattle.tables.specs.Table.{table}
 use Rattle.lent.specs.Outcome.{Outcomes, outcomes, BothGiven}
 use Rattle.numbers.proofs.Laws.Tests.{cond-all}
 use Rattle.format.specs.Limits.{entryLimit}
@@ -703,17 +704,17 @@ all-known settings sizes s rows attrs n ready known w some structures room {stru
     subst (λ (sizeOf : «Type» → Sized). BothGiven (layoutsInto structures room (structuresFrom settings s rows attrs n sizeOf 0 n)) r structures′ room′)
     (known-types settings sizes s rows attrs n ready deepest w some 0) g
 
-module _ {settings : Settings} {vendors sizes s rows attrs : List ℕ} {counts : Counts} {told : Check} (is : Tells settings vendors sizes s rows attrs counts told)
+module _ {settings : Settings} {vendors sizes s rows attrs : List ℕ} {counts : Counts} {told : Check} (is : Tells (table s settings vendors sizes rows attrs counts) told)
     (structures room : List ℕ) where
   pub all-passed : told ≡ check.Passed → {structures′ room′ : List ℕ} {r : AllLayouts}
       → BothGiven (layoutsInto structures room (structuresFrom settings s rows attrs (counts .rows) (typeSize settings sizes s rows attrs (counts .rows) deepest) 0 (counts .rows)))
       r structures′ room′
-      → BothGiven (allLayouts settings vendors sizes s rows attrs counts structures room) r structures′ room′
+      → BothGiven (allLayouts (table s settings vendors sizes rows attrs counts) structures room) r structures′ room′
   unfolding allLayouts
   all-passed p {structures′} {room′} {r} g = subst (λ (o : Outcomes AllLayouts ℕ ℕ). BothGiven o r structures′ room′) (passed-answer _ _ is p) g
 
   pub all-refused : {why : Refusal} → told ≡ check.Refused why
-      → BothGiven (allLayouts settings vendors sizes s rows attrs counts structures room) (all.Refused why) structures room
+      → BothGiven (allLayouts (table s settings vendors sizes rows attrs counts) structures room) (all.Refused why) structures room
   unfolding allLayouts
   all-refused p = given-as (refused-answer (λ why. outcomes (all.Refused why) structures room) _ is p)
 

@@ -4,6 +4,7 @@ use Prim.Native.Nat.{ℕ, zero, suc, _-_, _<_}
 use mathlib.Core.Path.{_≡_, refl, sym, ap, _∙_}
 use mathlib.Core.Bool.{Bool, true, false, cond}
 use mathlib.Core.List.{List, [], _∷_, map}
+use Rattle.tables.specs.Table.{table}
 use Rattle.lent.specs.Outcome.{Outcome}
 use Rattle.format.specs.declared.settings.Settings.{Settings}
 use Rattle.blocks.specs.declared.types.Type.{«Type»}
@@ -57,19 +58,19 @@ module _ (settings : Settings) (s rows attrs : List ℕ) (n : ℕ) (sizeOf : «T
 
 -- ---- each has the layout or refusal that its key gives
 
-module _ {settings : Settings} {vendors sizes s rows attrs : List ℕ} {counts : Counts} {told : Check} (is : Tells settings vendors sizes s rows attrs counts told)
+module _ {settings : Settings} {vendors sizes s rows attrs : List ℕ} {counts : Counts} {told : Check} (is : Tells (table s settings vendors sizes rows attrs counts) told)
     (p : told ≡ check.Passed) where
   abbrev there : List ℕ → ℕ → Outcome LayoutRead ℕ
-  there room i = layoutInto room (rowLay settings s rows attrs (counts .rows) (innerSize settings sizes s rows attrs counts) i) (layoutAt settings s rows attrs (counts .rows) (innerSize settings sizes s rows attrs counts) i)
+  there room i = layoutInto room (rowLay settings s rows attrs (counts .rows) (innerSize (table s settings vendors sizes rows attrs counts)) i) (layoutAt settings s rows attrs (counts .rows) (innerSize (table s settings vendors sizes rows attrs counts)) i)
 
-  own-row : (i : ℕ) → i < counts .rows → keyed.Row i ≡ inRowOfKey settings vendors sizes s rows attrs counts (rowAt rows i .key) keyed.Refused keyed.Row
+  own-row : (i : ℕ) → i < counts .rows → keyed.Row i ≡ inRowOfKey (table s settings vendors sizes rows attrs counts) (rowAt rows i .key) keyed.Refused keyed.Row
   own-row i l =
       row-passed settings vendors sizes s rows attrs counts (rowAt rows i .key) is p
       (key-found (rowAt rows i .key) refl (row-of-own-key (checked-rising (passed-checked is p)) i l))
 
   -- what all layouts tell of row i is what its key gives
-  pub each-layout : (i : ℕ) → i < counts .rows → (room : List ℕ) → layoutOfKey settings vendors sizes s rows attrs counts (rowAt rows i .key) room
-      ≡ layoutInto room (rowLay settings s rows attrs (counts .rows) (innerSize settings sizes s rows attrs counts) i) (structureAt settings s rows attrs (counts .rows) (innerSize settings sizes s rows attrs counts) i .answer)
+  pub each-layout : (i : ℕ) → i < counts .rows → (room : List ℕ) → layoutOfKey (table s settings vendors sizes rows attrs counts) (rowAt rows i .key) room
+      ≡ layoutInto room (rowLay settings s rows attrs (counts .rows) (innerSize (table s settings vendors sizes rows attrs counts)) i) (structureAt settings s rows attrs (counts .rows) (innerSize (table s settings vendors sizes rows attrs counts)) i .answer)
   unfolding layoutOfKey structureAt
   each-layout i l room =
       sym (in-row settings vendors sizes s rows attrs counts (rowAt rows i .key) (own-row i l) (λ why. record { answer = layout.Refused why; room = room }) (there room) refl)

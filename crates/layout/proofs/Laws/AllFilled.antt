@@ -11,6 +11,7 @@ use lib.ListN.{length, getD, take, drop, take-append-drop, List·getD-append}
 use lib.Seq.{sets, getD-append-add}
 use lib.Dec.{leb, ltb}
 use borrow.Author.Tests.{leb-true}
+use Rattle.tables.specs.Table.{table}
 use Rattle.lent.proofs.Laws.Filled.{sets-filled}
 use Rattle.lent.specs.Outcome.{Outcomes, outcomes, BothGiven}
 use Rattle.format.specs.Limits.{sectionLimit}
@@ -131,14 +132,14 @@ rooms-are structures room xs {many} {structures′} {room′} w p q =
 -- ---- the theorem
 
 module _ (settings : Settings) (vendors sizes s rows attrs : List ℕ) (counts : Counts) (structures room : List ℕ) {r : AllLayouts} {structures′ room′ : List ℕ}
-    {many : LayoutCounts} (g : BothGiven (allLayouts settings vendors sizes s rows attrs counts structures room) r structures′ room′) (p : r ≡ all.Are many) where
-  passed : allLayouts settings vendors sizes s rows attrs counts structures room ≡ layoutsInto structures room (structuresFrom settings s rows attrs (counts .rows) (innerSize settings sizes s rows attrs counts) 0 (counts .rows))
+    {many : LayoutCounts} (g : BothGiven (allLayouts (table s settings vendors sizes rows attrs counts) structures room) r structures′ room′) (p : r ≡ all.Are many) where
+  passed : allLayouts (table s settings vendors sizes rows attrs counts) structures room ≡ layoutsInto structures room (structuresFrom settings s rows attrs (counts .rows) (innerSize (table s settings vendors sizes rows attrs counts)) 0 (counts .rows))
   unfolding allLayouts tested
   passed =
-      tests-are structures room (settingsHold settings vendors sizes) (ltb (length s) sectionLimit) (tableHolds s vendors rows attrs counts) (layoutsInto structures room (structuresFrom settings s rows attrs (counts .rows) (innerSize settings sizes s rows attrs counts) 0 (counts .rows)))
+      tests-are structures room (settingsHold settings vendors sizes) (ltb (length s) sectionLimit) (tableHolds s vendors rows attrs counts) (layoutsInto structures room (structuresFrom settings s rows attrs (counts .rows) (innerSize (table s settings vendors sizes rows attrs counts)) 0 (counts .rows)))
       (sym (g .answer-is) ∙ p)
 
-  pub all-filled : AllFilled (structuresFrom settings s rows attrs (counts .rows) (innerSize settings sizes s rows attrs counts) 0 (counts .rows)) many structures structures′ room room′
+  pub all-filled : AllFilled (structuresFrom settings s rows attrs (counts .rows) (innerSize (table s settings vendors sizes rows attrs counts)) 0 (counts .rows)) many structures structures′ room room′
   all-filled =
-      rooms-are structures room (structuresFrom settings s rows attrs (counts .rows) (innerSize settings sizes s rows attrs counts) 0 (counts .rows)) (both-fit structures room (structuresFrom settings s rows attrs (counts .rows) (innerSize settings sizes s rows attrs counts) 0 (counts .rows)) (ap (λ (o : Outcomes AllLayouts ℕ ℕ). o .answer) (sym passed) ∙ sym (g .answer-is) ∙ p))
+      rooms-are structures room (structuresFrom settings s rows attrs (counts .rows) (innerSize (table s settings vendors sizes rows attrs counts)) 0 (counts .rows)) (both-fit structures room (structuresFrom settings s rows attrs (counts .rows) (innerSize (table s settings vendors sizes rows attrs counts)) 0 (counts .rows)) (ap (λ (o : Outcomes AllLayouts ℕ ℕ). o .answer) (sym passed) ∙ sym (g .answer-is) ∙ p))
       (g .first-is ∙ ap (λ (o : Outcomes AllLayouts ℕ ℕ). o .first) passed) (g .second-is ∙ ap (λ (o : Outcomes AllLayouts ℕ ℕ). o .second) passed)

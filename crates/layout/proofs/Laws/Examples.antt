@@ -1,6 +1,7 @@
 -- Size and layout of document 01's input A, computed.
 use mathlib.Core.Path.{_≡_, refl}
 use mathlib.Core.List.{[], _∷_}
+use Rattle.tables.specs.Table.{table}
 use Rattle.sizes.specs.declared.sized.Sized.the-variants as sized
 use Rattle.layout.specs.declared.one.LayoutRead.the-variants as layout
 use Rattle.numbers.specs.Value.{valueOf, there, readAt}
@@ -41,8 +42,8 @@ use Rattle.records.specs.Fields as fields
 use Rattle.layout.specs.Examples.{rowsA, attrsA, sizesA, countsA}
 
 -- 4 bytes; one isOn at 0 of 4 bytes without a name, and the word behind its four as it was
-pub input-a : (sizeOfKey settingsA [] sizesA inputA rowsA attrsA countsA 0 ≡ sized.Is 4)
-    × (layoutOfKey settingsA [] sizesA inputA rowsA attrsA countsA 0 (7 ∷ 7 ∷ 7 ∷ 7 ∷ 7 ∷ [])
+pub input-a : (sizeOfKey (table inputA settingsA [] sizesA rowsA attrsA countsA) 0 ≡ sized.Is 4)
+    × (layoutOfKey (table inputA settingsA [] sizesA rowsA attrsA countsA) 0 (7 ∷ 7 ∷ 7 ∷ 7 ∷ 7 ∷ [])
     ≡ record { answer = layout.Is (record { row = 0; size = 4; members = 1 }); room = 0 ∷ 4 ∷ 0 ∷ 0 ∷ 7 ∷ [] })
 unfolding sizeOfKey tested entrySize afterTests settingsHold vendorsHold rolesHold roleHolds roleForm rolesDiffer fundTypes tableHolds fitting rowsHold rowHolds rowAt isOn tags runHolds attrHolds known attributeKinds attrAt valueEnd formOf lookup fixedEnd there blockEnd readAt valueOf endianOf foundSize rowOfKey rowFrom rowSize shapeSize shapeOf membersSize membersOf memberRowsBy childWalk walkFrom stops nextRow nextFrom erasedRow siblingRow siblingBy referenceOf referenceBy attributeOf attrFrom wants asReference rowNumber meets memberRowsFrom nonNull nullRow memberChildThen memberThen memberAt unless frontOf orElse headOf kindFault kindTaken faultsFrom runOf faultAt attributeFault takes takenBy attributeAt formFault isForm formNumber expectedForm plays expected contentFault isType typedFault processType fundType fundamental knownType parseInt fundTypeOf endsOf modified withModifiers processModifiers allKnown locationFault locatedFault shapeOperand blockAt partAt childlessFault memberFields typedBy typeOf typeBy fields.lastOf lastFrom isSought replaced memberPlaced placedBy offsetField offsetBy offsetIn asOffset memberWith withBits bitsBy wordOf wordBy andMember sizeOrEnds wordIn asWord wordAt asValue layoutOfKey inRowOfKey rowBy rowLay layoutAt isStructure shapeLaid membersLaid layoutBy laidFrom layThen endOr andLaid laidMember memberSize sizeOr hasByteSize ownSize sizeOrLargest layoutInto layInto laidWords namePlace nameLength nameOf nameBy typeSize typeSizeBy kindSize fundamentalSize indexOf anyPointer operandAt
 input-a = (refl, refl)

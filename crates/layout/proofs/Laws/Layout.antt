@@ -9,6 +9,7 @@ use lib.ListN.{length, set, length-append}
 use lib.Seq.{sets, length-sets}
 use lib.Dec.{eqb, leb}
 use borrow.Author.Tests.{eq-eqb, ne-eqb, le-leb, lt-leb}
+use Rattle.tables.specs.Table.{table}
 use Rattle.lent.specs.Outcome.{Outcome, Given, outcome}
 use Rattle.numbers.proofs.Laws.Tests.{cond-all}
 use Rattle.numbers.specs.declared.Endian.{Endian}
@@ -682,7 +683,7 @@ module _ (settings : Settings) (s rows attrs : List ℕ) (n : ℕ) (sizeOf : «T
     give-unlaid p = given-as (ap (layoutInto room (rowLay settings s rows attrs n sizeOf i)) (sym p ∙ is))
 
 module _ (settings : Settings) (vendors sizes s rows attrs : List ℕ) (counts : Counts) (key : ℕ) (room : List ℕ) {told : Keyed}
-    (is : told ≡ inRowOfKey settings vendors sizes s rows attrs counts key keyed.Refused keyed.Row) where
+    (is : told ≡ inRowOfKey (table s settings vendors sizes rows attrs counts) key keyed.Refused keyed.Row) where
   abbrev kept : Refusal → Outcome LayoutRead ℕ
   kept why = outcome (layout.Refused why) room
 
@@ -694,11 +695,11 @@ module _ (settings : Settings) (vendors sizes s rows attrs : List ℕ) (counts :
   pub layout-there : {i : ℕ} {r : LayoutRead} {room′ : List ℕ} → told ≡ keyed.Row i
       → Given (layoutInto room (rowLay settings s rows attrs (counts .rows) (typeSizeFrom settings sizes s rows attrs (counts .rows) [] (depthLimit - 1)) i)
       (layoutAt settings s rows attrs (counts .rows) (typeSizeFrom settings sizes s rows attrs (counts .rows) [] (depthLimit - 1)) i)) r room′
-      → Given (layoutOfKey settings vendors sizes s rows attrs counts key room) r room′
+      → Given (layoutOfKey (table s settings vendors sizes rows attrs counts) key room) r room′
   unfolding layoutOfKey typeSizeFrom typeSize entrySizeFrom
   layout-there {r = r} {room′ = room′} p g =
       subst (λ (o : Outcome LayoutRead ℕ). Given o r room′) (in-row settings vendors sizes s rows attrs counts key is kept there p) g
 
-  pub layout-unlaid : {why : Refusal} → told ≡ keyed.Refused why → Given (layoutOfKey settings vendors sizes s rows attrs counts key room) (layout.Refused why) room
+  pub layout-unlaid : {why : Refusal} → told ≡ keyed.Refused why → Given (layoutOfKey (table s settings vendors sizes rows attrs counts) key room) (layout.Refused why) room
   unfolding layoutOfKey
   layout-unlaid p = given-as (no-row settings vendors sizes s rows attrs counts key is kept there p)

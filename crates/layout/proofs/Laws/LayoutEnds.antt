@@ -9,6 +9,7 @@ use lib.ListN.{length, getD}
 use lib.Seq.{getD-take}
 use lib.Dec.{leb}
 use borrow.Author.Tests.{leb-true, leb-false}
+use Rattle.tables.specs.Table.{table}
 use Rattle.lent.specs.Outcome.{Given}
 use Rattle.numbers.proofs.Laws.Tests.{cond-all}
 use Rattle.format.specs.declared.settings.Settings.{Settings}
@@ -136,14 +137,14 @@ words-inside size (x ∷ xs) h (suc k) l =
     rw (at, next) (words-inside size xs (h .1) k less)
 
 module _ (settings : Settings) (vendors sizes s rows attrs : List ℕ) (counts : Counts) (key : ℕ) (room : List ℕ) {r : LayoutRead} {room′ : List ℕ} {x : Layout}
-    (g : Given (layoutOfKey settings vendors sizes s rows attrs counts key room) r room′) (p : r ≡ layout.Is x) where
+    (g : Given (layoutOfKey (table s settings vendors sizes rows attrs counts) key room) r room′) (p : r ≡ layout.Is x) where
   -- member k of the room: offset and size come to the layout's size at most
-  pub given-inside : hasByteSize (ownSize settings s rows attrs (counts .rows) (innerSize settings sizes s rows attrs counts) (x .row)) ≡ false
+  pub given-inside : hasByteSize (ownSize settings s rows attrs (counts .rows) (innerSize (table s settings vendors sizes rows attrs counts)) (x .row)) ≡ false
       → (k : ℕ) → k < x .members → getD room′ (k * laidWidth) 0 + getD room′ (k * laidWidth + 1) 0 ≤ x .size
   given-inside unbounded k l =
-      let f : LayoutFilled settings s rows attrs (counts .rows) (innerSize settings sizes s rows attrs counts) key x room room′ = layout-filled settings vendors sizes s rows attrs counts key room g p in
+      let f : LayoutFilled (table s settings vendors sizes rows attrs counts) key x room room′ = layout-filled settings vendors sizes s rows attrs counts key room g p in
       let many : length (f .list) ≡ x .members = f .many in
-      let ends : EndInside (x .size) (f .list) = layout-inside settings s rows attrs (counts .rows) (innerSize settings sizes s rows attrs counts) (x .row) unbounded (f .layout-is) (f .are) in
+      let ends : EndInside (x .size) (f .list) = layout-inside settings s rows attrs (counts .rows) (innerSize (table s settings vendors sizes rows attrs counts)) (x .row) unbounded (f .layout-is) (f .are) in
       let same : (j : ℕ) → j < x .members * laidWidth → getD (laidWords (f .list)) j 0 ≡ getD room′ j 0 =
       λ j h. ap (λ (t : List ℕ). getD t j 0) (sym (f .filled .front)) ∙ getD-take (x .members * laidWidth) room′ j 0 h in
       let words : getD (laidWords (f .list)) (k * laidWidth) 0 + getD (laidWords (f .list)) (k * laidWidth + 1) 0 ≤ x .size =

@@ -9,6 +9,7 @@ use lib.ListN.{length}
 use lib.Seq.{sets}
 use lib.Dec.{leb}
 use borrow.Author.Tests.{leb-true, le-leb}
+use Rattle.tables.specs.Table.{table}
 use Rattle.lent.proofs.Laws.Filled.{sets-filled}
 use Rattle.lent.specs.Outcome.{Outcome, Given, outcome}
 use Rattle.format.specs.declared.settings.Settings.{Settings}
@@ -115,12 +116,12 @@ module _ (room : List ℕ) {lay : Lay} {w : LayoutWhole} {x : Layout} (f : Fits 
 -- ---- the theorem
 
 module _ (settings : Settings) (vendors sizes s rows attrs : List ℕ) (counts : Counts) (key : ℕ) (room : List ℕ) {r : LayoutRead} {room′ : List ℕ} {x : Layout}
-    (g : Given (layoutOfKey settings vendors sizes s rows attrs counts key room) r room′) (p : r ≡ layout.Is x) where
+    (g : Given (layoutOfKey (table s settings vendors sizes rows attrs counts) key room) r room′) (p : r ≡ layout.Is x) where
   abbrev lay : ℕ → Lay
-  lay i = rowLay settings s rows attrs (counts .rows) (innerSize settings sizes s rows attrs counts) i
+  lay i = rowLay settings s rows attrs (counts .rows) (innerSize (table s settings vendors sizes rows attrs counts)) i
 
   abbrev one : ℕ → LayoutWhole
-  one i = layoutAt settings s rows attrs (counts .rows) (innerSize settings sizes s rows attrs counts) i
+  one i = layoutAt settings s rows attrs (counts .rows) (innerSize (table s settings vendors sizes rows attrs counts)) i
 
   abbrev end : ℕ
   end = x .members * laidWidth
@@ -128,8 +129,8 @@ module _ (settings : Settings) (vendors sizes s rows attrs : List ℕ) (counts :
   abbrev pub there : ℕ → Outcome LayoutRead ℕ
   there i = layoutInto room (lay i) (one i)
 
-  row-filled : (i : ℕ) → keyed.Row i ≡ inRowOfKey settings vendors sizes s rows attrs counts key keyed.Refused keyed.Row → Fits room (lay i) (one i) x
-      → LaidAs settings s rows attrs (counts .rows) (innerSize settings sizes s rows attrs counts) i (lay i) x → room′ ≡ there i .room → LayoutFilled settings s rows attrs (counts .rows) (innerSize settings sizes s rows attrs counts) key x room room′
+  row-filled : (i : ℕ) → keyed.Row i ≡ inRowOfKey (table s settings vendors sizes rows attrs counts) key keyed.Refused keyed.Row → Fits room (lay i) (one i) x
+      → LaidAs settings s rows attrs (counts .rows) (innerSize (table s settings vendors sizes rows attrs counts)) i (lay i) x → room′ ≡ there i .room → LayoutFilled (table s settings vendors sizes rows attrs counts) key x room room′
   row-filled i is f these h =
       let fits : x .members ≤ length room / laidWidth = f .room-enough in
       let enough : end ≤ length room = omega arith in
@@ -144,18 +145,18 @@ module _ (settings : Settings) (vendors sizes s rows attrs : List ℕ) (counts :
         filled = sets-filled (laidWords (these .list)) end room (long room f (these .list) (these .are) (these .many)) enough (h ∙ filled-room room f (these .list) (these .are) (these .many));
       }
 
-  by-key : (told : Keyed) → told ≡ inRowOfKey settings vendors sizes s rows attrs counts key keyed.Refused keyed.Row
-      → LayoutFilled settings s rows attrs (counts .rows) (innerSize settings sizes s rows attrs counts) key x room room′
+  by-key : (told : Keyed) → told ≡ inRowOfKey (table s settings vendors sizes rows attrs counts) key keyed.Refused keyed.Row
+      → LayoutFilled (table s settings vendors sizes rows attrs counts) key x room room′
   unfolding layoutOfKey
   by-key (keyed.Row i) is =
-      let same : there i ≡ layoutOfKey settings vendors sizes s rows attrs counts key room =
+      let same : there i ≡ layoutOfKey (table s settings vendors sizes rows attrs counts) key room =
       in-row settings vendors sizes s rows attrs counts key is (λ why. outcome (layout.Refused why) room) there refl in
       let f : Fits room (lay i) (one i) x = fits room (lay i) (one i) (ap (λ (o : Outcome LayoutRead ℕ). o .answer) same ∙ sym (g .answer-is) ∙ p) in
-      row-filled i is f (laid-as settings s rows attrs (counts .rows) (innerSize settings sizes s rows attrs counts) i (f .read)) (g .room-is ∙ sym (ap (λ (o : Outcome LayoutRead ℕ). o .room) same))
+      row-filled i is f (laid-as settings s rows attrs (counts .rows) (innerSize (table s settings vendors sizes rows attrs counts)) i (f .read)) (g .room-is ∙ sym (ap (λ (o : Outcome LayoutRead ℕ). o .room) same))
   by-key (keyed.Refused why) is =
-      let same : outcome (layout.Refused why) room ≡ layoutOfKey settings vendors sizes s rows attrs counts key room =
+      let same : outcome (layout.Refused why) room ≡ layoutOfKey (table s settings vendors sizes rows attrs counts) key room =
       no-row settings vendors sizes s rows attrs counts key is (λ w. outcome (layout.Refused w) room) there refl in
       absurd (subst (isLayout x) (sym p ∙ g .answer-is ∙ sym (ap (λ (o : Outcome LayoutRead ℕ). o .answer) same)) refl)
 
-  pub layout-filled : LayoutFilled settings s rows attrs (counts .rows) (innerSize settings sizes s rows attrs counts) key x room room′
-  layout-filled = by-key (inRowOfKey settings vendors sizes s rows attrs counts key keyed.Refused keyed.Row) refl
+  pub layout-filled : LayoutFilled (table s settings vendors sizes rows attrs counts) key x room room′
+  layout-filled = by-key (inRowOfKey (table s settings vendors sizes rows attrs counts) key keyed.Refused keyed.Row) refl

@@ -6,6 +6,7 @@ use mathlib.Core.Bool.{Bool, true, false, cond, true≢false}
 use mathlib.Core.List.{List, [], _∷_}
 use lib.ListN.{length}
 use lib.Dec.{leb, ltb}
+use Rattle.tables.specs.Table.{table}
 use Rattle.lent.specs.Outcome.{Outcome}
 use Rattle.format.specs.Limits.{sectionLimit, depthLimit}
 use Rattle.format.specs.Settings.{settingsHold}
@@ -245,10 +246,10 @@ module _ (room : List ℕ) where
 module _ (settings : Settings) (vendors sizes s rows attrs : List ℕ) (counts : Counts) (key : ℕ) (room : List ℕ) where
   abbrev there : ℕ → Outcome LayoutRead ℕ
   there i =
-      layoutInto room (rowLay settings s rows attrs (counts .rows) (innerSize settings sizes s rows attrs counts) i) (layoutAt settings s rows attrs (counts .rows) (innerSize settings sizes s rows attrs counts) i)
+      layoutInto room (rowLay settings s rows attrs (counts .rows) (innerSize (table s settings vendors sizes rows attrs counts)) i) (layoutAt settings s rows attrs (counts .rows) (innerSize (table s settings vendors sizes rows attrs counts)) i)
 
   abbrev sizeThere : Found → Sized
-  sizeThere f = foundSize (rowSize settings s rows attrs (counts .rows) (innerSize settings sizes s rows attrs counts)) key f
+  sizeThere f = foundSize (rowSize settings s rows attrs (counts .rows) (innerSize (table s settings vendors sizes rows attrs counts))) key f
 
   abbrev layoutThere : Found → Outcome LayoutRead ℕ
   layoutThere f = rowBy key (kept room) there f
@@ -260,13 +261,13 @@ module _ (settings : Settings) (vendors sizes s rows attrs : List ℕ) (counts :
   found-size : (f : Found) {x : Layout} → layoutThere f .answer ≡ layout.Is x → sizeThere f ≡ Is (x .size)
   unfolding rowBy foundSize
   found-size (found.At i) p =
-      row-layout-size settings s rows attrs (counts .rows) (innerSize settings sizes s rows attrs counts) i
-      (fits room (rowLay settings s rows attrs (counts .rows) (innerSize settings sizes s rows attrs counts) i) (layoutAt settings s rows attrs (counts .rows) (innerSize settings sizes s rows attrs counts) i) p .read)
+      row-layout-size settings s rows attrs (counts .rows) (innerSize (table s settings vendors sizes rows attrs counts)) i
+      (fits room (rowLay settings s rows attrs (counts .rows) (innerSize (table s settings vendors sizes rows attrs counts)) i) (layoutAt settings s rows attrs (counts .rows) (innerSize (table s settings vendors sizes rows attrs counts)) i) p .read)
   found-size found.Nothing p = absurd (subst isGiven (sym p) tt)
 
   -- the size of a key's layout is the key's size
-  pub layout-size : {x : Layout} → layoutOfKey settings vendors sizes s rows attrs counts key room .answer ≡ layout.Is x
-      → sizeOfKey settings vendors sizes s rows attrs counts key ≡ Is (x .size)
+  pub layout-size : {x : Layout} → layoutOfKey (table s settings vendors sizes rows attrs counts) key room .answer ≡ layout.Is x
+      → sizeOfKey (table s settings vendors sizes rows attrs counts) key ≡ Is (x .size)
   unfolding layoutOfKey inRowOfKey sizeOfKey tested
   layout-size p =
       tests-size room (settingsHold settings vendors sizes) (ltb (length s) sectionLimit) (tableHolds s vendors rows attrs counts)
@@ -278,13 +279,13 @@ module _ (settings : Settings) (vendors sizes s rows attrs : List ℕ) (counts :
     found-size-refused : (f : Found) → rowOfKey rows (counts .rows) key ≡ f → {why : Refusal} → sizeThere f ≡ Refused why → layoutThere f .answer ≡ layout.Refused why
     unfolding rowBy foundSize layoutInto
     found-size-refused (found.At i) is p =
-        ap (λ (w : LayoutWhole). layoutInto room (rowLay settings s rows attrs (counts .rows) (innerSize settings sizes s rows attrs counts) i) w .answer)
-        (row-size-refused settings s rows attrs (counts .rows) (innerSize settings sizes s rows attrs counts) i (structure i is) p)
+        ap (λ (w : LayoutWhole). layoutInto room (rowLay settings s rows attrs (counts .rows) (innerSize (table s settings vendors sizes rows attrs counts)) i) w .answer)
+        (row-size-refused settings s rows attrs (counts .rows) (innerSize (table s settings vendors sizes rows attrs counts)) i (structure i is) p)
     found-size-refused found.Nothing is {why} p = ap layout.Refused (subst (isRefusal why) (sym p) refl)
 
     -- no size, no layout
-    pub size-refused : {why : Refusal} → sizeOfKey settings vendors sizes s rows attrs counts key ≡ Refused why
-        → layoutOfKey settings vendors sizes s rows attrs counts key room .answer ≡ layout.Refused why
+    pub size-refused : {why : Refusal} → sizeOfKey (table s settings vendors sizes rows attrs counts) key ≡ Refused why
+        → layoutOfKey (table s settings vendors sizes rows attrs counts) key room .answer ≡ layout.Refused why
     unfolding layoutOfKey inRowOfKey sizeOfKey tested
     size-refused p =
         tests-size-refused room (settingsHold settings vendors sizes) (ltb (length s) sectionLimit) (tableHolds s vendors rows attrs counts)
@@ -292,17 +293,17 @@ module _ (settings : Settings) (vendors sizes s rows attrs : List ℕ) (counts :
         (λ q. found-size-refused (rowOfKey rows (counts .rows) key) refl (sym size-there ∙ q)) p
 
     -- and it has no ByteSize
-    module _ (unbounded : (i : ℕ) → rowOfKey rows (counts .rows) key ≡ found.At i → hasByteSize (ownSize settings s rows attrs (counts .rows) (innerSize settings sizes s rows attrs counts) i) ≡ false) where
+    module _ (unbounded : (i : ℕ) → rowOfKey rows (counts .rows) key ≡ found.At i → hasByteSize (ownSize settings s rows attrs (counts .rows) (innerSize (table s settings vendors sizes rows attrs counts)) i) ≡ false) where
       found-layout-refused : (f : Found) → rowOfKey rows (counts .rows) key ≡ f → {why : Refusal} → layoutThere f .answer ≡ layout.Refused why → sizeThere f ≡ Refused why
       unfolding rowBy foundSize
       found-layout-refused (found.At i) is p =
-          row-layout-refused settings s rows attrs (counts .rows) (innerSize settings sizes s rows attrs counts) i (structure i is) (unbounded i is)
-          (whole-kept room (rowLay settings s rows attrs (counts .rows) (innerSize settings sizes s rows attrs counts) i) (layoutAt settings s rows attrs (counts .rows) (innerSize settings sizes s rows attrs counts) i) p)
+          row-layout-refused settings s rows attrs (counts .rows) (innerSize (table s settings vendors sizes rows attrs counts)) i (structure i is) (unbounded i is)
+          (whole-kept room (rowLay settings s rows attrs (counts .rows) (innerSize (table s settings vendors sizes rows attrs counts)) i) (layoutAt settings s rows attrs (counts .rows) (innerSize (table s settings vendors sizes rows attrs counts)) i) p)
       found-layout-refused found.Nothing is {why} p = ap Refused (subst (isKept why) (sym p) refl)
 
       -- no layout, no size
-      pub layout-refused : {why : Refusal} → layoutOfKey settings vendors sizes s rows attrs counts key room .answer ≡ layout.Refused why
-          → sizeOfKey settings vendors sizes s rows attrs counts key ≡ Refused why
+      pub layout-refused : {why : Refusal} → layoutOfKey (table s settings vendors sizes rows attrs counts) key room .answer ≡ layout.Refused why
+          → sizeOfKey (table s settings vendors sizes rows attrs counts) key ≡ Refused why
       unfolding layoutOfKey inRowOfKey sizeOfKey tested
       layout-refused p =
           tests-layout-refused room (settingsHold settings vendors sizes) (ltb (length s) sectionLimit) (tableHolds s vendors rows attrs counts)

@@ -8,6 +8,7 @@ use mathlib.Core.List.{List, [], _∷_}
 use lib.ListN.{length, set, length-set}
 use lib.Dec.{leb, eqb}
 use borrow.Author.Tests.{le-leb, lt-leb, eq-eqb, ne-eqb}
+use Rattle.tables.specs.Table.{table}
 use Rattle.lent.specs.Outcome.{Outcome, outcome, Given}
 use Rattle.numbers.proofs.Laws.Tests.{cond-all}
 use Rattle.links.specs.Walk.{Walk, ends, endless, meets, stops, walkFrom}
@@ -249,20 +250,20 @@ pub asked-there : {rows : List ℕ} {n : ℕ} (key : ℕ) {found : Found} {i : �
 asked-there {rows} {n} key table is p = record { table = table; there = row-found rows n key (sym is ∙ p) .0 }
 
 pub tested-rows : {settings : Settings} {vendors sizes s rows attrs : List ℕ} {counts : Counts} {told : Check}
-    → Tells settings vendors sizes s rows attrs counts told → told ≡ Passed → Rows rows (counts .rows)
+    → Tells (table s settings vendors sizes rows attrs counts) told → told ≡ Passed → Rows rows (counts .rows)
 tested-rows {s = s} {rows = rows} {attrs = attrs} {counts = counts} is p =
     let c : TableHolds s _ rows attrs counts = passed-checked is p in record { rising = checked-rising c; few = checked-rows-few c }
 
 module _ (settings : Settings) (vendors sizes s rows attrs : List ℕ) (counts : Counts) (key : ℕ) (room : List ℕ) {told : Check}
-    (is : Tells settings vendors sizes s rows attrs counts told) where
+    (is : Tells (table s settings vendors sizes rows attrs counts) told) where
   pub children-passed : told ≡ Passed → {r : ChildRows} {room′ : List ℕ}
       → Given (childrenBy (settings .endian) s rows attrs (counts .rows) key room (rowOfKey rows (counts .rows) key)) r room′
-      → Given (childrenOfKey settings vendors sizes s rows attrs counts key room) r room′
+      → Given (childrenOfKey (table s settings vendors sizes rows attrs counts) key room) r room′
   unfolding childrenOfKey
   children-passed p {r} {room′} g =
       subst (λ (o : Outcome ChildRows ℕ). Given o r room′) (passed-answer (λ why. outcome (Refused why) room) _ is p) g
 
-  pub children-refused : {why : Refusal} → told ≡ check.Refused why → Given (childrenOfKey settings vendors sizes s rows attrs counts key room) (Refused why) room
+  pub children-refused : {why : Refusal} → told ≡ check.Refused why → Given (childrenOfKey (table s settings vendors sizes rows attrs counts) key room) (Refused why) room
   unfolding childrenOfKey
   children-refused {why} p =
       subst (λ (o : Outcome ChildRows ℕ). Given o (Refused why) room) (refused-answer (λ w. outcome (Refused w) room) _ is p) (record { answer-is = refl; room-is = refl })

@@ -3,6 +3,7 @@ use Prim.Native.Nat.{ℕ, _≤_, _<_}
 use mathlib.Core.Path.{_≡_, sym, ap, _∙_}
 use mathlib.Core.List.{List}
 use borrow.Author.Tests.{lt-ltb, le-ltb}
+use Rattle.tables.specs.Table.{table}
 use Rattle.format.specs.declared.settings.Settings.{Settings}
 use Rattle.format.specs.declared.refusal.Refusal.{Refusal}
 use Rattle.format.specs.declared.refusal.Reason.the-variants as reason
@@ -41,23 +42,23 @@ module _ (to : ℕ → ℕ) (n key : ℕ) {found told : Found} (is : found ≡ t
   neighbour-nowhere p h = h ∙ ap (neighbourBy to n key) (sym p ∙ is)
 
 module _ (settings : Settings) (vendors sizes s rows attrs : List ℕ) (counts : Counts) (key : ℕ) {told : Check}
-    (is : Tells settings vendors sizes s rows attrs counts told) where
+    (is : Tells (table s settings vendors sizes rows attrs counts) told) where
   pub next-passed : told ≡ Passed → {r : Neighbour}
       → r ≡ neighbourBy (λ i. nextRow rows (counts .rows) i) (counts .rows) key (rowOfKey rows (counts .rows) key)
-      → r ≡ nextTag settings vendors sizes s rows attrs counts key
+      → r ≡ nextTag (table s settings vendors sizes rows attrs counts) key
   unfolding nextTag
   next-passed p h = h ∙ passed-answer Refused _ is p
 
-  pub next-refused : {why : Refusal} → told ≡ check.Refused why → Refused why ≡ nextTag settings vendors sizes s rows attrs counts key
+  pub next-refused : {why : Refusal} → told ≡ check.Refused why → Refused why ≡ nextTag (table s settings vendors sizes rows attrs counts) key
   unfolding nextTag
   next-refused p = refused-answer Refused _ is p
 
   pub sibling-passed : told ≡ Passed → {r : Neighbour}
       → r ≡ neighbourBy (λ i. siblingRow (settings .endian) s rows attrs (counts .rows) i) (counts .rows) key (rowOfKey rows (counts .rows) key)
-      → r ≡ nextSibling settings vendors sizes s rows attrs counts key
+      → r ≡ nextSibling (table s settings vendors sizes rows attrs counts) key
   unfolding nextSibling
   sibling-passed p h = h ∙ passed-answer Refused _ is p
 
-  pub sibling-refused : {why : Refusal} → told ≡ check.Refused why → Refused why ≡ nextSibling settings vendors sizes s rows attrs counts key
+  pub sibling-refused : {why : Refusal} → told ≡ check.Refused why → Refused why ≡ nextSibling (table s settings vendors sizes rows attrs counts) key
   unfolding nextSibling
   sibling-refused p = refused-answer Refused _ is p

@@ -9,6 +9,7 @@ use mathlib.Core.List.{List, [], _∷_}
 use lib.ListN.{length}
 use lib.Dec.{ltb}
 use borrow.Author.Tests.{ltb-true, eqb-true}
+use Rattle.tables.specs.Table.{table}
 use Rattle.numbers.proofs.Laws.Tests.{cond-all}
 use Rattle.numbers.specs.Value.{valueOf, there, readAt}
 use Rattle.numbers.proofs.Laws.Value.{there-inside, reads}
@@ -213,11 +214,11 @@ module _ {s vendors rows attrs : List ℕ} {counts : Counts} (checked : TableHol
       (λ other. record { row = i; is-there = here; has-key = has-key; none = inl other })
 
 module _ (settings : Settings) (vendors sizes s rows attrs : List ℕ) (counts : Counts) (key number : ℕ) (form : FormKind) where
-  place-sound : Sound s rows attrs (counts .rows) key number form (placeOfKey settings vendors sizes s rows attrs counts key number form)
-  place-sound = go (inRowOfKey settings vendors sizes s rows attrs counts key keyed.Refused keyed.Row) refl
+  place-sound : Sound s rows attrs (counts .rows) key number form (placeOfKey (table s settings vendors sizes rows attrs counts) key number form)
+  place-sound = go (inRowOfKey (table s settings vendors sizes rows attrs counts) key keyed.Refused keyed.Row) refl
     where
-      go : (told : Keyed) → inRowOfKey settings vendors sizes s rows attrs counts key keyed.Refused keyed.Row ≡ told
-          → Sound s rows attrs (counts .rows) key number form (placeOfKey settings vendors sizes s rows attrs counts key number form)
+      go : (told : Keyed) → inRowOfKey (table s settings vendors sizes rows attrs counts) key keyed.Refused keyed.Row ≡ told
+          → Sound s rows attrs (counts .rows) key number form (placeOfKey (table s settings vendors sizes rows attrs counts) key number form)
       go (keyed.Row i) p =
           subst (Sound s rows attrs (counts .rows) key number form) (place-there settings vendors sizes s rows attrs counts key refl number form p refl)
           (spot-sound (keyed-checked settings vendors sizes s rows attrs counts key refl p) i
@@ -227,30 +228,30 @@ module _ (settings : Settings) (vendors sizes s rows attrs : List ℕ) (counts :
           subst (Sound s rows attrs (counts .rows) key number form) (place-refused settings vendors sizes s rows attrs counts key refl number form p) tt
 
   -- a lookup of a number tells nothing only where the key's row has no such attribute or it has another form
-  pub value-there : IsNumber form → valueOfKey settings vendors sizes s rows attrs counts key number form ≡ value.Nothing
+  pub value-there : IsNumber form → valueOfKey (table s settings vendors sizes rows attrs counts) key number form ≡ value.Nothing
       → Without rows attrs (counts .rows) key number form
   unfolding valueOfKey
   value-there n p =
-      nothing-word s rows attrs (counts .rows) key number form n (placeOfKey settings vendors sizes s rows attrs counts key number form) place-sound p
+      nothing-word s rows attrs (counts .rows) key number form n (placeOfKey (table s settings vendors sizes rows attrs counts) key number form) place-sound p
 
   -- the value at the place that a lookup comes to ends inside
-  place-inside : {spot : Spot} → placeOfKey settings vendors sizes s rows attrs counts key number form ≡ placed.At spot
+  place-inside : {spot : Spot} → placeOfKey (table s settings vendors sizes rows attrs counts) key number form ≡ placed.At spot
       → isAt (valueEnd form (spot .ends .«data») s (spot .at)) ≡ true
   place-inside p = subst (Sound s rows attrs (counts .rows) key number form) p place-sound
 
 module _ (settings : Settings) (vendors sizes s rows attrs : List ℕ) (counts : Counts) (key number : ℕ) {spot : Spot} where
   -- a text that is told as found is whole
-  pub text-there : placeOfKey settings vendors sizes s rows attrs counts key number String ≡ placed.At spot → WholeText s (spot .at) (partAs String s spot)
+  pub text-there : placeOfKey (table s settings vendors sizes rows attrs counts) key number String ≡ placed.At spot → WholeText s (spot .at) (partAs String s spot)
   unfolding partAs valueEnd
   text-there p = text-whole s (spot .at) (place-inside settings vendors sizes s rows attrs counts key number String p)
 
   -- and a block
-  pub block2-there : placeOfKey settings vendors sizes s rows attrs counts key number Block2 ≡ placed.At spot
+  pub block2-there : placeOfKey (table s settings vendors sizes rows attrs counts) key number Block2 ≡ placed.At spot
       → WholeBlock (spot .ends .«data») 2 s (spot .at) (partAs Block2 s spot)
   unfolding partAs valueEnd
   block2-there p = block-whole (spot .ends .«data») 2 s (spot .at) (place-inside settings vendors sizes s rows attrs counts key number Block2 p)
 
-  pub block4-there : placeOfKey settings vendors sizes s rows attrs counts key number Block4 ≡ placed.At spot
+  pub block4-there : placeOfKey (table s settings vendors sizes rows attrs counts) key number Block4 ≡ placed.At spot
       → WholeBlock (spot .ends .«data») 4 s (spot .at) (partAs Block4 s spot)
   unfolding partAs valueEnd
   block4-there p = block-whole (spot .ends .«data») 4 s (spot .at) (place-inside settings vendors sizes s rows attrs counts key number Block4 p)

@@ -3,6 +3,7 @@ use Prim.Native.Nat.{ℕ}
 use mathlib.Core.Path.{_≡_, sym, ap, _∙_, subst}
 use mathlib.Core.Bool.{Bool, true, false}
 use mathlib.Core.List.{List, [], _∷_}
+use Rattle.tables.specs.Table.{table}
 use Rattle.numbers.specs.declared.Endian.{Endian}
 use Rattle.format.specs.FormKind.{isForm}
 use Rattle.format.specs.Refusal.{numberOf}
@@ -38,22 +39,22 @@ use Rattle.links.specs.declared.typed.Placed.the-variants as placed
 -- ---- in the row of a key
 
 module _ (settings : Settings) (vendors sizes s rows attrs : List ℕ) (counts : Counts) (key : ℕ) {told : Keyed}
-    (is : told ≡ inRowOfKey settings vendors sizes s rows attrs counts key keyed.Refused keyed.Row) where
-  pub look-there : (w : Wanted) {i : ℕ} {r : Looked} → told ≡ keyed.Row i → r ≡ lookedIn rows attrs w i → r ≡ attributeOfKey settings vendors sizes s rows attrs counts key w
+    (is : told ≡ inRowOfKey (table s settings vendors sizes rows attrs counts) key keyed.Refused keyed.Row) where
+  pub look-there : (w : Wanted) {i : ℕ} {r : Looked} → told ≡ keyed.Row i → r ≡ lookedIn rows attrs w i → r ≡ attributeOfKey (table s settings vendors sizes rows attrs counts) key w
   unfolding attributeOfKey
   look-there w p h = h ∙ in-row settings vendors sizes s rows attrs counts key is looked.Refused (lookedIn rows attrs w) p
 
-  pub look-refused : (w : Wanted) {why : Refusal} → told ≡ keyed.Refused why → looked.Refused why ≡ attributeOfKey settings vendors sizes s rows attrs counts key w
+  pub look-refused : (w : Wanted) {why : Refusal} → told ≡ keyed.Refused why → looked.Refused why ≡ attributeOfKey (table s settings vendors sizes rows attrs counts) key w
   unfolding attributeOfKey
   look-refused w p = no-row settings vendors sizes s rows attrs counts key is looked.Refused (lookedIn rows attrs w) p
 
   pub place-there : (number : ℕ) (form : FormKind) {i : ℕ} {r : Placed} → told ≡ keyed.Row i → r ≡ spotIn (settings .endian) rows attrs number form i
-      → r ≡ placeOfKey settings vendors sizes s rows attrs counts key number form
+      → r ≡ placeOfKey (table s settings vendors sizes rows attrs counts) key number form
   unfolding placeOfKey
   place-there number form p h = h ∙ in-row settings vendors sizes s rows attrs counts key is placed.Refused (spotIn (settings .endian) rows attrs number form) p
 
   pub place-refused : (number : ℕ) (form : FormKind) {why : Refusal} → told ≡ keyed.Refused why
-      → placed.Refused why ≡ placeOfKey settings vendors sizes s rows attrs counts key number form
+      → placed.Refused why ≡ placeOfKey (table s settings vendors sizes rows attrs counts) key number form
   unfolding placeOfKey
   place-refused number form p = no-row settings vendors sizes s rows attrs counts key is placed.Refused (spotIn (settings .endian) rows attrs number form) p
 
@@ -139,7 +140,7 @@ unfolding toldWords
 told-refused why h p = ap (λ (x : ℕ). 2 ∷ x ∷ why .place ∷ []) h ∙ ap toldWords (sym p)
 
 pub handed-block : (settings : Settings) (vendors sizes s rows attrs : List ℕ) (counts : Counts) (key number : ℕ) {form : FormKind} {part words : List ℕ}
-    → form ≡ blockForm number → Handed form s (placeOfKey settings vendors sizes s rows attrs counts key number form) part words
-    → Handed (blockForm number) s (placeOfKey settings vendors sizes s rows attrs counts key number (blockForm number)) part words
+    → form ≡ blockForm number → Handed form s (placeOfKey (table s settings vendors sizes rows attrs counts) key number form) part words
+    → Handed (blockForm number) s (placeOfKey (table s settings vendors sizes rows attrs counts) key number (blockForm number)) part words
 handed-block settings vendors sizes s rows attrs counts key number {part = part} {words = words} p =
-    subst (λ (x : FormKind). Handed x s (placeOfKey settings vendors sizes s rows attrs counts key number x) part words) p
+    subst (λ (x : FormKind). Handed x s (placeOfKey (table s settings vendors sizes rows attrs counts) key number x) part words) p

@@ -9,6 +9,7 @@ use lib.ListN.{length, take, drop, length-drop, length-append}
 use lib.Seq.{length-take-le, sets}
 use lib.Dec.{leb}
 use lib.IntN.{ℤ}
+use Rattle.tables.specs.Table.{table}
 use Rattle.lent.specs.Outcome.{Outcomes, BothGiven, outcomes}
 use Rattle.numbers.proofs.Laws.Tests.{cond-all}
 use Rattle.numbers.specs.Value.{valueOf, there}
@@ -580,7 +581,7 @@ module _ (settings : Settings) (s rows attrs : List ℕ) (n i : ℕ) where
 -- ---- the enumeration of a key
 
 module _ (settings : Settings) (vendors sizes s rows attrs : List ℕ) (counts : Counts) (key : ℕ) {told : Keyed}
-    (is : told ≡ inRowOfKey settings vendors sizes s rows attrs counts key keyed.Refused keyed.Row) (values : List ℤ) (names : List ℕ) where
+    (is : told ≡ inRowOfKey (table s settings vendors sizes rows attrs counts) key keyed.Refused keyed.Row) (values : List ℤ) (names : List ℕ) where
   abbrev inRooms : ℕ → Outcomes EnumerationRead ℤ ℕ
   inRooms i = enumerationInto (settings .producer) values names (rowLists settings s rows attrs (counts .rows) i) (enumerationAt settings s rows attrs (counts .rows) i)
 
@@ -596,13 +597,13 @@ module _ (settings : Settings) (vendors sizes s rows attrs : List ℕ) (counts :
 
   pub tag-there : {i : ℕ} {r : EnumerationRead} {values′ : List ℤ} {names′ : List ℕ} → told ≡ keyed.Row i
       → BothGiven (enumerationInto (settings .producer) values names (rowLists settings s rows attrs (counts .rows) i) (enumerationAt settings s rows attrs (counts .rows) i)) r values′ names′
-      → BothGiven (processEnumerationTag settings vendors sizes s rows attrs counts key values names) r values′ names′
+      → BothGiven (processEnumerationTag (table s settings vendors sizes rows attrs counts) key values names) r values′ names′
   unfolding processEnumerationTag
   tag-there {r = r} {values′ = values′} {names′ = names′} p =
       subst (λ (o : Outcomes EnumerationRead ℤ ℕ). BothGiven o r values′ names′) (in-row settings vendors sizes s rows attrs counts key is nothing inRooms p)
 
   pub tag-refused : {why : Refusal} → told ≡ keyed.Refused why
-      → BothGiven (processEnumerationTag settings vendors sizes s rows attrs counts key values names) (read.Refused why) values names
+      → BothGiven (processEnumerationTag (table s settings vendors sizes rows attrs counts) key values names) (read.Refused why) values names
   unfolding processEnumerationTag
   tag-refused {why} p =
       subst (λ (o : Outcomes EnumerationRead ℤ ℕ). BothGiven o (read.Refused why) values names) (no-row settings vendors sizes s rows attrs counts key is nothing inRooms p)

@@ -9,6 +9,7 @@ use lib.Seq.{sets}
 use lib.Dec.{leb}
 use lib.IntN.{ℤ}
 use borrow.Author.Tests.{leb-true}
+use Rattle.tables.specs.Table.{table}
 use Rattle.lent.proofs.Laws.Filled.{sets-filled}
 use Rattle.lent.specs.Outcome.{Outcomes, BothGiven}
 use Rattle.format.specs.declared.settings.Settings.{Settings}
@@ -63,9 +64,9 @@ module _ (settings : Settings) (vendors sizes s rows attrs : List ℕ) (counts :
     abbrev Says : Outcomes EnumerationRead ℤ ℕ → Type 0
     Says o = BothGiven o (read.Is e) values′ names′
 
-    module _ (i : ℕ) (row : inRowOfKey settings vendors sizes s rows attrs counts key keyed.Refused keyed.Row ≡ keyed.Row i) where
+    module _ (i : ℕ) (row : inRowOfKey (table s settings vendors sizes rows attrs counts) key keyed.Refused keyed.Row ≡ keyed.Row i) where
       abbrev Result : Type 0
-      Result = (xs : List Listed) × EnumerationFilled settings vendors sizes s rows attrs counts key values names e values′ names′ i xs
+      Result = (xs : List Listed) × EnumerationFilled (table s settings vendors sizes rows attrs counts) key values names e values′ names′ i xs
 
       with-members : (xs : List Listed) → rowLists settings s rows attrs (counts .rows) i ≡ listed xs → e .members ≡ length xs
           → (leb (e .members) (length values) && leb (e .members) (length names / 2)) ≡ true
@@ -131,11 +132,11 @@ module _ (settings : Settings) (vendors sizes s rows attrs : List ℕ) (counts :
     abbrev inRooms : ℕ → Outcomes EnumerationRead ℤ ℕ
     inRooms i = enumerationInto (settings .producer) values names (rowLists settings s rows attrs (counts .rows) i) (enumerationAt settings s rows attrs (counts .rows) i)
 
-    by-row : (told : Keyed) → told ≡ inRowOfKey settings vendors sizes s rows attrs counts key keyed.Refused keyed.Row
-        → Says (inRowOfKey settings vendors sizes s rows attrs counts key nothing inRooms) → (i : ℕ) × (xs : List Listed) × EnumerationFilled settings vendors sizes s rows attrs counts key values names e values′ names′ i xs
+    by-row : (told : Keyed) → told ≡ inRowOfKey (table s settings vendors sizes rows attrs counts) key keyed.Refused keyed.Row
+        → Says (inRowOfKey (table s settings vendors sizes rows attrs counts) key nothing inRooms) → (i : ℕ) × (xs : List Listed) × EnumerationFilled (table s settings vendors sizes rows attrs counts) key values names e values′ names′ i xs
     by-row (keyed.Row i) is g =
         let told : Says (inRooms i) = subst Says (sym (in-row settings vendors sizes s rows attrs counts key is nothing inRooms refl)) g in
-        let r : (xs : List Listed) × EnumerationFilled settings vendors sizes s rows attrs counts key values names e values′ names′ i xs = by-whole i (sym is) (enumerationAt settings s rows attrs (counts .rows) i) refl told in
+        let r : (xs : List Listed) × EnumerationFilled (table s settings vendors sizes rows attrs counts) key values names e values′ names′ i xs = by-whole i (sym is) (enumerationAt settings s rows attrs (counts .rows) i) refl told in
         (i, r .0, r .1)
     by-row (keyed.Refused why) is g =
         let told : Says (nothing why) = subst Says (sym (no-row settings vendors sizes s rows attrs counts key is nothing inRooms refl)) g in
@@ -143,7 +144,7 @@ module _ (settings : Settings) (vendors sizes s rows attrs : List ℕ) (counts :
         let z : _≡_ {A = ℕ} 0 1 = cc in
         absurd (omega arith)
 
-    pub enumeration-filled : BothGiven (processEnumerationTag settings vendors sizes s rows attrs counts key values names) (read.Is e) values′ names′
-        → (i : ℕ) × (xs : List Listed) × EnumerationFilled settings vendors sizes s rows attrs counts key values names e values′ names′ i xs
+    pub enumeration-filled : BothGiven (processEnumerationTag (table s settings vendors sizes rows attrs counts) key values names) (read.Is e) values′ names′
+        → (i : ℕ) × (xs : List Listed) × EnumerationFilled (table s settings vendors sizes rows attrs counts) key values names e values′ names′ i xs
     unfolding processEnumerationTag
-    enumeration-filled g = by-row (inRowOfKey settings vendors sizes s rows attrs counts key keyed.Refused keyed.Row) refl g
+    enumeration-filled g = by-row (inRowOfKey (table s settings vendors sizes rows attrs counts) key keyed.Refused keyed.Row) refl g

@@ -2,6 +2,7 @@
 use Prim.Native.Nat.{ℕ}
 use mathlib.Core.Path.{_≡_, ap, _∙_}
 use mathlib.Core.List.{List}
+use Rattle.tables.specs.Table.{table}
 use Rattle.format.specs.declared.settings.Settings.{Settings}
 use Rattle.format.specs.declared.refusal.Refusal.{Refusal}
 use Rattle.tables.specs.declared.row.Counts.{Counts}
@@ -22,6 +23,6 @@ fields-clear refused fields is p q h = unless-clear is refused p (h ∙ ap field
 
 -- the row of the key was found: the answer is what is said there
 pub record-there : {A : Type 0} (settings : Settings) (vendors sizes s rows attrs : List ℕ) (counts : Counts) (key : ℕ) (refused : Refusal → A) (there : ℕ → A)
-    {told : Keyed} {i : ℕ} {r : A} → told ≡ inRowOfKey settings vendors sizes s rows attrs counts key keyed.Refused keyed.Row → told ≡ keyed.Row i → r ≡ there i
-    → r ≡ inRowOfKey settings vendors sizes s rows attrs counts key refused there
+    {told : Keyed} {i : ℕ} {r : A} → told ≡ inRowOfKey (table s settings vendors sizes rows attrs counts) key keyed.Refused keyed.Row → told ≡ keyed.Row i → r ≡ there i
+    → r ≡ inRowOfKey (table s settings vendors sizes rows attrs counts) key refused there
 record-there settings vendors sizes s rows attrs counts key refused there is p h = h ∙ in-row settings vendors sizes s rows attrs counts key is refused there p

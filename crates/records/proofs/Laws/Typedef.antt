@@ -7,6 +7,7 @@ use mathlib.Core.Bool.{Bool, true, false}
 use mathlib.Core.List.{List}
 use lib.Dec.{eqb, leb}
 use borrow.Author.Tests.{eq-eqb, ne-eqb, eqb-false, le-leb, lt-leb, leb-true, leb-false}
+use Rattle.tables.specs.Table.{table}
 use Rattle.numbers.proofs.Laws.Value.{read-all, read-map}
 use Rattle.numbers.proofs.Laws.Tests.{cond-all}
 use Rattle.numbers.specs.declared.unsigned.Read32.{Read32}
@@ -476,12 +477,12 @@ module _ (settings : Settings) (s rows attrs : List ℕ) (n i : ℕ) {told : Fau
   kind-refused p = unless-refused is Refused _ p
 
 module _ (settings : Settings) (vendors sizes s rows attrs : List ℕ) (counts : Counts) (key : ℕ) {told : Keyed}
-    (is : told ≡ inRowOfKey settings vendors sizes s rows attrs counts key keyed.Refused keyed.Row) where
+    (is : told ≡ inRowOfKey (table s settings vendors sizes rows attrs counts) key keyed.Refused keyed.Row) where
   pub typedef-there : {i : ℕ} {r : TypedefRead} → told ≡ keyed.Row i → r ≡ typedefAt settings s rows attrs (counts .rows) i
-      → r ≡ processTypedefTag settings vendors sizes s rows attrs counts key
+      → r ≡ processTypedefTag (table s settings vendors sizes rows attrs counts) key
   unfolding processTypedefTag
   typedef-there p h = record-there settings vendors sizes s rows attrs counts key Refused (typedefAt settings s rows attrs (counts .rows)) is p h
 
-  pub typedef-nowhere : {why : Refusal} → told ≡ keyed.Refused why → Refused why ≡ processTypedefTag settings vendors sizes s rows attrs counts key
+  pub typedef-nowhere : {why : Refusal} → told ≡ keyed.Refused why → Refused why ≡ processTypedefTag (table s settings vendors sizes rows attrs counts) key
   unfolding processTypedefTag
   typedef-nowhere p = no-row settings vendors sizes s rows attrs counts key is Refused (typedefAt settings s rows attrs (counts .rows)) p

@@ -8,6 +8,7 @@ use lib.ListN.{length, length-append}
 use lib.Seq.{sets}
 use lib.Dec.{leb}
 use borrow.Author.Tests.{leb-true, le-leb}
+use Rattle.tables.specs.Table.{table}
 use Rattle.lent.proofs.Laws.Filled.{sets-filled}
 use Rattle.lent.specs.Outcome.{Outcome, Given}
 use Rattle.format.specs.declared.settings.Settings.{Settings}
@@ -88,7 +89,7 @@ module _ (room : List ℕ) {all : Members} {w : UnionWhole} {u : Union} (f : Fit
 -- ---- the theorem
 
 module _ (settings : Settings) (vendors sizes s rows attrs : List ℕ) (counts : Counts) (key : ℕ) (room : List ℕ) {r : UnionRead} {room′ : List ℕ} {u : Union}
-    (g : Given (processUnionTag settings vendors sizes s rows attrs counts key room) r room′) (p : r ≡ Is u) where
+    (g : Given (processUnionTag (table s settings vendors sizes rows attrs counts) key room) r room′) (p : r ≡ Is u) where
   abbrev all : ℕ → Members
   all i = rowMembers settings s rows attrs (counts .rows) i
 
@@ -98,11 +99,11 @@ module _ (settings : Settings) (vendors sizes s rows attrs : List ℕ) (counts :
   abbrev end : ℕ
   end = u .members * memberWidth
 
-  by-key : (told : Keyed) → told ≡ inRowOfKey settings vendors sizes s rows attrs counts key keyed.Refused keyed.Row
+  by-key : (told : Keyed) → told ≡ inRowOfKey (table s settings vendors sizes rows attrs counts) key keyed.Refused keyed.Row
       → UnionFilled settings s rows attrs (counts .rows) key u room room′
   unfolding processUnionTag
   by-key (keyed.Row i) is =
-      let same : unionInto room (all i) (union i) ≡ processUnionTag settings vendors sizes s rows attrs counts key room =
+      let same : unionInto room (all i) (union i) ≡ processUnionTag (table s settings vendors sizes rows attrs counts) key room =
       in-row settings vendors sizes s rows attrs counts key is (λ why. record { answer = Refused why; room = room })
       (λ j. unionInto room (all j) (union j)) refl
       in
@@ -127,11 +128,11 @@ module _ (settings : Settings) (vendors sizes s rows attrs : List ℕ) (counts :
         filled = sets-filled (membersWords (these .list)) end room (long room f these) enough after;
       }
   by-key (keyed.Refused why) is =
-      let same : record { answer = Refused why; room = room } ≡ processUnionTag settings vendors sizes s rows attrs counts key room =
+      let same : record { answer = Refused why; room = room } ≡ processUnionTag (table s settings vendors sizes rows attrs counts) key room =
       no-row settings vendors sizes s rows attrs counts key is (λ w. record { answer = Refused w; room = room })
       (λ j. unionInto room (all j) (union j)) refl
       in
       absurd (subst (isUnion u) (sym p ∙ g .answer-is ∙ sym (ap (λ (o : Outcome UnionRead ℕ). o .answer) same)) refl)
 
   pub union-filled : UnionFilled settings s rows attrs (counts .rows) key u room room′
-  union-filled = by-key (inRowOfKey settings vendors sizes s rows attrs counts key keyed.Refused keyed.Row) refl
+  union-filled = by-key (inRowOfKey (table s settings vendors sizes rows attrs counts) key keyed.Refused keyed.Row) refl

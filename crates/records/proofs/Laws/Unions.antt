@@ -9,6 +9,7 @@ use lib.ListN.{length}
 use lib.Seq.{sets, length-sets}
 use lib.Dec.{eqb, leb}
 use borrow.Author.Tests.{eq-eqb, ne-eqb, le-leb, lt-leb}
+use Rattle.tables.specs.Table.{table}
 use Rattle.lent.specs.Outcome.{Outcome, Given, outcome}
 use Rattle.numbers.specs.declared.Endian.{Endian}
 use Rattle.format.specs.TagKind as tag
@@ -400,10 +401,10 @@ module _ (settings : Settings) (s rows attrs : List ℕ) (n i : ℕ) (room : Lis
   give-refused p = given-as (ap (unionInto room (rowMembers settings s rows attrs n i)) (sym p ∙ is))
 
 module _ (settings : Settings) (vendors sizes s rows attrs : List ℕ) (counts : Counts) (key : ℕ) (room : List ℕ) {told : Keyed}
-    (is : told ≡ inRowOfKey settings vendors sizes s rows attrs counts key keyed.Refused keyed.Row) where
+    (is : told ≡ inRowOfKey (table s settings vendors sizes rows attrs counts) key keyed.Refused keyed.Row) where
   pub union-there : {i : ℕ} {r : UnionRead} {room′ : List ℕ} → told ≡ keyed.Row i
       → Given (unionInto room (rowMembers settings s rows attrs (counts .rows) i) (unionAt settings s rows attrs (counts .rows) i)) r room′
-      → Given (processUnionTag settings vendors sizes s rows attrs counts key room) r room′
+      → Given (processUnionTag (table s settings vendors sizes rows attrs counts) key room) r room′
   unfolding processUnionTag
   union-there {r = r} {room′ = room′} p g =
       subst (λ (o : Outcome UnionRead ℕ). Given o r room′)
@@ -411,7 +412,7 @@ module _ (settings : Settings) (vendors sizes s rows attrs : List ℕ) (counts :
       (λ i. unionInto room (rowMembers settings s rows attrs (counts .rows) i) (unionAt settings s rows attrs (counts .rows) i)) p)
       g
 
-  pub union-nowhere : {why : Refusal} → told ≡ keyed.Refused why → Given (processUnionTag settings vendors sizes s rows attrs counts key room) (Refused why) room
+  pub union-nowhere : {why : Refusal} → told ≡ keyed.Refused why → Given (processUnionTag (table s settings vendors sizes rows attrs counts) key room) (Refused why) room
   unfolding processUnionTag
   union-nowhere p =
       given-as

@@ -7,6 +7,7 @@ use mathlib.Core.List.{List, [], _∷_}
 use lib.ListN.{length, getD}
 use lib.Dec.{eqb, leb}
 use borrow.Author.Tests.{eq-eqb, ne-eqb, le-leb, lt-leb, lt-ltb, le-ltb}
+use Rattle.tables.specs.Table.{table}
 use Rattle.numbers.proofs.Laws.Tests.{cond-all}
 use Rattle.format.specs.Lookup.{indexOf}
 use Rattle.format.specs.FundType.{fundTypes}
@@ -413,7 +414,7 @@ found-asked {rows = rows} {n = n} w key is p =
 
 -- ---- the public calls
 
-module _ {settings : Settings} {vendors sizes s rows attrs : List ℕ} {counts : Counts} {told : Check} (is : Tells settings vendors sizes s rows attrs counts told)
+module _ {settings : Settings} {vendors sizes s rows attrs : List ℕ} {counts : Counts} {told : Check} (is : Tells (table s settings vendors sizes rows attrs counts) told)
     (p : told ≡ check.Passed) where
   pub ready : TableReady s rows (counts .rows)
   ready =
@@ -421,11 +422,11 @@ module _ {settings : Settings} {vendors sizes s rows attrs : List ℕ} {counts :
       record { table = record { rising = checked-rising c; few = checked-rows-few c }; short = passed-short is p }
 
   pub key-sized : (key : ℕ) {r : Sized} → r ≡ entrySizeFrom settings sizes s rows attrs (counts .rows) [] depthLimit key
-      → r ≡ sizeOfKey settings vendors sizes s rows attrs counts key
+      → r ≡ sizeOfKey (table s settings vendors sizes rows attrs counts) key
   unfolding sizeOfKey
   key-sized key q = q ∙ entry-plain settings sizes s rows attrs (counts .rows) depthLimit key ∙ passed-answer Refused _ is p
 
   pub type-sized : (t : «Type») {r : Sized} → r ≡ typeSizeFrom settings sizes s rows attrs (counts .rows) [] depthLimit t
-      → r ≡ sizeOfType settings vendors sizes s rows attrs counts t
+      → r ≡ sizeOfType (table s settings vendors sizes rows attrs counts) t
   unfolding sizeOfType
   type-sized t q = q ∙ type-plain settings sizes s rows attrs (counts .rows) depthLimit t ∙ passed-answer Refused _ is p

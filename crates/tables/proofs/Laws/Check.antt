@@ -6,6 +6,7 @@ use mathlib.Core.List.{List}
 use lib.ListN.{length}
 use lib.Dec.{ltb}
 use borrow.Author.Tests.{lt-ltb, le-ltb, ltb-true}
+use Rattle.tables.specs.Table.{table}
 use Rattle.format.specs.Limits.{sectionLimit}
 use Rattle.format.specs.Settings.{settingsHold}
 use Rattle.format.specs.declared.settings.Settings.{Settings}
@@ -43,49 +44,49 @@ holds true false c = tt
 holds false b c = tt
 
 module _ {settings : Settings} {vendors sizes s rows attrs : List ℕ} {counts : Counts} {r : Check} where
-  pub passed-answer : {A : Type 0} (refused : Refusal → A) (answer : A) → Tells settings vendors sizes s rows attrs counts r → r ≡ Passed → answer ≡ tested settings vendors sizes s rows attrs counts refused answer
+  pub passed-answer : {A : Type 0} (refused : Refusal → A) (answer : A) → Tells (table s settings vendors sizes rows attrs counts) r → r ≡ Passed → answer ≡ tested (table s settings vendors sizes rows attrs counts) refused answer
   unfolding tested
   passed-answer refused answer is p =
       subst (Comes _ _ _ refused answer) (sym (is .told) ∙ p)
       (comes (settingsHold settings vendors sizes) (ltb (length s) sectionLimit) (tableHolds s vendors rows attrs counts) refused answer)
 
-  pub refused-answer : {A : Type 0} (refused : Refusal → A) (answer : A) {why : Refusal} → Tells settings vendors sizes s rows attrs counts r → r ≡ Refused why
-      → refused why ≡ tested settings vendors sizes s rows attrs counts refused answer
+  pub refused-answer : {A : Type 0} (refused : Refusal → A) (answer : A) {why : Refusal} → Tells (table s settings vendors sizes rows attrs counts) r → r ≡ Refused why
+      → refused why ≡ tested (table s settings vendors sizes rows attrs counts) refused answer
   unfolding tested
   refused-answer refused answer is p =
       subst (Comes _ _ _ refused answer) (sym (is .told) ∙ p)
       (comes (settingsHold settings vendors sizes) (ltb (length s) sectionLimit) (tableHolds s vendors rows attrs counts) refused answer)
 
-  passed-holds : Tells settings vendors sizes s rows attrs counts r → r ≡ Passed → Holds (settingsHold settings vendors sizes) (ltb (length s) sectionLimit) (tableHolds s vendors rows attrs counts) Passed
+  passed-holds : Tells (table s settings vendors sizes rows attrs counts) r → r ≡ Passed → Holds (settingsHold settings vendors sizes) (ltb (length s) sectionLimit) (tableHolds s vendors rows attrs counts) Passed
   unfolding tested
   passed-holds is p =
       subst (Holds _ _ _) (sym (is .told) ∙ p) (holds (settingsHold settings vendors sizes) (ltb (length s) sectionLimit) (tableHolds s vendors rows attrs counts))
 
-  pub passed-checked : Tells settings vendors sizes s rows attrs counts r → r ≡ Passed → TableHolds s vendors rows attrs counts
+  pub passed-checked : Tells (table s settings vendors sizes rows attrs counts) r → r ≡ Passed → TableHolds s vendors rows attrs counts
   passed-checked is p = record { holds = passed-holds is p .2 }
 
-  pub passed-short : Tells settings vendors sizes s rows attrs counts r → r ≡ Passed → length s < sectionLimit
+  pub passed-short : Tells (table s settings vendors sizes rows attrs counts) r → r ≡ Passed → length s < sectionLimit
   passed-short is p = ltb-true (length s) sectionLimit (passed-holds is p .1)
 
 -- ---- the ways through the code
 
 module _ (settings : Settings) (vendors sizes s rows attrs : List ℕ) (counts : Counts) where
   pub check-settings : settingsHold settings vendors sizes ≡ false
-      → {r : Check} → r ≡ Refused (refusedAt 0 reason.Settings) → Tells settings vendors sizes s rows attrs counts r
+      → {r : Check} → r ≡ Refused (refusedAt 0 reason.Settings) → Tells (table s settings vendors sizes rows attrs counts) r
   unfolding tested afterTests
   check-settings h e = record { told = e ∙ rw h }
 
   pub check-long : settingsHold settings vendors sizes ≡ true → sectionLimit ≤ length s
-      → {r : Check} → r ≡ Refused (refusedAt 0 reason.Long) → Tells settings vendors sizes s rows attrs counts r
+      → {r : Check} → r ≡ Refused (refusedAt 0 reason.Long) → Tells (table s settings vendors sizes rows attrs counts) r
   unfolding tested afterTests
   check-long h k e = record { told = e ∙ rw (h, le-ltb (length s) sectionLimit k) }
 
   pub check-table : settingsHold settings vendors sizes ≡ true → length s < sectionLimit → tableHolds s vendors rows attrs counts ≡ false
-      → {r : Check} → r ≡ Refused (refusedAt 0 reason.Table) → Tells settings vendors sizes s rows attrs counts r
+      → {r : Check} → r ≡ Refused (refusedAt 0 reason.Table) → Tells (table s settings vendors sizes rows attrs counts) r
   unfolding tested afterTests
   check-table h k t e = record { told = e ∙ rw (h, lt-ltb (length s) sectionLimit k, t) }
 
   pub check-passed : settingsHold settings vendors sizes ≡ true → length s < sectionLimit → tableHolds s vendors rows attrs counts ≡ true
-      → {r : Check} → r ≡ Passed → Tells settings vendors sizes s rows attrs counts r
+      → {r : Check} → r ≡ Passed → Tells (table s settings vendors sizes rows attrs counts) r
   unfolding tested afterTests
   check-passed h k t e = record { told = e ∙ rw (h, lt-ltb (length s) sectionLimit k, t) }

@@ -6,6 +6,7 @@ use mathlib.Core.List.{List}
 use lib.ListN.{length}
 use lib.Dec.{ltb}
 use borrow.Author.Tests.{ltb-true}
+use Rattle.tables.specs.Table.{table}
 use Rattle.format.specs.Limits.{sectionLimit}
 use Rattle.format.specs.Settings.{settingsHold}
 use Rattle.format.specs.declared.settings.Settings.{Settings}
@@ -38,13 +39,13 @@ module _ (key : ℕ) {found f : Found} (is : found ≡ f) where
   key-nowhere p = ap (rowBy key keyed.Refused keyed.Row) (sym p ∙ is)
 
 module _ (settings : Settings) (vendors sizes s rows attrs : List ℕ) (counts : Counts) (key : ℕ) {told : Check}
-    (is : Tells settings vendors sizes s rows attrs counts told) where
+    (is : Tells (table s settings vendors sizes rows attrs counts) told) where
   pub row-passed : told ≡ check.Passed → {r : Keyed} → r ≡ rowBy key keyed.Refused keyed.Row (rowOfKey rows (counts .rows) key)
-      → r ≡ inRowOfKey settings vendors sizes s rows attrs counts key keyed.Refused keyed.Row
+      → r ≡ inRowOfKey (table s settings vendors sizes rows attrs counts) key keyed.Refused keyed.Row
   unfolding inRowOfKey
   row-passed p h = h ∙ passed-answer keyed.Refused _ is p
 
-  pub row-refused : {why : Refusal} → told ≡ check.Refused why → keyed.Refused why ≡ inRowOfKey settings vendors sizes s rows attrs counts key keyed.Refused keyed.Row
+  pub row-refused : {why : Refusal} → told ≡ check.Refused why → keyed.Refused why ≡ inRowOfKey (table s settings vendors sizes rows attrs counts) key keyed.Refused keyed.Row
   unfolding inRowOfKey
   row-refused p = refused-answer keyed.Refused _ is p
 
@@ -69,20 +70,20 @@ module _ {A : Type 0} (refused : Refusal → A) (there : ℕ → A) (key : ℕ) 
   goes false b c f = refl
 
 module _ (settings : Settings) (vendors sizes s rows attrs : List ℕ) (counts : Counts) (key : ℕ) {told : Keyed}
-    (is : told ≡ inRowOfKey settings vendors sizes s rows attrs counts key keyed.Refused keyed.Row) where
+    (is : told ≡ inRowOfKey (table s settings vendors sizes rows attrs counts) key keyed.Refused keyed.Row) where
   told-goes : {A : Type 0} (refused : Refusal → A) (there : ℕ → A)
-      → Goes refused there (inRowOfKey settings vendors sizes s rows attrs counts key refused there) told
+      → Goes refused there (inRowOfKey (table s settings vendors sizes rows attrs counts) key refused there) told
   unfolding inRowOfKey tested
   told-goes refused there =
       subst (Goes refused there _) (sym is)
       (goes refused there key (settingsHold settings vendors sizes) (ltb (length s) sectionLimit) (tableHolds s vendors rows attrs counts) (rowOfKey rows (counts .rows) key))
 
   pub in-row : {A : Type 0} (refused : Refusal → A) (there : ℕ → A) {i : ℕ} → told ≡ keyed.Row i
-      → there i ≡ inRowOfKey settings vendors sizes s rows attrs counts key refused there
+      → there i ≡ inRowOfKey (table s settings vendors sizes rows attrs counts) key refused there
   in-row refused there p = subst (Goes refused there _) p (told-goes refused there)
 
   pub no-row : {A : Type 0} (refused : Refusal → A) (there : ℕ → A) {why : Refusal} → told ≡ keyed.Refused why
-      → refused why ≡ inRowOfKey settings vendors sizes s rows attrs counts key refused there
+      → refused why ≡ inRowOfKey (table s settings vendors sizes rows attrs counts) key refused there
   no-row refused there p = subst (Goes refused there _) p (told-goes refused there)
 
 -- ---- what is known of a row that was found
@@ -105,7 +106,7 @@ known key true false c f = tt
 known key false b c f = tt
 
 module _ (settings : Settings) (vendors sizes s rows attrs : List ℕ) (counts : Counts) (key : ℕ) {told : Keyed}
-    (is : told ≡ inRowOfKey settings vendors sizes s rows attrs counts key keyed.Refused keyed.Row) {i : ℕ} (p : told ≡ keyed.Row i) where
+    (is : told ≡ inRowOfKey (table s settings vendors sizes rows attrs counts) key keyed.Refused keyed.Row) {i : ℕ} (p : told ≡ keyed.Row i) where
   told-known : Known (ltb (length s) sectionLimit) (tableHolds s vendors rows attrs counts) (rowOfKey rows (counts .rows) key) (keyed.Row i)
   unfolding inRowOfKey tested
   told-known =

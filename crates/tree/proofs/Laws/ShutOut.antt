@@ -8,6 +8,7 @@ use mathlib.Core.List.{List, [], _∷_, _++_}
 use lib.ListN.{length, getD, drop}
 use lib.Seq.{sets, sets-eq}
 use borrow.Author.Tests.{le-leb, lt-ltb}
+use Rattle.tables.specs.Table.{table}
 use Rattle.lent.specs.Outcome.{Outcome, outcome, Given, Outcomes, BothGiven, outcomes}
 use Rattle.numbers.specs.Value.{valueOf, there, readAt}
 use Rattle.numbers.specs.declared.Endian.the-variants.{Big}
@@ -191,9 +192,9 @@ module _ (rows₀ attrs₀ : List ℕ) (rows-enough : 15 ≤ length rows₀) (at
 
   -- a listing of file order with depth 0 everywhere
   pub depth-zero : (room : List ℕ) → 6 ≤ length room → {r : Listing} {room′ : List ℕ} → ((j : ℕ) → j < 3 → getD room′ (j * placeWidth) 0 ≡ 0)
-      → Given (listTree settings [] fourEach inputA rows attrs c room) r room′ → ⊥
+      → Given (listTree (table inputA settings [] fourEach rows attrs c) room) r room′ → ⊥
   depth-zero room h {r} {room′} zeros given =
-      let tree : listTree settings [] fourEach inputA rows attrs c room ≡ outcome (Listed 3) (sets room 0 placesA) =
+      let tree : listTree (table inputA settings [] fourEach rows attrs c) room ≡ outcome (Listed 3) (sets room 0 placesA) =
       tree-listed settings [] fourEach inputA rows₀ attrs₀ c refl read room ∙ rw (A-counts, A-rows, A-attrs) (A-listed (drop 15 rows₀) (drop 8 attrs₀) room h)
       in
       let inside : getD room′ 2 0 ≡ 1 =

@@ -9,6 +9,7 @@ use lib.ListN.{length}
 use lib.Seq.{sets}
 use lib.Dec.{leb, ltb}
 use borrow.Author.Tests.{lt-ltb, le-ltb, le-leb, lt-leb}
+use Rattle.tables.specs.Table.{table}
 use Rattle.lent.specs.Outcome.{Outcome, outcome, Given}
 use Rattle.format.specs.Limits.{depthLimit}
 use Rattle.format.specs.declared.settings.Settings.{Settings}
@@ -154,14 +155,14 @@ module _ (rows : List ℕ) (n : ℕ) (reach : ℕ → ℕ) (room : List ℕ) {er
             record { answer-is = rw (no-erased, no-fault, no-deep, test); room-is = rw (no-erased, no-fault, no-deep, test) words }
 
 module _ (settings : Settings) (vendors sizes s rows attrs : List ℕ) (counts : Counts) (room : List ℕ) {told : Check}
-    (is : Tells settings vendors sizes s rows attrs counts told) where
+    (is : Tells (table s settings vendors sizes rows attrs counts) told) where
   pub tree-passed : told ≡ Passed → {r : Listing} {room′ : List ℕ}
       → Given (listingOf rows (counts .rows) (λ i. reachEnd (settings .endian) s rows attrs (counts .rows) i) room) r room′
-      → Given (listTree settings vendors sizes s rows attrs counts room) r room′
+      → Given (listTree (table s settings vendors sizes rows attrs counts) room) r room′
   unfolding listTree
   tree-passed p {r} {room′} g = subst (λ (o : Outcome Listing ℕ). Given o r room′) (passed-answer (λ why. outcome (Refused why) room) _ is p) g
 
-  pub tree-refused : {why : Refusal} → told ≡ check.Refused why → Given (listTree settings vendors sizes s rows attrs counts room) (Refused why) room
+  pub tree-refused : {why : Refusal} → told ≡ check.Refused why → Given (listTree (table s settings vendors sizes rows attrs counts) room) (Refused why) room
   unfolding listTree
   tree-refused {why} p =
       subst (λ (o : Outcome Listing ℕ). Given o (Refused why) room) (refused-answer (λ w. outcome (Refused w) room) _ is p) (record { answer-is = refl; room-is = refl })

@@ -12,6 +12,7 @@ use lib.ListN.{length, getD}
 use lib.Seq.{sets}
 use lib.Dec.{leb, ltb}
 use borrow.Author.Tests.{le-ltb, le-leb, leb-true, ltb-false}
+use Rattle.tables.specs.Table.{table}
 use Rattle.lent.specs.Outcome.{Outcome, outcome, Given, BothGiven}
 use Rattle.numbers.proofs.Laws.Tests.{cond-all}
 use Rattle.format.specs.Limits.{depthLimit, sectionLimit}
@@ -129,46 +130,46 @@ module _ (settings : Settings) (vendors sizes s rows₀ attrs₀ : List ℕ) (c 
   no-erased = none-first (λ i. erasedRow (rowAt rows i .flags)) (c .rows) unerased
 
   -- with the tests passed, the listing is that of the table's reaches
-  pub tree-listed : (room : List ℕ) → listTree settings vendors sizes s rows attrs c room ≡ listingOf rows (c .rows) (reachIn settings s rows attrs c) room
+  pub tree-listed : (room : List ℕ) → listTree (table s settings vendors sizes rows attrs c) room ≡ listingOf rows (c .rows) (reachIn (table s settings vendors sizes rows attrs c)) room
   unfolding listTree tested afterTests
   tree-listed room = rw (tests-pass .0, tests-pass .1, table-holds)
 
   -- it is given exactly when
-  pub listed-exactly : (room : List ℕ) {r : Listing} {room′ : List ℕ} → Given (listTree settings vendors sizes s rows attrs c room) r room′
-      → (r ≡ Listed (c .rows)) ↔ Listable (c .rows) (reachIn settings s rows attrs c) room
+  pub listed-exactly : (room : List ℕ) {r : Listing} {room′ : List ℕ} → Given (listTree (table s settings vendors sizes rows attrs c) room) r room′
+      → (r ≡ Listed (c .rows)) ↔ Listable (c .rows) (reachIn (table s settings vendors sizes rows attrs c)) room
   unfolding firstFault firstDeep deep
   listed-exactly room given =
       let n : ℕ = c .rows in
       let answer = given .answer-is ∙ ap (λ (o : Outcome Listing ℕ). o .answer) (tree-listed room) in (
-        λ p. (let all = passes rows n (reachIn settings s rows attrs c) room (sym answer ∙ p) in
-            let nests = nests-exactly n (reachIn settings s rows attrs c) (reaching (settings .endian) s rows attrs n) .0 (first-beyond _ n (all .0)) in
-            let none = first-none (deep n (reachIn settings s rows attrs c)) n .0 (first-beyond (deep n (reachIn settings s rows attrs c)) n (all .1)) in
+        λ p. (let all = passes rows n (reachIn (table s settings vendors sizes rows attrs c)) room (sym answer ∙ p) in
+            let nests = nests-exactly n (reachIn (table s settings vendors sizes rows attrs c)) (reaching (settings .endian) s rows attrs n) .0 (first-beyond _ n (all .0)) in
+            let none = first-none (deep n (reachIn (table s settings vendors sizes rows attrs c))) n .0 (first-beyond (deep n (reachIn (table s settings vendors sizes rows attrs c))) n (all .1)) in
             record {
               good = nests .0;
               nest = nests .1;
-              shallow = λ j h. ltb-false depthLimit (depth n (reachIn settings s rows attrs c) j) (none j h);
+              shallow = λ j h. ltb-false depthLimit (depth n (reachIn (table s settings vendors sizes rows attrs c)) j) (none j h);
               enough = leb-true (n * placeWidth) (length room) (all .2);
             }),
-        λ l. (let sound : firstFault n (reachIn settings s rows attrs c) ≡ n = nests-exactly n (reachIn settings s rows attrs c) (reaching (settings .endian) s rows attrs n) .1 (l .good, l .nest) in
-            answer ∙ ap (λ (o : Outcome Listing ℕ). o .answer) (gives rows n (reachIn settings s rows attrs c) room no-erased (le-ltb (firstFault n (reachIn settings s rows attrs c)) n (omega arith))
-            (none-first (deep n (reachIn settings s rows attrs c)) n (λ j h. le-ltb depthLimit (depth n (reachIn settings s rows attrs c) j) (l .shallow j h))) (le-leb (n * placeWidth) (length room) (l .enough)))),
+        λ l. (let sound : firstFault n (reachIn (table s settings vendors sizes rows attrs c)) ≡ n = nests-exactly n (reachIn (table s settings vendors sizes rows attrs c)) (reaching (settings .endian) s rows attrs n) .1 (l .good, l .nest) in
+            answer ∙ ap (λ (o : Outcome Listing ℕ). o .answer) (gives rows n (reachIn (table s settings vendors sizes rows attrs c)) room no-erased (le-ltb (firstFault n (reachIn (table s settings vendors sizes rows attrs c))) n (omega arith))
+            (none-first (deep n (reachIn (table s settings vendors sizes rows attrs c))) n (λ j h. le-ltb depthLimit (depth n (reachIn (table s settings vendors sizes rows attrs c)) j) (l .shallow j h))) (le-leb (n * placeWidth) (length room) (l .enough)))),
       )
 
   -- what it holds: every row once, in file order, with its depth and its parent; words past them as they were
-  pub listing-holds : (room : List ℕ) {r : Listing} {room′ : List ℕ} → Given (listTree settings vendors sizes s rows attrs c room) r room′
-      → r ≡ Listed (c .rows) → room′ ≡ sets room 0 (placesFrom (c .rows) (reachIn settings s rows attrs c) 0 (c .rows))
+  pub listing-holds : (room : List ℕ) {r : Listing} {room′ : List ℕ} → Given (listTree (table s settings vendors sizes rows attrs c) room) r room′
+      → r ≡ Listed (c .rows) → room′ ≡ sets room 0 (placesFrom (c .rows) (reachIn (table s settings vendors sizes rows attrs c)) 0 (c .rows))
   listing-holds room given p =
       let answer = given .answer-is ∙ ap (λ (o : Outcome Listing ℕ). o .answer) (tree-listed room) in
-      given .room-is ∙ ap (λ (o : Outcome Listing ℕ). o .room) (tree-listed room) ∙ passes rows (c .rows) (reachIn settings s rows attrs c) room (sym answer ∙ p) .3
+      given .room-is ∙ ap (λ (o : Outcome Listing ℕ). o .room) (tree-listed room) ∙ passes rows (c .rows) (reachIn (table s settings vendors sizes rows attrs c)) room (sym answer ∙ p) .3
 
   -- row j's two words
-  pub listing-places : (room : List ℕ) {r : Listing} {room′ : List ℕ} → Given (listTree settings vendors sizes s rows attrs c room) r room′
+  pub listing-places : (room : List ℕ) {r : Listing} {room′ : List ℕ} → Given (listTree (table s settings vendors sizes rows attrs c) room) r room′
       → r ≡ Listed (c .rows) → (j : ℕ) → j < c .rows
-      → (getD room′ (j * placeWidth) 0 ≡ depth (c .rows) (reachIn settings s rows attrs c) j) × (getD room′ (j * placeWidth + 1) 0 ≡ parent (c .rows) (reachIn settings s rows attrs c) j)
+      → (getD room′ (j * placeWidth) 0 ≡ depth (c .rows) (reachIn (table s settings vendors sizes rows attrs c)) j) × (getD room′ (j * placeWidth + 1) 0 ≡ parent (c .rows) (reachIn (table s settings vendors sizes rows attrs c)) j)
   listing-places room {r} {room′} given p j h =
       let n : ℕ = c .rows in
-      let words : List ℕ = placesFrom n (reachIn settings s rows attrs c) 0 n in
-      let long : length words ≡ n * placeWidth = places-length n (reachIn settings s rows attrs c) 0 n in
+      let words : List ℕ = placesFrom n (reachIn (table s settings vendors sizes rows attrs c)) 0 n in
+      let long : length words ≡ n * placeWidth = places-length n (reachIn (table s settings vendors sizes rows attrs c)) 0 n in
       let enough : n * placeWidth ≤ length room = listed-exactly room given .0 p .enough in
       let back : (k : ℕ) → k < n * placeWidth → getD room′ k 0 ≡ getD words k 0 =
       λ k l. (let place : k ≡ 0 + k = omega arith in
@@ -176,24 +177,24 @@ module _ (settings : Settings) (vendors sizes s rows₀ attrs₀ : List ℕ) (c 
       ∙ ap (λ (x : ℕ). getD (sets room 0 words) x 0) place
       ∙ sets-back room 0 words k (omega arith) (omega arith))
       in
-      let told = places-depth n (reachIn settings s rows attrs c) 0 n j h in
+      let told = places-depth n (reachIn (table s settings vendors sizes rows attrs c)) 0 n j h in
       let place : 0 + j ≡ j = omega arith in (
-        back (j * placeWidth) (omega arith) ∙ told .0 ∙ ap (λ (x : ℕ). depth n (reachIn settings s rows attrs c) x) place,
-        back (j * placeWidth + 1) (omega arith) ∙ told .1 ∙ ap (λ (x : ℕ). parent n (reachIn settings s rows attrs c) x) place,
+        back (j * placeWidth) (omega arith) ∙ told .0 ∙ ap (λ (x : ℕ). depth n (reachIn (table s settings vendors sizes rows attrs c)) x) place,
+        back (j * placeWidth + 1) (omega arith) ∙ told .1 ∙ ap (λ (x : ℕ). parent n (reachIn (table s settings vendors sizes rows attrs c)) x) place,
       )
 
   -- the child walk of any row, with room enough, gives exactly the non-null rows with that parent, in order
-  pub walk-holds : Good (c .rows) (reachIn settings s rows attrs c) → NoneCross (c .rows) (reachIn settings s rows attrs c) → (i : ℕ) → i < c .rows → (kids : List ℕ)
-      → length (childrenIn rows (c .rows) (reachIn settings s rows attrs c) i) ≤ length kids → {q : ChildRows} {kids′ : List ℕ}
-      → Given (children.childrenOfKey settings vendors sizes s rows attrs c (rowAt rows i .key) kids) q kids′
-      → (q ≡ child.Listed (length (childrenIn rows (c .rows) (reachIn settings s rows attrs c) i))) × (kids′ ≡ sets kids 0 (childrenIn rows (c .rows) (reachIn settings s rows attrs c) i))
+  pub walk-holds : Good (c .rows) (reachIn (table s settings vendors sizes rows attrs c)) → NoneCross (c .rows) (reachIn (table s settings vendors sizes rows attrs c)) → (i : ℕ) → i < c .rows → (kids : List ℕ)
+      → length (childrenIn rows (c .rows) (reachIn (table s settings vendors sizes rows attrs c)) i) ≤ length kids → {q : ChildRows} {kids′ : List ℕ}
+      → Given (children.childrenOfKey (table s settings vendors sizes rows attrs c) (rowAt rows i .key) kids) q kids′
+      → (q ≡ child.Listed (length (childrenIn rows (c .rows) (reachIn (table s settings vendors sizes rows attrs c)) i))) × (kids′ ≡ sets kids 0 (childrenIn rows (c .rows) (reachIn (table s settings vendors sizes rows attrs c)) i))
   unfolding children.childrenOfKey tested afterTests
   walk-holds good nest i l kids h {q} {kids′} given =
       let n : ℕ = c .rows in
-      let all : Reaching n (reachIn settings s rows attrs c) = reaching (settings .endian) s rows attrs n in
-      let nested : Nested n (reachIn settings s rows attrs c) = fault-none n (reachIn settings s rows attrs c) all (nests-exactly n (reachIn settings s rows attrs c) all .1 (good, nest)) in
-      let told : children.childrenOfKey settings vendors sizes s rows attrs c (rowAt rows i .key) kids
-      ≡ outcome (child.Listed (length (childrenIn rows n (reachIn settings s rows attrs c) i))) (sets kids 0 (childrenIn rows n (reachIn settings s rows attrs c) i)) =
+      let all : Reaching n (reachIn (table s settings vendors sizes rows attrs c)) = reaching (settings .endian) s rows attrs n in
+      let nested : Nested n (reachIn (table s settings vendors sizes rows attrs c)) = fault-none n (reachIn (table s settings vendors sizes rows attrs c)) all (nests-exactly n (reachIn (table s settings vendors sizes rows attrs c)) all .1 (good, nest)) in
+      let told : children.childrenOfKey (table s settings vendors sizes rows attrs c) (rowAt rows i .key) kids
+      ≡ outcome (child.Listed (length (childrenIn rows n (reachIn (table s settings vendors sizes rows attrs c)) i))) (sets kids 0 (childrenIn rows n (reachIn (table s settings vendors sizes rows attrs c)) i)) =
       rw (tests-pass .0, tests-pass .1, table-holds) (children-given plain (settings .endian) attrs nested i l kids h)
       in
       (given .answer-is ∙ ap (λ (o : Outcome ChildRows ℕ). o .answer) told, given .room-is ∙ ap (λ (o : Outcome ChildRows ℕ). o .room) told)

@@ -1,0 +1,20 @@
+-- A table and what it is asked with: what every call on a table takes, in the order of the calls.
+use Prim.Native.Nat.{ℕ}
+use mathlib.Core.List.{List}
+use Rattle.format.specs.declared.settings.Settings.{Settings}
+use Rattle.tables.specs.declared.row.Counts.{Counts}
+
+-- the section and the settings, vendor list and sizes that it was read with; rows and attributes, and how many of each
+pub record Table : Type 0 where
+  pub section : List ℕ
+  pub settings : Settings
+  pub vendors : List ℕ
+  pub sizes : List ℕ
+  pub rows : List ℕ
+  pub attrs : List ℕ
+  pub counts : Counts
+
+-- the same, in short
+abbrev pub table : List ℕ → Settings → List ℕ → List ℕ → List ℕ → List ℕ → Counts → Table
+table section settings vendors sizes rows attrs counts =
+    record { section = section; settings = settings; vendors = vendors; sizes = sizes; rows = rows; attrs = attrs; counts = counts }
