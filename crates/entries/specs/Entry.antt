@@ -3,6 +3,8 @@ use Prim.Native.Nat.{ℕ, zero, suc, _+_}
 use mathlib.Core.Bool.{Bool, true, false, cond}
 use mathlib.Core.List.{List, [], _∷_}
 use lib.ListN.{length}
+use Rattle.entries.specs.declared.entry.Mode.{Mode}
+use Rattle.entries.specs.Source.{Source}
 use Rattle.numbers.specs.Value.{readAt}
 use Rattle.numbers.specs.declared.Endian.{Endian}
 use Rattle.numbers.specs.declared.Endian.the-variants.{Big, Little}
@@ -67,10 +69,10 @@ unfoldable pub rootEndian : List ℕ → List ℕ → Bool → Endian → ℕ �
 rootEndian vendors s true e at = Is e
 rootEndian vendors s false e at = readAt (λ n. Is (cond (known vendors n) e (flip e))) Short e 2 s (at + 6)
 
-module _ (vendors : List ℕ) (global : ℕ) (s : List ℕ) where
+module _ (r : Source) where
   -- the attributes of the entry at `at`: they begin after size and tag
   unfoldable pub attributes : Endian → Bool → ℕ → ℕ → Run
-  attributes e root end at = readRun vendors global s e root end (suc (length s)) false (at + 6)
+  attributes e root end at = readRun r e root end (suc (length (r .section))) false (at + 6)
 
   -- an erased root, once its data endianness is known
   unfoldable pub rootIn : ℕ → ℕ → ℕ → Look → Entry
@@ -78,14 +80,14 @@ module _ (vendors : List ℕ) (global : ℕ) (s : List ℕ) where
   rootIn at end a Short = stop reason.Short
 
   -- by what it begins with; a root wants one more level
-  unfoldable pub entryFrom : ℕ → Bool → Endian → ℕ → ℕ → Head → Entry
-  entryFrom levels isErased e at a (Null place) = next (row isErased false e at tag.Padding a [] ∷ []) [] place
-  entryFrom levels isErased e at a (Skipped place) = next [] [] place
-  entryFrom levels isErased e at a (Root end) =
-      elim levels [ zero ↦ stop reason.Nested | suc l ↦ rootIn at end a (rootEndian vendors s isErased e at) ]
-  entryFrom levels isErased e at a (Ordinary kind end) = ordinary isErased e at kind a (attributes e false end at)
-  entryFrom levels isErased e at a (Refused why) = stop why
+  unfoldable pub entryFrom : ℕ → Mode → ℕ → ℕ → Head → Entry
+  entryFrom levels m at a (Null place) = next (row (m .erased) false (m .endian) at tag.Padding a [] ∷ []) [] place
+  entryFrom levels m at a (Skipped place) = next [] [] place
+  entryFrom levels m at a (Root end) =
+      elim levels [ zero ↦ stop reason.Nested | suc l ↦ rootIn at end a (rootEndian (r .vendors) (r .section) (m .erased) (m .endian) at) ]
+  entryFrom levels m at a (Ordinary kind end) = ordinary (m .erased) (m .endian) at kind a (attributes (m .endian) false end at)
+  entryFrom levels m at a (Refused why) = stop why
 
   -- the entry at `at`, whose attributes begin with number a of the table
-  unfoldable pub readEntry : Bool → ℕ → Bool → Endian → ℕ → ℕ → Entry
-  readEntry erased levels isErased e at a = entryFrom levels isErased e at a (headAt erased s e at)
+  unfoldable pub readEntry : Bool → ℕ → Mode → ℕ → ℕ → Entry
+  readEntry erased levels m at a = entryFrom levels m at a (headAt erased (r .section) (m .endian) at)

@@ -4,6 +4,7 @@ use mathlib.Core.Path.{_≡_}
 use mathlib.Core.Bool.{false}
 use mathlib.Core.List.{List}
 use lib.ListN.{length}
+use Rattle.entries.specs.Source.{source, mode}
 use Rattle.numbers.specs.Value.{valueOf}
 use Rattle.numbers.specs.declared.Endian.{Endian}
 use Rattle.tables.specs.declared.row.Row.{Row}
@@ -15,5 +16,5 @@ use Rattle.entries.specs.Entry.{next, readEntry}
 pub data Exact (vendors : List ℕ) (global : ℕ) (e : Endian) (s : List ℕ) : ℕ → ℕ → Type 0 where
   at-end : (a : ℕ) → Exact vendors global e s a (length s)
   one-more : (a at : ℕ) (rs : List Row) (xs : List Attr) → at < length s
-      → readEntry vendors global s false 0 false e at a ≡ next rs xs (at + valueOf e 4 s at) → at + valueOf e 4 s at ≤ length s
+      → readEntry (source vendors global s) false 0 (mode false e) at a ≡ next rs xs (at + valueOf e 4 s at) → at + valueOf e 4 s at ≤ length s
       → Exact vendors global e s (a + length xs) (at + valueOf e 4 s at) → Exact vendors global e s a at

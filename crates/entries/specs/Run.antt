@@ -3,6 +3,7 @@ use Prim.Native.Nat.{ℕ, zero, suc}
 use mathlib.Core.Bool.{Bool, true, false, not, _&&_, _||_}
 use mathlib.Core.List.{List, [], _∷_}
 use lib.Dec.{ltb, eqb}
+use Rattle.entries.specs.Source.{Source}
 use Rattle.format.specs.Settings.{plays}
 use Rattle.numbers.specs.Value.{readAt}
 use Rattle.numbers.specs.declared.Endian.{Endian}
@@ -39,13 +40,14 @@ readOn (Short field) k = failed reason.Short
 readOn (Unknown field) k = failed reason.Attribute
 
 -- the attributes from `at` up to `end`; at most as many as the first number, which is never reached. Only an erased root looks for a HighPc
-unfoldable pub readRun : List ℕ → ℕ → List ℕ → Endian → Bool → ℕ → ℕ → Bool → ℕ → Run
-readRun vendors global s e root end zero high at = ran [] high at
-readRun vendors global s e root end (suc f) high at =
+unfoldable pub readRun : Source → Endian → Bool → ℕ → ℕ → Bool → ℕ → Run
+readRun r e root end zero high at = ran [] high at
+readRun r e root end (suc f) high at =
     elim (ltb at end) [
-      | true ↦ elim (runEnds global s e high at) [
+      | true ↦ elim (runEnds (r .global) (r .section) e high at) [
         | true ↦ ran [] high at
-        | false ↦ readOn (readAttribute vendors e s at) (λ n next. readRun vendors global s e root end f (high || (root && eqb n number.HighPc)) next)
+        | false ↦ readOn (readAttribute (r .vendors) e (r .section) at)
+            (λ n next. readRun r e root end f (high || (root && eqb n number.HighPc)) next)
       ]
       | false ↦ ran [] high at
     ]

@@ -5,6 +5,7 @@ use mathlib.Core.List.{List}
 use lib.ListN.{length}
 use lib.Seq.{sets}
 use lib.Dec.{ltb}
+use Rattle.entries.specs.Source.{source, mode}
 use Rattle.lent.specs.Outcome.{Outcomes, outcomes}
 use Rattle.format.specs.Limits.{sectionLimit, erasedLimit}
 use Rattle.format.specs.Settings.{settingsHold}
@@ -23,7 +24,7 @@ use Rattle.entries.specs.declared.section.Section.the-variants.{Read, Re
 -- the whole section, from its first byte to its last: outside erased data, in section endianness, sixteen levels allowed
 unfoldable pub wholeWalk : Settings → List ℕ → List ℕ → Entries
 wholeWalk settings vendors s =
-    readTags vendors (settings .roles .«global_ref») (settings .erased) s erasedLimit false (settings .endian) (length s) 0 0
+    readTags (source vendors (settings .roles .«global_ref») s) (settings .erased) erasedLimit (mode false (settings .endian)) (length s) 0 0
 
 -- a refusal with its place, and counts of rows and attributes
 abbrev pub refusal : Reason → ℕ → Section

@@ -4,6 +4,8 @@ use mathlib.Core.Bool.{Bool, true, false}
 use mathlib.Core.List.{List, [], _∷_, _++_}
 use lib.ListN.{length}
 use lib.Dec.{ltb}
+use Rattle.entries.specs.declared.entry.Mode.{Mode}
+use Rattle.entries.specs.Source.{Source, mode}
 use Rattle.numbers.specs.declared.Endian.{Endian}
 use Rattle.format.specs.declared.refusal.Reason.{Reason}
 use Rattle.format.specs.declared.refusal.Reason.the-variants as reason
@@ -32,18 +34,17 @@ onward within at a (next rs xs place) k = entriesThen a (entriesRead rs xs place
 onward within at a (inside r xs place e end) k = entriesThen a (entriesRead (r ∷ []) xs place) (λ b at′. entriesThen b (within e end b at′) k)
 onward within at a (stop why) k = entriesRefused why at
 
-module _ (vendors : List ℕ) (global : ℕ) (erased : Bool) (s : List ℕ) where
+module _ (r : Source) (erased : Bool) where
   -- the entries from `at` up to `end`; `within` reads what stands inside a root. At most as many as the first number, which is never reached
-  unfoldable pub entriesFrom : (Endian → ℕ → ℕ → ℕ → Entries) → ℕ → Bool → Endian → ℕ → ℕ → ℕ → ℕ → Entries
-  entriesFrom within levels isErased e end zero a at = entriesRead [] [] at
-  entriesFrom within levels isErased e end (suc f) a at =
+  unfoldable pub entriesFrom : (Endian → ℕ → ℕ → ℕ → Entries) → ℕ → Mode → ℕ → ℕ → ℕ → ℕ → Entries
+  entriesFrom within levels m end zero a at = entriesRead [] [] at
+  entriesFrom within levels m end (suc f) a at =
       elim (ltb at end) [
-        | true ↦ onward within at a (readEntry vendors global s erased levels isErased e at a)
-            (λ b at′. entriesFrom within levels isErased e end f b at′)
+        | true ↦ onward within at a (readEntry r erased levels m at a) (λ b at′. entriesFrom within levels m end f b at′)
         | false ↦ entriesRead [] [] at
       ]
 
   -- with so many levels still allowed; inside a root one fewer is, and entries are read as erased
-  unfoldable pub readTags : ℕ → Bool → Endian → ℕ → ℕ → ℕ → Entries
-  readTags zero isErased e end a at = entriesFrom (λ e′ end′ b at′. entriesRefused reason.Nested at′) zero isErased e end (suc (length s)) a at
-  readTags (suc l) isErased e end a at = entriesFrom (λ e′ end′ b at′. readTags l true e′ end′ b at′) (suc l) isErased e end (suc (length s)) a at
+  unfoldable pub readTags : ℕ → Mode → ℕ → ℕ → ℕ → Entries
+  readTags zero m end a at = entriesFrom (λ e′ end′ b at′. entriesRefused reason.Nested at′) zero m end (suc (length (r .section))) a at
+  readTags (suc l) m end a at = entriesFrom (λ e′ end′ b at′. readTags l (mode true e′) end′ b at′) (suc l) m end (suc (length (r .section))) a at

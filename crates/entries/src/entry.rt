@@ -17,6 +17,7 @@ ghost use mathlib.Core.Path.{_≡_};
 ghost use Prim.Native.Nat.{_+_, _≤_};
 ghost use lib.ListN.{length};
 ghost use mathlib.Core.Bool.{false};
+ghost use Rattle.entries.specs.Source.{source};
 ghost use Rattle.entries.specs.Entry.{flip, littleFlag, flagOf, flagsOf, kindOf, ordinary, attributes, rootEndian, entryFrom, readEntry};
 ghost use Rattle.entries.specs.Inside.Promise.{Ready, farthest, NullReady, NullRead, BodyReady, BodyRead, EntryRead};
 
@@ -113,8 +114,8 @@ fn read_body(
 ) -> Body
     requires { ⌜ BodyReady (now s) from ⌝ }
     ensures { λ r. ⌜
-        BodyRead (now (s .entry)) from shape (attributes (now (vendors .entry)) global (now (s .entry)) (shape .endian) (shape .root) (shape .end)
-        (from .at)) r (now (rows .entry)) (now (rows .exit)) (now (attrs .entry)) (now (attrs .exit))
+        BodyRead (now (s .entry)) from shape (attributes (source (now (vendors .entry)) global (now (s .entry))) (shape .endian) (shape .root)
+        (shape .end) (from .at)) r (now (rows .entry)) (now (rows .exit)) (now (attrs .entry)) (now (attrs .exit))
         ⌝ }
 {
     let e = shape.endian;
@@ -188,7 +189,7 @@ fn read_root(
 ) -> Entry
     requires { ⌜ BodyReady (now s) from × (end ≤ farthest) ⌝ }
     ensures { λ r. ⌜
-        EntryRead (now (s .entry)) from (entryFrom (now (vendors .entry)) global (now (s .entry)) levels (mode .erased) (mode .endian) (from .at)
+        EntryRead (now (s .entry)) from (entryFrom (source (now (vendors .entry)) global (now (s .entry))) levels mode (from .at)
         (from .attrs) (Head.Root end)) r (now (rows .entry)) (now (rows .exit)) (now (attrs .entry)) (now (attrs .exit))
         ⌝ }
 {
@@ -249,8 +250,8 @@ fn read_ordinary(
     requires { ⌜ BodyReady (now s) from ⌝ }
     ensures { λ r. ⌜
         EntryRead (now (s .entry)) from (ordinary (mode .erased) (mode .endian) (from .at) kind (from .attrs)
-        (attributes (now (vendors .entry)) global (now (s .entry)) (mode .endian) false end (from .at))) r (now (rows .entry)) (now (rows .exit))
-        (now (attrs .entry)) (now (attrs .exit))
+        (attributes (source (now (vendors .entry)) global (now (s .entry))) (mode .endian) false end (from .at))) r (now (rows .entry))
+        (now (rows .exit)) (now (attrs .entry)) (now (attrs .exit))
         ⌝ }
 {
     let e = mode.endian;
@@ -280,8 +281,8 @@ pub(crate) fn read_entry(
 ) -> Entry
     requires { ⌜ Ready (now s) from ⌝ }
     ensures { λ r. ⌜
-        EntryRead (now (s .entry)) from (readEntry (now (vendors .entry)) (fixed .global) (now (s .entry)) (fixed .erased) levels (mode .erased)
-        (mode .endian) (from .at) (from .attrs)) r (now (rows .entry)) (now (rows .exit)) (now (attrs .entry)) (now (attrs .exit))
+        EntryRead (now (s .entry)) from (readEntry (source (now (vendors .entry)) (fixed .global) (now (s .entry))) (fixed .erased) levels mode
+        (from .at) (from .attrs)) r (now (rows .entry)) (now (rows .exit)) (now (attrs .entry)) (now (attrs .exit))
         ⌝ }
 {
     let global = fixed.global;

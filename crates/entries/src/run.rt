@@ -12,6 +12,7 @@ ghost use mathlib.Core.Path.{_≡_};
 ghost use Prim.Native.Nat.{suc};
 ghost use lib.ListN.{length};
 ghost use mathlib.Core.Bool.{false};
+ghost use Rattle.entries.specs.Source.{source};
 ghost use Rattle.tables.specs.Table.{table};
 ghost use Rattle.format.specs.Settings.{plays};
 ghost use Rattle.entries.specs.Run.{runEnds, readRun};
@@ -58,8 +59,8 @@ pub(crate) fn read_run(
 ) -> Run
     requires { ⌜ RunReady (now s) at attrs ⌝ }
     ensures { λ r. ⌜
-        RunRead (now (s .entry)) at attrs (readRun (now (vendors .entry)) global (now (s .entry)) e root end (suc (length (now (s .entry)))) false at)
-        r (now (table .entry)) (now (table .exit))
+        RunRead (now (s .entry)) at attrs (readRun (source (now (vendors .entry)) global (now (s .entry))) e root end
+        (suc (length (now (s .entry)))) false at) r (now (table .entry)) (now (table .exit))
         ⌝ }
 {
     let mut place = at;

@@ -6,6 +6,7 @@ use crate::entry::State;
 use crate::entry::read_entry;
 use format::refusal::Reason;
 ghost use Prim.Native.Nat.{_≤_};
+ghost use Rattle.entries.specs.Source.{source};
 ghost use Rattle.entries.specs.Walk.{readTags};
 ghost use Rattle.entries.specs.Inside.Promise.{Ready, farthest, WalkRead};
 
@@ -29,7 +30,7 @@ pub(crate) fn read_tags(
 ) -> Walk
     requires { ⌜ Ready (now s) from × (end ≤ farthest) ⌝ }
     ensures { λ r. ⌜
-        WalkRead from (readTags (now (vendors .entry)) (fixed .global) (fixed .erased) (now (s .entry)) levels (mode .erased) (mode .endian) end
+        WalkRead from (readTags (source (now (vendors .entry)) (fixed .global) (now (s .entry))) (fixed .erased) levels mode end
         (from .attrs) (from .at)) r (now (rows .entry)) (now (rows .exit)) (now (attrs .entry)) (now (attrs .exit))
         ⌝ }
 {

@@ -56,9 +56,10 @@ pub extern "C" fn capbeacon_all_layouts(
     member_count: &mut u64,
 ) -> u32
     ensures { λ r. ⌜
-        LayoutsCross (allLayouts (table (now (s .entry)) (settingsFrom endian erased producer «global_ref» mangled «overlay_name» «overlay_id») (now (vendors .entry)) (now (sizes .entry)) (now (rows .entry)) (now (attrs .entry)) (countsFrom «row_count» «attr_count»)) (now (structures .entry))
-        (now (members .entry))) r (now (place .exit)) (now («structure_count» .exit)) (now («member_count» .exit)) (now (structures .exit))
-        (now (members .exit))
+        LayoutsCross (allLayouts (table (now (s .entry)) (settingsFrom endian erased producer «global_ref» mangled «overlay_name» «overlay_id»)
+        (now (vendors .entry)) (now (sizes .entry)) (now (rows .entry)) (now (attrs .entry)) (countsFrom «row_count» «attr_count»))
+        (now (structures .entry)) (now (members .entry))) r (now (place .exit)) (now («structure_count» .exit)) (now («member_count» .exit))
+        (now (structures .exit)) (now (members .exit))
         ⌝ }
 {
     let settings = settings_from(

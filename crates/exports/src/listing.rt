@@ -45,8 +45,9 @@ pub extern "C" fn capbeacon_list_tree(
     listed: &mut u64,
 ) -> u32
     ensures { λ r. ⌜
-        TreeCrosses (listTree (table (now (s .entry)) (settingsFrom endian erased producer «global_ref» mangled «overlay_name» «overlay_id») (now (vendors .entry)) (now (sizes .entry)) (now (rows .entry)) (now (attrs .entry)) (countsFrom «row_count» «attr_count»)) (now (room .entry))) r
-        (now (place .exit)) (now (listed .exit)) (now (room .exit))
+        TreeCrosses (listTree (table (now (s .entry)) (settingsFrom endian erased producer «global_ref» mangled «overlay_name» «overlay_id»)
+        (now (vendors .entry)) (now (sizes .entry)) (now (rows .entry)) (now (attrs .entry)) (countsFrom «row_count» «attr_count»))
+        (now (room .entry))) r (now (place .exit)) (now (listed .exit)) (now (room .exit))
         ⌝ }
 {
     let settings = settings_from(

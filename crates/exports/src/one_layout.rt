@@ -62,8 +62,9 @@ pub extern "C" fn capbeacon_layout_of_key(
     members: &mut u64,
 ) -> u32
     ensures { λ r. ⌜
-        LayoutCrosses (layoutOfKey (table (now (s .entry)) (settingsFrom endian erased producer «global_ref» mangled «overlay_name» «overlay_id») (now (vendors .entry)) (now (sizes .entry)) (now (rows .entry)) (now (attrs .entry)) (countsFrom «row_count» «attr_count»)) key (now (room .entry)))
-        r (now (place .exit)) (now (row .exit)) (now (size .exit)) (now (members .exit)) (now (room .exit))
+        LayoutCrosses (layoutOfKey (table (now (s .entry)) (settingsFrom endian erased producer «global_ref» mangled «overlay_name» «overlay_id»)
+        (now (vendors .entry)) (now (sizes .entry)) (now (rows .entry)) (now (attrs .entry)) (countsFrom «row_count» «attr_count»)) key
+        (now (room .entry))) r (now (place .exit)) (now (row .exit)) (now (size .exit)) (now (members .exit)) (now (room .exit))
         ⌝ }
 {
     let settings = settings_from(

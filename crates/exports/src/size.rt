@@ -42,7 +42,8 @@ pub extern "C" fn capbeacon_size_of_key(
     size: &mut u64,
 ) -> u32
     ensures { λ r. ⌜
-        SizeCrosses (sizeOfKey (table (now (s .entry)) (settingsFrom endian erased producer «global_ref» mangled «overlay_name» «overlay_id») (now (vendors .entry)) (now (sizes .entry)) (now (rows .entry)) (now (attrs .entry)) (countsFrom «row_count» «attr_count»)) key) r
+        SizeCrosses (sizeOfKey (table (now (s .entry)) (settingsFrom endian erased producer «global_ref» mangled «overlay_name» «overlay_id»)
+        (now (vendors .entry)) (now (sizes .entry)) (now (rows .entry)) (now (attrs .entry)) (countsFrom «row_count» «attr_count»)) key) r
         (now (place .exit)) (now (size .exit))
         ⌝ }
 {

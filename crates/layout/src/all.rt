@@ -447,8 +447,8 @@ pub fn all_layouts(
     members: &mut [u64],
 ) -> AllLayouts
     ensures { λ r. ⌜
-        BothGiven (allLayouts (table (now (s .entry)) settings (now (vendors .entry)) (now (sizes .entry)) (now (rows .entry)) (now (attrs .entry)) counts)
-        (now (structures .entry)) (now (members .entry))) r (now (structures .exit)) (now (members .exit))
+        BothGiven (allLayouts (table (now (s .entry)) settings (now (vendors .entry)) (now (sizes .entry)) (now (rows .entry))
+        (now (attrs .entry)) counts) (now (structures .entry)) (now (members .entry))) r (now (structures .exit)) (now (members .exit))
         ⌝ }
 {
     match check_table(s, settings, vendors, sizes, rows, attrs, counts) {

@@ -443,8 +443,8 @@ pub fn layout_of_key(
     room: &mut [u64],
 ) -> LayoutRead
     ensures { λ r. ⌜
-        Given (layoutOfKey (table (now (s .entry)) settings (now (vendors .entry)) (now (sizes .entry)) (now (rows .entry)) (now (attrs .entry)) counts) key
-        (now (room .entry))) r (now (room .exit))
+        Given (layoutOfKey (table (now (s .entry)) settings (now (vendors .entry)) (now (sizes .entry)) (now (rows .entry))
+        (now (attrs .entry)) counts) key (now (room .entry))) r (now (room .exit))
         ⌝ }
 {
     match row_of(s, settings, vendors, sizes, rows, attrs, counts, key) {

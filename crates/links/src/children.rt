@@ -189,8 +189,8 @@ pub fn children(
     room: &mut [u32],
 ) -> ChildRows
     ensures { λ r. ⌜
-        Given (childrenOfKey (table (now (s .entry)) settings (now (vendors .entry)) (now (sizes .entry)) (now (rows .entry)) (now (attrs .entry)) counts) key
-        (now (room .entry))) r (now (room .exit))
+        Given (childrenOfKey (table (now (s .entry)) settings (now (vendors .entry)) (now (sizes .entry)) (now (rows .entry))
+        (now (attrs .entry)) counts) key (now (room .entry))) r (now (room .exit))
         ⌝ }
 {
     match check_table(s, settings, vendors, sizes, rows, attrs, counts) {

@@ -98,7 +98,8 @@ pub fn next_sibling(
     key: u32,
 ) -> Neighbour
     ensures { λ r. ⌜
-        r ≡ nextSibling (table (now (s .entry)) settings (now (vendors .entry)) (now (sizes .entry)) (now (rows .entry)) (now (attrs .entry)) counts) key
+        r ≡ nextSibling (table (now (s .entry)) settings (now (vendors .entry)) (now (sizes .entry)) (now (rows .entry)) (now (attrs .entry)) counts)
+        key
         ⌝ }
 {
     match check_table(s, settings, vendors, sizes, rows, attrs, counts) {

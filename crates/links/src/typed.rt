@@ -76,7 +76,8 @@ fn look(
     wanted: Wanted,
 ) -> Looked
     ensures { λ r. ⌜
-        r ≡ attributeOfKey (table (now (s .entry)) settings (now (vendors .entry)) (now (sizes .entry)) (now (rows .entry)) (now (attrs .entry)) counts) key wanted
+        r ≡ attributeOfKey (table (now (s .entry)) settings (now (vendors .entry)) (now (sizes .entry)) (now (rows .entry))
+        (now (attrs .entry)) counts) key wanted
         ⌝ }
 {
     match row_of(s, settings, vendors, sizes, rows, attrs, counts, key) {
@@ -98,8 +99,8 @@ pub fn attribute(
     number: u16,
 ) -> Looked
     ensures { λ r. ⌜
-        r ≡ attributeOfKey (table (now (s .entry)) settings (now (vendors .entry)) (now (sizes .entry)) (now (rows .entry)) (now (attrs .entry)) counts) key
-        (Wanted.Number number)
+        r ≡ attributeOfKey (table (now (s .entry)) settings (now (vendors .entry)) (now (sizes .entry)) (now (rows .entry))
+        (now (attrs .entry)) counts) key (Wanted.Number number)
         ⌝ }
 {
     let wanted = Wanted::Number(number as u32);
@@ -128,7 +129,8 @@ pub fn type_attribute(
     key: u32,
 ) -> Looked
     ensures { λ r. ⌜
-        r ≡ attributeOfKey (table (now (s .entry)) settings (now (vendors .entry)) (now (sizes .entry)) (now (rows .entry)) (now (attrs .entry)) counts) key Wanted.Type
+        r ≡ attributeOfKey (table (now (s .entry)) settings (now (vendors .entry)) (now (sizes .entry)) (now (rows .entry))
+        (now (attrs .entry)) counts) key Wanted.Type
         ⌝ }
 {
     look(
@@ -185,7 +187,8 @@ fn place_of(
     form: FormKind,
 ) -> Placed
     ensures { λ r. ⌜
-        r ≡ placeOfKey (table (now (s .entry)) settings (now (vendors .entry)) (now (sizes .entry)) (now (rows .entry)) (now (attrs .entry)) counts) key number form
+        r ≡ placeOfKey (table (now (s .entry)) settings (now (vendors .entry)) (now (sizes .entry)) (now (rows .entry)) (now (attrs .entry)) counts)
+        key number form
         ⌝ }
 {
     match row_of(s, settings, vendors, sizes, rows, attrs, counts, key) {
@@ -246,7 +249,8 @@ fn value_of(
     form: FormKind,
 ) -> Value
     ensures { λ r. ⌜
-        r ≡ valueOfKey (table (now (s .entry)) settings (now (vendors .entry)) (now (sizes .entry)) (now (rows .entry)) (now (attrs .entry)) counts) key number form
+        r ≡ valueOfKey (table (now (s .entry)) settings (now (vendors .entry)) (now (sizes .entry)) (now (rows .entry)) (now (attrs .entry)) counts)
+        key number form
         ⌝ }
 {
     match place_of(
@@ -280,7 +284,8 @@ pub fn address_attribute(
     number: u16,
 ) -> Value
     ensures { λ r. ⌜
-        r ≡ valueOfKey (table (now (s .entry)) settings (now (vendors .entry)) (now (sizes .entry)) (now (rows .entry)) (now (attrs .entry)) counts) key number FormKind.Addr
+        r ≡ valueOfKey (table (now (s .entry)) settings (now (vendors .entry)) (now (sizes .entry)) (now (rows .entry)) (now (attrs .entry)) counts)
+        key number FormKind.Addr
         ⌝ }
 {
     value_of(
@@ -310,7 +315,8 @@ pub fn reference_attribute(
     number: u16,
 ) -> Value
     ensures { λ r. ⌜
-        r ≡ valueOfKey (table (now (s .entry)) settings (now (vendors .entry)) (now (sizes .entry)) (now (rows .entry)) (now (attrs .entry)) counts) key number FormKind.Ref
+        r ≡ valueOfKey (table (now (s .entry)) settings (now (vendors .entry)) (now (sizes .entry)) (now (rows .entry)) (now (attrs .entry)) counts)
+        key number FormKind.Ref
         ⌝ }
 {
     value_of(
@@ -340,7 +346,8 @@ pub fn data2_attribute(
     number: u16,
 ) -> Value
     ensures { λ r. ⌜
-        r ≡ valueOfKey (table (now (s .entry)) settings (now (vendors .entry)) (now (sizes .entry)) (now (rows .entry)) (now (attrs .entry)) counts) key number FormKind.Data2
+        r ≡ valueOfKey (table (now (s .entry)) settings (now (vendors .entry)) (now (sizes .entry)) (now (rows .entry)) (now (attrs .entry)) counts)
+        key number FormKind.Data2
         ⌝ }
 {
     value_of(
@@ -370,7 +377,8 @@ pub fn data4_attribute(
     number: u16,
 ) -> Value
     ensures { λ r. ⌜
-        r ≡ valueOfKey (table (now (s .entry)) settings (now (vendors .entry)) (now (sizes .entry)) (now (rows .entry)) (now (attrs .entry)) counts) key number FormKind.Data4
+        r ≡ valueOfKey (table (now (s .entry)) settings (now (vendors .entry)) (now (sizes .entry)) (now (rows .entry)) (now (attrs .entry)) counts)
+        key number FormKind.Data4
         ⌝ }
 {
     value_of(
@@ -447,7 +455,8 @@ fn hand<'a>(
     told: &mut [u64; 3],
 ) -> &'a [u8]
     ensures { λ r. ⌜
-        Handed form (now (s .entry)) (placeOfKey (table (now (s .entry)) settings (now (vendors .entry)) (now (sizes .entry)) (now (rows .entry)) (now (attrs .entry)) counts) key number form) (now r) (now (told .exit))
+        Handed form (now (s .entry)) (placeOfKey (table (now (s .entry)) settings (now (vendors .entry)) (now (sizes .entry)) (now (rows .entry))
+        (now (attrs .entry)) counts) key number form) (now r) (now (told .exit))
         ⌝ }
 {
     let placed = place_of(
@@ -480,7 +489,9 @@ pub fn string_attribute<'a>(
     told: &mut [u64; 3],
 ) -> &'a [u8]
     ensures { λ r. ⌜
-        Handed FormKind.String (now (s .entry)) (placeOfKey (table (now (s .entry)) settings (now (vendors .entry)) (now (sizes .entry)) (now (rows .entry)) (now (attrs .entry)) counts) key number FormKind.String) (now r) (now (told .exit))
+        Handed FormKind.String (now (s .entry)) (placeOfKey
+        (table (now (s .entry)) settings (now (vendors .entry)) (now (sizes .entry)) (now (rows .entry)) (now (attrs .entry)) counts) key number
+        FormKind.String) (now r) (now (told .exit))
         ⌝ }
 {
     hand(
@@ -523,8 +534,8 @@ pub fn block_attribute<'a>(
 ) -> &'a [u8]
     ensures { λ r. ⌜
         Handed (blockForm number) (now (s .entry))
-        (placeOfKey (table (now (s .entry)) settings (now (vendors .entry)) (now (sizes .entry)) (now (rows .entry)) (now (attrs .entry)) counts) key number
-        (blockForm number)) (now r) (now (told .exit))
+        (placeOfKey (table (now (s .entry)) settings (now (vendors .entry)) (now (sizes .entry)) (now (rows .entry)) (now (attrs .entry)) counts) key
+        number (blockForm number)) (now r) (now (told .exit))
         ⌝ }
 {
     let form = block_form(number);

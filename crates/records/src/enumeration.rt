@@ -350,7 +350,8 @@ pub fn process_enumeration_tag(
     names: &mut [u64],
 ) -> EnumerationRead
     ensures { λ r. ⌜
-        BothGiven (processEnumerationTag (table (now (s .entry)) settings (now (vendors .entry)) (now (sizes .entry)) (now (rows .entry)) (now (attrs .entry)) counts) key (now (values .entry)) (now (names .entry))) r (now (values .exit)) (now (names .exit))
+        BothGiven (processEnumerationTag (table (now (s .entry)) settings (now (vendors .entry)) (now (sizes .entry)) (now (rows .entry))
+        (now (attrs .entry)) counts) key (now (values .entry)) (now (names .entry))) r (now (values .exit)) (now (names .exit))
         ⌝ }
 {
     match row_of(s, settings, vendors, sizes, rows, attrs, counts, key) {

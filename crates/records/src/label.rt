@@ -86,7 +86,8 @@ pub fn process_subroutine_label_tag(
     key: u32,
 ) -> LabelRead
     ensures { λ r. ⌜
-        r ≡ processSubroutineLabelTag (table (now (s .entry)) settings (now (vendors .entry)) (now (sizes .entry)) (now (rows .entry)) (now (attrs .entry)) counts) key
+        r ≡ processSubroutineLabelTag (table (now (s .entry)) settings (now (vendors .entry)) (now (sizes .entry)) (now (rows .entry))
+        (now (attrs .entry)) counts) key
         ⌝ }
 {
     match row_of(s, settings, vendors, sizes, rows, attrs, counts, key) {

@@ -142,7 +142,8 @@ pub fn process_structure_member_tag(
     key: u32,
 ) -> MemberRead
     ensures { λ r. ⌜
-        r ≡ processStructureMemberTag (table (now (s .entry)) settings (now (vendors .entry)) (now (sizes .entry)) (now (rows .entry)) (now (attrs .entry)) counts) key
+        r ≡ processStructureMemberTag (table (now (s .entry)) settings (now (vendors .entry)) (now (sizes .entry)) (now (rows .entry))
+        (now (attrs .entry)) counts) key
         ⌝ }
 {
     match row_of(s, settings, vendors, sizes, rows, attrs, counts, key) {

@@ -84,7 +84,8 @@ pub fn process_ptr_to_member_tag(
     key: u32,
 ) -> PtrToMemberRead
     ensures { λ r. ⌜
-        r ≡ processPtrToMemberTag (table (now (s .entry)) settings (now (vendors .entry)) (now (sizes .entry)) (now (rows .entry)) (now (attrs .entry)) counts) key
+        r ≡ processPtrToMemberTag (table (now (s .entry)) settings (now (vendors .entry)) (now (sizes .entry)) (now (rows .entry))
+        (now (attrs .entry)) counts) key
         ⌝ }
 {
     match row_of(s, settings, vendors, sizes, rows, attrs, counts, key) {

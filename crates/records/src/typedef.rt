@@ -292,7 +292,8 @@ pub fn process_typedef_tag(
     key: u32,
 ) -> TypedefRead
     ensures { λ r. ⌜
-        r ≡ processTypedefTag (table (now (s .entry)) settings (now (vendors .entry)) (now (sizes .entry)) (now (rows .entry)) (now (attrs .entry)) counts) key
+        r ≡ processTypedefTag (table (now (s .entry)) settings (now (vendors .entry)) (now (sizes .entry)) (now (rows .entry))
+        (now (attrs .entry)) counts) key
         ⌝ }
 {
     match row_of(s, settings, vendors, sizes, rows, attrs, counts, key) {

@@ -271,7 +271,8 @@ pub fn process_union_tag(
     room: &mut [u64],
 ) -> UnionRead
     ensures { λ r. ⌜
-        Given (processUnionTag (table (now (s .entry)) settings (now (vendors .entry)) (now (sizes .entry)) (now (rows .entry)) (now (attrs .entry)) counts) key (now (room .entry))) r (now (room .exit))
+        Given (processUnionTag (table (now (s .entry)) settings (now (vendors .entry)) (now (sizes .entry)) (now (rows .entry))
+        (now (attrs .entry)) counts) key (now (room .entry))) r (now (room .exit))
         ⌝ }
 {
     match row_of(s, settings, vendors, sizes, rows, attrs, counts, key) {

@@ -88,7 +88,8 @@ pub fn process_variable_tag(
     key: u32,
 ) -> VariableRead
     ensures { λ r. ⌜
-        r ≡ processVariableTag (table (now (s .entry)) settings (now (vendors .entry)) (now (sizes .entry)) (now (rows .entry)) (now (attrs .entry)) counts) key
+        r ≡ processVariableTag (table (now (s .entry)) settings (now (vendors .entry)) (now (sizes .entry)) (now (rows .entry))
+        (now (attrs .entry)) counts) key
         ⌝ }
 {
     match row_of(s, settings, vendors, sizes, rows, attrs, counts, key) {

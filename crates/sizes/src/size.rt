@@ -352,7 +352,8 @@ pub fn size_of_key(
     key: u32,
 ) -> Sized
     ensures { λ r. ⌜
-        r ≡ sizeOfKey (table (now (s .entry)) settings (now (vendors .entry)) (now (sizes .entry)) (now (rows .entry)) (now (attrs .entry)) counts) key
+        r ≡ sizeOfKey (table (now (s .entry)) settings (now (vendors .entry)) (now (sizes .entry)) (now (rows .entry)) (now (attrs .entry)) counts)
+        key
         ⌝ }
 {
     match check_table(s, settings, vendors, sizes, rows, attrs, counts) {
@@ -387,7 +388,8 @@ pub fn size_of_type(
     of: Type,
 ) -> Sized
     ensures { λ r. ⌜
-        r ≡ sizeOfType (table (now (s .entry)) settings (now (vendors .entry)) (now (sizes .entry)) (now (rows .entry)) (now (attrs .entry)) counts) of
+        r ≡ sizeOfType (table (now (s .entry)) settings (now (vendors .entry)) (now (sizes .entry)) (now (rows .entry)) (now (attrs .entry)) counts)
+        of
         ⌝ }
 {
     match check_table(s, settings, vendors, sizes, rows, attrs, counts) {

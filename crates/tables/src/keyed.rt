@@ -45,7 +45,8 @@ pub fn row_of(
     key: u32,
 ) -> Keyed
     ensures { λ r. ⌜
-        r ≡ inRowOfKey (table (now (s .entry)) settings (now (vendors .entry)) (now (sizes .entry)) (now (rows .entry)) (now (attrs .entry)) counts) key Keyed.Refused Keyed.Row
+        r ≡ inRowOfKey (table (now (s .entry)) settings (now (vendors .entry)) (now (sizes .entry)) (now (rows .entry)) (now (attrs .entry)) counts)
+        key Keyed.Refused Keyed.Row
         ⌝ }
 {
     match check_table(s, settings, vendors, sizes, rows, attrs, counts) {

@@ -6,6 +6,7 @@ use mathlib.Core.Path.{_≡_, refl, sym, ap, ap₂, _∙_, subst}
 use mathlib.Core.Bool.{Bool, true, false, cond}
 use mathlib.Core.List.{List}
 use lib.ListN.{length}
+use Rattle.entries.specs.Source.{source, mode}
 use Rattle.numbers.specs.Value.{readAt}
 use Rattle.numbers.specs.declared.Endian.{Endian}
 use Rattle.numbers.specs.declared.Endian.the-variants.{Big, Little}
@@ -190,18 +191,18 @@ module _ (s : List ℕ) (from : State) {rows₀ rows₁ attrs₀ attrs₁ : List
 -- ---- by head
 
 module _ (vendors : List ℕ) (global : ℕ) (s : List ℕ) (isErased : Bool) (e : Endian) (at a end : ℕ) where
-  pub nested : (levels : ℕ) → levels ≡ 0 → entryFrom vendors global s levels isErased e at a (head.Root end) ≡ stop reason.Nested
+  pub nested : (levels : ℕ) → levels ≡ 0 → entryFrom (source vendors global s) levels (mode isErased e) at a (head.Root end) ≡ stop reason.Nested
   unfolding entryFrom
   nested levels h = rw h
 
   pub root-is : (levels : ℕ) {inner : Endian} → (levels ≡ 0 → ⊥) → rootEndian vendors s isErased e at ≡ look.Is inner
-      → entryFrom vendors global s levels isErased e at a (head.Root end) ≡ rooted inner at end a (attributes vendors global s inner true end at)
+      → entryFrom (source vendors global s) levels (mode isErased e) at a (head.Root end) ≡ rooted inner at end a (attributes (source vendors global s) inner true end at)
   unfolding entryFrom rootIn
   root-is zero h p = absurd (h refl)
   root-is (suc l) h p = rw p
 
   pub root-short : (levels : ℕ) → (levels ≡ 0 → ⊥) → rootEndian vendors s isErased e at ≡ look.Short
-      → entryFrom vendors global s levels isErased e at a (head.Root end) ≡ stop reason.Short
+      → entryFrom (source vendors global s) levels (mode isErased e) at a (head.Root end) ≡ stop reason.Short
   unfolding entryFrom rootIn
   root-short zero h p = absurd (h refl)
   root-short (suc l) h p = rw p
@@ -244,7 +245,7 @@ null-read from isErased e place {rows₀ = rows₀} f w =
 
 module _ (vendors : List ℕ) (global : ℕ) (s : List ℕ) (levels : ℕ) (isErased : Bool) (e : Endian) (from : State) (ready : Ready s from) (place : ℕ) where
   pub entry-null : {r : entry.the-data} {rows₀ rows₁ attrs₀ : List ℕ} → HeadBounds s (from .at) (head.Null place) → NullRead from isErased e place r rows₀ rows₁
-      → EntryRead s from (entryFrom vendors global s levels isErased e (from .at) (from .attrs) (head.Null place)) r rows₀ rows₁ attrs₀ attrs₀
+      → EntryRead s from (entryFrom (source vendors global s) levels (mode isErased e) (from .at) (from .attrs) (head.Null place)) r rows₀ rows₁ attrs₀ attrs₀
   unfolding entryFrom entryAnswer attrsWords
   entry-null b q =
       record {
@@ -263,7 +264,7 @@ module _ (vendors : List ℕ) (global : ℕ) (s : List ℕ) (levels : ℕ) (isEr
       }
 
   pub entry-skipped : {rows₀ attrs₀ : List ℕ} → HeadBounds s (from .at) (head.Skipped place)
-      → EntryRead s from (entryFrom vendors global s levels isErased e (from .at) (from .attrs) (head.Skipped place))
+      → EntryRead s from (entryFrom (source vendors global s) levels (mode isErased e) (from .at) (from .attrs) (head.Skipped place))
       (entry.Next (record { at = place; rows = from .rows; attrs = from .attrs })) rows₀ rows₀ attrs₀ attrs₀
   unfolding entryFrom entryAnswer attrsWords rowsWords
   entry-skipped b =
@@ -285,9 +286,9 @@ module _ (vendors : List ℕ) (global : ℕ) (s : List ℕ) (levels : ℕ) (isEr
 
 -- what an entry is goes by its head
 pub at-head : (vendors : List ℕ) (global : ℕ) (s : List ℕ) (erased : Bool) (levels : ℕ) (isErased : Bool) (e : Endian) (at a : ℕ) {r h : Head}
-    → r ≡ headAt erased s e at → r ≡ h → readEntry vendors global s erased levels isErased e at a ≡ entryFrom vendors global s levels isErased e at a h
+    → r ≡ headAt erased s e at → r ≡ h → readEntry (source vendors global s) erased levels (mode isErased e) at a ≡ entryFrom (source vendors global s) levels (mode isErased e) at a h
 unfolding readEntry
-at-head vendors global s erased levels isErased e at a p q = ap (entryFrom vendors global s levels isErased e at a) (sym p ∙ q)
+at-head vendors global s erased levels isErased e at a p q = ap (entryFrom (source vendors global s) levels (mode isErased e) at a) (sym p ∙ q)
 
 pub head-bounds : (s : List ℕ) (at : ℕ) {what r h : Head} → HeadRead s at what r → r ≡ h → HeadBounds s at h
 head-bounds s at q t = subst (HeadBounds s at) t (q .bounds)

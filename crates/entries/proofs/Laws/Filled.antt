@@ -10,6 +10,7 @@ use lib.ListN.{length, length-append}
 use lib.Seq.{length-sets}
 use lib.Dec.{ltb}
 use borrow.Author.Tests.{eq-eqb}
+use Rattle.entries.specs.Source.{source, mode}
 use Rattle.lent.specs.Outcome.{Outcomes, outcomes}
 use Rattle.numbers.proofs.Laws.Tests.{cond-all}
 use Rattle.numbers.specs.declared.Endian.{Endian}
@@ -50,7 +51,7 @@ rise-few top least (r ∷ rs) h rise =
 
 -- they so rise in the rows that a walk gives, from the place where it began
 pub keys-rise : (vendors : List ℕ) (global : ℕ) (erased : Bool) (s : List ℕ) (levels : ℕ) (isErased : Bool) (e : Endian) (end a at : ℕ) {rs : List Row}
-    {xs : List Attr} {place : ℕ} → readTags vendors global erased s levels isErased e end a at ≡ entriesRead rs xs place → KeysRise (length s) at rs
+    {xs : List Attr} {place : ℕ} → readTags (source vendors global s) erased levels (mode isErased e) end a at ≡ entriesRead rs xs place → KeysRise (length s) at rs
 keys-rise vendors global erased s levels isErased e end a at whole =
     rows-rise (subst (WalkRows s vendors at a) whole (walk-rows s vendors global erased levels isErased e end a at))
 

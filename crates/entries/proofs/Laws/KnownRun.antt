@@ -6,6 +6,7 @@ use mathlib.Core.Path.{_≡_, refl}
 use mathlib.Core.Bool.{Bool, true, false, _||_, _&&_}
 use mathlib.Core.List.{List, [], _∷_}
 use lib.Dec.{ltb, eqb}
+use Rattle.entries.specs.Source.{source}
 use Rattle.numbers.proofs.Laws.Tests.{cond-all}
 use Rattle.numbers.specs.Value.{valueOf}
 use Rattle.numbers.proofs.Laws.Value.{read-all}
@@ -80,13 +81,13 @@ module _ (s vendors : List ℕ) (e : Endian) where
     seen high n = high || (root && eqb n number.HighPc)
 
     -- the theorem
-    pub run-known : (f : ℕ) (high : Bool) (at : ℕ) → RunKnown s vendors e at (readRun vendors global s e root end f high at)
+    pub run-known : (f : ℕ) (high : Bool) (at : ℕ) → RunKnown s vendors e at (readRun (source vendors global s) e root end f high at)
     unfolding readRun seen
     run-known zero high at = (none-known, le-refl at)
     run-known (suc f) high at =
         by-test (ltb at end)
         (λ t. by-test (runEnds global s e high at) (λ u. rw (t, u, readRun) (none-known, le-refl at))
         (λ u. rw (t, u, readRun)
-        (on-known at (readAttribute vendors e s at) (λ n next. readRun vendors global s e root end f (seen high n) next) (attribute-known at)
+        (on-known at (readAttribute vendors e s at) (λ n next. readRun (source vendors global s) e root end f (seen high n) next) (attribute-known at)
         (λ n next. run-known f (seen high n) next))))
         (λ t. rw (t, readRun) (none-known, le-refl at))

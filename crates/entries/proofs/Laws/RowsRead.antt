@@ -8,6 +8,7 @@ use mathlib.Core.List.{List, [], _∷_, _++_, append-assoc, append-nil}
 use lib.ListN.{length, length-append}
 use lib.Dec.{leb, ltb, eqb}
 use borrow.Author.Tests.{ltb-false, leb-false}
+use Rattle.entries.specs.Source.{source, mode}
 use Rattle.numbers.proofs.Laws.Tests.{cond-all}
 use Rattle.numbers.specs.Value.{valueOf}
 use Rattle.numbers.proofs.Laws.Value.{there-inside, read-all}
@@ -124,15 +125,15 @@ module _ (s vendors : List ℕ) (at a : ℕ) where
   rooted-rows e end (failed why) room known = tt
 
   module _ (global : ℕ) where
-    root-rows : (end : ℕ) (found : Look) → at + 4 ≤ length s → EntryRows s vendors at a (rootIn vendors global s at end a found)
+    root-rows : (end : ℕ) (found : Look) → at + 4 ≤ length s → EntryRows s vendors at a (rootIn (source vendors global s) at end a found)
     unfolding rootIn attributes
     root-rows end (Is e) room =
-        rooted-rows e end (attributes vendors global s e true end at) room (run-known s vendors e global true end (suc (length s)) false (at + 6))
+        rooted-rows e end (attributes (source vendors global s) e true end at) room (run-known s vendors e global true end (suc (length s)) false (at + 6))
     root-rows end Short room = tt
 
     -- an erased root, where one more level is allowed
     root-begins : (levels : ℕ) (isErased : Bool) (e : Endian) (end : ℕ) → at + 4 ≤ length s
-        → EntryRows s vendors at a (entryFrom vendors global s levels isErased e at a (Root end))
+        → EntryRows s vendors at a (entryFrom (source vendors global s) levels (mode isErased e) at a (Root end))
     unfolding entryFrom
     root-begins zero isErased e end room = tt
     root-begins (suc l) isErased e end room = root-rows end _ room
@@ -140,7 +141,7 @@ module _ (s vendors : List ℕ) (at a : ℕ) where
     module _ (levels : ℕ) (isErased : Bool) (e : Endian) where
       -- by what it begins with
       abbrev HeadRows : Head → Type 0
-      HeadRows h = EntryRows s vendors at a (entryFrom vendors global s levels isErased e at a h)
+      HeadRows h = EntryRows s vendors at a (entryFrom (source vendors global s) levels (mode isErased e) at a h)
 
       tag-rows : (erased : Bool) (size kind : ℕ) → 8 ≤ size → at + 4 ≤ length s → HeadRows (tagHead erased (at + size) kind)
       unfolding entryFrom tagHead attributes
@@ -148,7 +149,7 @@ module _ (s vendors : List ℕ) (at a : ℕ) where
           cond-all HeadRows (isOn kind tags)
           (λ k. cond-all HeadRows (eqb kind tag.Padding)
           (λ p. cond-all HeadRows erased (λ on. root-begins levels isErased e (at + size) room) (λ off. no-rows (omega arith)))
-          (λ p. ordinary-rows isErased e kind (attributes vendors global s e false (at + size) at) room k
+          (λ p. ordinary-rows isErased e kind (attributes (source vendors global s) e false (at + size) at) room k
           (run-known s vendors e global false (at + size) (suc (length s)) false (at + 6))))
           (λ k. tt)
 
@@ -161,7 +162,7 @@ module _ (s vendors : List ℕ) (at a : ℕ) where
           one-row isErased false e tag.Padding [] room refl none-known forward
 
       -- the theorem of one entry
-      pub entry-rows : (erased : Bool) → EntryRows s vendors at a (readEntry vendors global s erased levels isErased e at a)
+      pub entry-rows : (erased : Bool) → EntryRows s vendors at a (readEntry (source vendors global s) erased levels (mode isErased e) at a)
       unfolding entryFrom readEntry headAt sizeHead
       entry-rows erased =
           let size : ℕ = valueOf e 4 s at in
@@ -208,21 +209,21 @@ module _ (s vendors : List ℕ) where
   module _ (global : ℕ) (erased : Bool) where
     -- entries one after the other, given that what stands inside roots is such
     from-rows : (within : Endian → ℕ → ℕ → ℕ → Entries) → ((e : Endian) (end : ℕ) → Follows (within e end)) → (levels : ℕ) (isErased : Bool) (e : Endian)
-        (end f : ℕ) → Follows (entriesFrom vendors global erased s within levels isErased e end f)
+        (end f : ℕ) → Follows (entriesFrom (source vendors global s) erased within levels (mode isErased e) end f)
     unfolding entriesFrom
     from-rows within deeper levels isErased e end zero a at = no-rows (le-refl at)
     from-rows within deeper levels isErased e end (suc f) a at =
         by-test (ltb at end)
         (λ t. rw (t, entriesFrom)
-        (onward-rows within deeper at a (readEntry vendors global s erased levels isErased e at a) (entriesFrom vendors global erased s within levels isErased e end f)
+        (onward-rows within deeper at a (readEntry (source vendors global s) erased levels (mode isErased e) at a) (entriesFrom (source vendors global s) erased within levels (mode isErased e) end f)
         (entry-rows s vendors at a global levels isErased e erased) (from-rows within deeper levels isErased e end f)))
         (λ t. rw (t, entriesFrom) (no-rows (le-refl at)))
 
     -- the theorem: the rows of a walk, on any level, from wherever it begins
-    pub walk-rows : (levels : ℕ) (isErased : Bool) (e : Endian) (end : ℕ) → Follows (readTags vendors global erased s levels isErased e end)
+    pub walk-rows : (levels : ℕ) (isErased : Bool) (e : Endian) (end : ℕ) → Follows (readTags (source vendors global s) erased levels (mode isErased e) end)
     unfolding readTags
     walk-rows zero isErased e end a at =
         from-rows (λ e′ end′ b at′. entriesRefused reason.Nested at′) (λ e′ end′ b at′. tt) zero isErased e end (suc (length s)) a at
     walk-rows (suc l) isErased e end a at =
-        from-rows (λ e′ end′ b at′. readTags vendors global erased s l true e′ end′ b at′) (λ e′ end′. walk-rows l true e′ end′) (suc l) isErased e end
+        from-rows (λ e′ end′ b at′. readTags (source vendors global s) erased l (mode true e′) end′ b at′) (λ e′ end′. walk-rows l true e′ end′) (suc l) isErased e end
         (suc (length s)) a at

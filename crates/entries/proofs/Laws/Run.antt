@@ -8,6 +8,7 @@ use lib.ListN.{length, length-append}
 use lib.Seq.{sets, length-sets}
 use lib.Dec.{ltb, eqb}
 use borrow.Author.Tests.{lt-ltb, le-ltb}
+use Rattle.entries.specs.Source.{source}
 use Rattle.numbers.specs.Value.{readAt}
 use Rattle.numbers.specs.declared.Endian.{Endian}
 use Rattle.format.specs.AttributeKind as number
@@ -66,7 +67,7 @@ before-last xs high at = ap (λ (l : List Attr). ran l high at) (append-nil xs)
 module _ (vendors : List ℕ) (global : ℕ) (s : List ℕ) (e : Endian) (root : Bool) (end : ℕ) where
   -- the whole, from `at` on
   abbrev pub whole : ℕ → Run
-  whole at = readRun vendors global s e root end (suc (length s)) false at
+  whole at = readRun (source vendors global s) e root end (suc (length s)) false at
 
   -- xs were read and stored, f turns are left at least, and what is left comes to the whole
   pub record Loop (at attrs : ℕ) (table₀ table : List ℕ) (place n : ℕ) (high : Bool) : Type 0 where
@@ -79,7 +80,7 @@ module _ (vendors : List ℕ) (global : ℕ) (s : List ℕ) (e : Endian) (root :
     pub few : n ≤ place
     pub count : n ≡ attrs + length xs
     pub words : table ≡ sets table₀ (attrs * attrWidth) (attrsWords xs)
-    pub rest : before xs (readRun vendors global s e root end turns high place) ≡ whole at
+    pub rest : before xs (readRun (source vendors global s) e root end turns high place) ≡ whole at
 
   pub begin : {at attrs : ℕ} (table : List ℕ) → RunReady s at attrs → Loop at attrs table table at attrs false
   unfolding attrsWords
@@ -100,32 +101,32 @@ module _ (vendors : List ℕ) (global : ℕ) (s : List ℕ) (e : Endian) (root :
   -- one turn of the definition
   turn-read : (f : ℕ) (high : Bool) (place : ℕ) {m v next : ℕ} → place < end → runEnds global s e high place ≡ false
       → readAttribute vendors e s place ≡ Read m v next
-      → readRun vendors global s e root end (suc f) high place
-      ≡ first (attr m v) (readRun vendors global s e root end f (high || (root && eqb m number.HighPc)) next)
+      → readRun (source vendors global s) e root end (suc f) high place
+      ≡ first (attr m v) (readRun (source vendors global s) e root end f (high || (root && eqb m number.HighPc)) next)
   unfolding readRun readOn
   turn-read f high place h k p = rw (lt-ltb place end h, k, p, readRun)
 
   turn-failed : (f : ℕ) (high : Bool) (place field : ℕ) → place < end → runEnds global s e high place ≡ false
-      → readAttribute vendors e s place ≡ Short field → readRun vendors global s e root end (suc f) high place ≡ failed reason.Short
+      → readAttribute vendors e s place ≡ Short field → readRun (source vendors global s) e root end (suc f) high place ≡ failed reason.Short
   unfolding readRun readOn
   turn-failed f high place field h k p = rw (lt-ltb place end h, k, p, readRun)
 
   turn-unknown : (f : ℕ) (high : Bool) (place field : ℕ) → place < end → runEnds global s e high place ≡ false
-      → readAttribute vendors e s place ≡ Unknown field → readRun vendors global s e root end (suc f) high place ≡ failed reason.Attribute
+      → readAttribute vendors e s place ≡ Unknown field → readRun (source vendors global s) e root end (suc f) high place ≡ failed reason.Attribute
   unfolding readRun readOn
   turn-unknown f high place field h k p = rw (lt-ltb place end h, k, p, readRun)
 
   -- where nothing is read any more, whatever turns are left
-  turn-ends : (t : ℕ) (high : Bool) (place : ℕ) → runEnds global s e high place ≡ true → readRun vendors global s e root end t high place ≡ ran [] high place
+  turn-ends : (t : ℕ) (high : Bool) (place : ℕ) → runEnds global s e high place ≡ true → readRun (source vendors global s) e root end t high place ≡ ran [] high place
   unfolding readRun
   turn-ends zero high place k = refl
   turn-ends (suc f) high place k = go (ltb place end) refl
     where
-      go : (b : Bool) → ltb place end ≡ b → readRun vendors global s e root end (suc f) high place ≡ ran [] high place
+      go : (b : Bool) → ltb place end ≡ b → readRun (source vendors global s) e root end (suc f) high place ≡ ran [] high place
       go true p = rw (p, k, readRun)
       go false p = rw (p, readRun)
 
-  turn-past : (t : ℕ) (high : Bool) (place : ℕ) → end ≤ place → readRun vendors global s e root end t high place ≡ ran [] high place
+  turn-past : (t : ℕ) (high : Bool) (place : ℕ) → end ≤ place → readRun (source vendors global s) e root end t high place ≡ ran [] high place
   unfolding readRun
   turn-past zero high place h = refl
   turn-past (suc f) high place h = rw (le-ltb place end h, readRun)
@@ -163,17 +164,17 @@ module _ (vendors : List ℕ) (global : ℕ) (s : List ℕ) (e : Endian) (root :
               ∙ ap₂ (λ (u : List ℕ) (i : ℕ). sets u (i * attrWidth) (attrsWords (attr m v ∷ []))) (l .words) (l .count)
               ∙ sym (attrs-append table₀ attrs (l .xs) (attr m v ∷ []));
           rest =
-              before-one (l .xs) (attr m v) (readRun vendors global s e root end f (high || (root && eqb m number.HighPc)) next)
+              before-one (l .xs) (attr m v) (readRun (source vendors global s) e root end f (high || (root && eqb m number.HighPc)) next)
               ∙ ap (before (l .xs)) (sym (turn-read f high place h k p))
-              ∙ ap (λ (t : ℕ). before (l .xs) (readRun vendors global s e root end t high place)) (sym turns)
+              ∙ ap (λ (t : ℕ). before (l .xs) (readRun (source vendors global s) e root end t high place)) (sym turns)
               ∙ l .rest;
         }
 
     -- how the whole comes out, where what is left comes to r
-    comes-to : {r : Run} → readRun vendors global s e root end (l .turns) high place ≡ r → before (l .xs) r ≡ whole at
+    comes-to : {r : Run} → readRun (source vendors global s) e root end (l .turns) high place ≡ r → before (l .xs) r ≡ whole at
     comes-to p = ap (before (l .xs)) (sym p) ∙ l .rest
 
-    stopped : readRun vendors global s e root end (l .turns) high place ≡ ran [] high place → RunRead s at attrs (whole at) (run.Ran place n high) table₀ table
+    stopped : readRun (source vendors global s) e root end (l .turns) high place ≡ ran [] high place → RunRead s at attrs (whole at) (run.Ran place n high) table₀ table
     unfolding runAnswer
     stopped p =
         let all : ran (l .xs) high place ≡ whole at = sym (before-last (l .xs) high place) ∙ comes-to p in
@@ -191,7 +192,7 @@ module _ (vendors : List ℕ) (global : ℕ) (s : List ℕ) (e : Endian) (root :
     pub ends : runEnds global s e high place ≡ true → RunRead s at attrs (whole at) (run.Ran place n high) table₀ table
     ends k = stopped (turn-ends (l .turns) high place k)
 
-    refused : (why : Reason) → readRun vendors global s e root end (l .turns) high place ≡ failed why
+    refused : (why : Reason) → readRun (source vendors global s) e root end (l .turns) high place ≡ failed why
         → RunRead s at attrs (whole at) (run.Refused why) table₀ table
     unfolding runAnswer before
     refused why p =
@@ -203,14 +204,14 @@ module _ (vendors : List ℕ) (global : ℕ) (s : List ℕ) (e : Endian) (root :
     short {field} h k p =
         let left = one-left (l .turns) (l .fuel) in
         refused reason.Short
-        (ap (λ (t : ℕ). readRun vendors global s e root end t high place) (left .1) ∙ turn-failed (left .0) high place field h k p)
+        (ap (λ (t : ℕ). readRun (source vendors global s) e root end t high place) (left .1) ∙ turn-failed (left .0) high place field h k p)
 
     pub unknown : {field : ℕ} → place < end → runEnds global s e high place ≡ false → readAttribute vendors e s place ≡ Unknown field
         → RunRead s at attrs (whole at) (run.Refused reason.Attribute) table₀ table
     unknown {field} h k p =
         let left = one-left (l .turns) (l .fuel) in
         refused reason.Attribute
-        (ap (λ (t : ℕ). readRun vendors global s e root end t high place) (left .1) ∙ turn-unknown (left .0) high place field h k p)
+        (ap (λ (t : ℕ). readRun (source vendors global s) e root end t high place) (left .1) ∙ turn-unknown (left .0) high place field h k p)
 
     -- the table keeps its length, and every turn goes forward
     pub kept : length table ≡ length table₀

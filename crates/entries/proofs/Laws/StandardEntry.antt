@@ -8,6 +8,7 @@ use mathlib.Core.List.{List, _∷_, _++_}
 use lib.ListN.{length, length-append}
 use lib.Dec.{leb}
 use borrow.Author.Tests.{lt-ltb, le-ltb, leb-true, ne-eqb}
+use Rattle.entries.specs.Source.{source, mode}
 use Rattle.numbers.proofs.Laws.Tests.{cond-all}
 use Rattle.numbers.specs.declared.Endian.{Endian}
 use Rattle.format.specs.Lookup.{isOn}
@@ -79,7 +80,7 @@ die-long vendors e (entry kind k p b rest few) =
 
 module _ (vendors : List ℕ) (global : ℕ) (e : Endian) (s : List ℕ) (levels at a : ℕ) where
   pub die-read : (d : Die vendors e) → Stands s at (writtenDie vendors e d)
-      → readEntry vendors global s false levels false e at a ≡ next (dieRows vendors e at a d) (dieAttrs vendors e at d) (at + length (writtenDie vendors e d))
+      → readEntry (source vendors global s) false levels (mode false e) at a ≡ next (dieRows vendors e at a d) (dieAttrs vendors e at d) (at + length (writtenDie vendors e d))
   unfolding writtenDie dieRows dieAttrs readEntry entryFrom ordinary kindOf attributes
   die-read (null fill few small) q =
       let size : ℕ = length fill + 4 in
@@ -99,7 +100,7 @@ module _ (vendors : List ℕ) (global : ℕ) (e : Endian) (s : List ℕ) (levels
       let head : headAt false s e at ≡ Ordinary kind (at + size) =
       tagged-head e s at size (omega arith) few (tag-small kind k) t ∙ ordinary-tag (at + size) kind k p
       in
-      let run : attributes vendors global s e false (at + size) at ≡ ran (writtenFrom vendors e (at + 6) (b ∷ rest)) false (at + size) =
+      let run : attributes (source vendors global s) e false (at + size) at ≡ ran (writtenFrom vendors e (at + 6) (b ∷ rest)) false (at + size) =
       run-read vendors global e s (b ∷ rest) (suc (length s)) (at + size) (at + 6) (t .body-stands) (omega arith) (omega arith)
       in
       rw (head, tagged-length e size kind body, run)

@@ -7,6 +7,7 @@ use mathlib.Core.Bool.{true, false}
 use mathlib.Core.List.{List, [], _∷_, _++_}
 use lib.ListN.{length, length-append}
 use borrow.Author.Tests.{lt-ltb, le-ltb}
+use Rattle.entries.specs.Source.{source, mode}
 use Rattle.numbers.specs.declared.Endian.{Endian}
 use Rattle.format.specs.declared.refusal.Reason.the-variants as reason
 use Rattle.entries.specs.Walk.{Entries, entriesRead, entriesRefused, join, entriesThen, onward, entriesFrom, readTags}
@@ -18,7 +19,7 @@ module _ (vendors : List ℕ) (global : ℕ) (e : Endian) where
   -- from a place on where they stand, up to the section's end
   walk-read : (s : List ℕ) (within : Endian → ℕ → ℕ → ℕ → Entries) (levels : ℕ) (dies : List (Die vendors e)) (f a at : ℕ)
       → Stands s at (writtenDies vendors e dies) → at + length (writtenDies vendors e dies) ≡ length s → length s < at + f
-      → entriesFrom vendors global false s within levels false e (length s) f a at
+      → entriesFrom (source vendors global s) false within levels (mode false e) (length s) f a at
       ≡ entriesRead (rowsOf vendors e at a dies) (attrsOf vendors e at dies) (length s)
   unfolding writtenDies rowsOf attrsOf entriesFrom onward entriesThen join
   walk-read s within levels dies zero a at q p h = absurd (omega arith)
@@ -31,7 +32,7 @@ module _ (vendors : List ℕ) (global : ℕ) (e : Endian) where
       let whole : length (front ++ back) ≡ length front + length back = length-append front back in
       let long : 4 ≤ length front = die-long vendors e d in
       let b : ℕ = a + length (dieAttrs vendors e at d) in
-      let others : entriesFrom vendors global false s within levels false e (length s) f b (at + length front)
+      let others : entriesFrom (source vendors global s) false within levels (mode false e) (length s) f b (at + length front)
       ≡ entriesRead (rowsOf vendors e (at + length front) b dies) (attrsOf vendors e (at + length front) dies) (length s) =
       walk-read s within levels dies f b (at + length front) (back-stands s at front back q) (omega arith) (omega arith)
       in
@@ -40,15 +41,15 @@ module _ (vendors : List ℕ) (global : ℕ) (e : Endian) where
   -- the whole section
   whole-read : (within : Endian → ℕ → ℕ → ℕ → Entries) (levels : ℕ) (dies : List (Die vendors e))
       → let s : List ℕ = writtenDies vendors e dies in
-      entriesFrom vendors global false s within levels false e (length s) (suc (length s)) 0 0 ≡ entriesRead (rowsOf vendors e 0 0 dies) (attrsOf vendors e 0 dies) (length s)
+      entriesFrom (source vendors global s) false within levels (mode false e) (length s) (suc (length s)) 0 0 ≡ entriesRead (rowsOf vendors e 0 0 dies) (attrsOf vendors e 0 dies) (length s)
   whole-read within levels dies =
       let s : List ℕ = writtenDies vendors e dies in
       walk-read s within levels dies (suc (length s)) 0 0 (all-stands s) (omega arith) (omega arith)
 
   -- the theorem
   pub standard-read : (levels : ℕ) (dies : List (Die vendors e))
-      → readTags vendors global false (writtenDies vendors e dies) levels false e (length (writtenDies vendors e dies)) 0 0
+      → readTags (source vendors global (writtenDies vendors e dies)) false levels (mode false e) (length (writtenDies vendors e dies)) 0 0
       ≡ entriesRead (rowsOf vendors e 0 0 dies) (attrsOf vendors e 0 dies) (length (writtenDies vendors e dies))
   unfolding readTags
   standard-read zero dies = whole-read (λ e′ end′ b at′. entriesRefused reason.Nested at′) zero dies
-  standard-read (suc l) dies = whole-read (λ e′ end′ b at′. readTags vendors global false (writtenDies vendors e dies) l true e′ end′ b at′) (suc l) dies
+  standard-read (suc l) dies = whole-read (λ e′ end′ b at′. readTags (source vendors global (writtenDies vendors e dies)) false l (mode true e′) end′ b at′) (suc l) dies

@@ -6,6 +6,7 @@ use mathlib.Core.Path.{_≡_, refl, subst}
 use mathlib.Core.Bool.{false}
 use mathlib.Core.List.{List, [], _∷_, _++_}
 use lib.ListN.{length, length-append}
+use Rattle.entries.specs.Source.{source, mode}
 use Rattle.numbers.specs.Value.{valueOf}
 use Rattle.numbers.specs.declared.Endian.{Endian}
 use Rattle.tables.specs.declared.row.Row.{Row}
@@ -46,7 +47,7 @@ module _ (vendors : List ℕ) (global : ℕ) (e : Endian) where
 
   -- the theorem
   pub standard-written : (levels : ℕ) (s : List ℕ) → Bytes s → {rs : List Row} {xs : List Attr} {place : ℕ}
-      → readTags vendors global false s levels false e (length s) 0 0 ≡ entriesRead rs xs place → Exact vendors global e s 0 0 → WrittenAs vendors e s rs xs
+      → readTags (source vendors global s) false levels (mode false e) (length s) 0 0 ≡ entriesRead rs xs place → Exact vendors global e s 0 0 → WrittenAs vendors e s rs xs
   standard-written levels s small {rs} {xs} {place} p exact =
       let d : DiesFound vendors e s 0 = exact-dies s small exact in
       let same : writtenDies vendors e (d .found) ≡ s = stands-all (d .stands) (omega arith) in

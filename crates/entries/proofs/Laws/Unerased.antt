@@ -6,6 +6,7 @@ use mathlib.Core.Bool.{true, false}
 use mathlib.Core.List.{List, [], _∷_, _++_}
 use lib.ListN.{length}
 use lib.Dec.{ltb, eqb}
+use Rattle.entries.specs.Source.{source, mode}
 use Rattle.lent.specs.Outcome.{Outcomes, outcomes}
 use Rattle.numbers.proofs.Laws.Tests.{cond-all}
 use Rattle.numbers.specs.Value.{valueOf}
@@ -83,15 +84,15 @@ ordinary-plain e at kind a (ran xs high place) = (plain-flags e, tt)
 ordinary-plain e at kind a (failed why) = tt
 
 entry-from-plain : (vendors : List ℕ) (global : ℕ) (s : List ℕ) (levels : ℕ) (e : Endian) (at a : ℕ) (h : Head) → NoRoot h
-    → EntryPlain (entryFrom vendors global s levels false e at a h)
+    → EntryPlain (entryFrom (source vendors global s) levels (mode false e) at a h)
 unfolding entryFrom
 entry-from-plain vendors global s levels e at a (Null place) p = (plain-flags e, tt)
 entry-from-plain vendors global s levels e at a (Skipped place) p = tt
 entry-from-plain vendors global s levels e at a (Root end) p = absurd p
-entry-from-plain vendors global s levels e at a (Ordinary kind end) p = ordinary-plain e at kind a (attributes vendors global s e false end at)
+entry-from-plain vendors global s levels e at a (Ordinary kind end) p = ordinary-plain e at kind a (attributes (source vendors global s) e false end at)
 entry-from-plain vendors global s levels e at a (Refused why) p = tt
 
-entry-plain : (vendors : List ℕ) (global : ℕ) (s : List ℕ) (levels : ℕ) (e : Endian) (at a : ℕ) → EntryPlain (readEntry vendors global s false levels false e at a)
+entry-plain : (vendors : List ℕ) (global : ℕ) (s : List ℕ) (levels : ℕ) (e : Endian) (at a : ℕ) → EntryPlain (readEntry (source vendors global s) false levels (mode false e) at a)
 unfolding readEntry
 entry-plain vendors global s levels e at a = entry-from-plain vendors global s levels e at a (headAt false s e at) (no-root s e at)
 
@@ -114,22 +115,22 @@ onward-plain within at a (inside r xs place e end) k p q = absurd p
 onward-plain within at a (stop why) k p q = tt
 
 from-plain : (vendors : List ℕ) (global : ℕ) (s : List ℕ) (within : Endian → ℕ → ℕ → ℕ → Entries) (levels : ℕ) (e : Endian) (end f a at : ℕ)
-    → WalkPlain (entriesFrom vendors global false s within levels false e end f a at)
+    → WalkPlain (entriesFrom (source vendors global s) false within levels (mode false e) end f a at)
 unfolding entriesFrom
 from-plain vendors global s within levels e end zero a at = tt
 from-plain vendors global s within levels e end (suc f) a at =
     by-test (ltb at end)
     (λ t. rw (t, entriesFrom)
-    (onward-plain within at a (readEntry vendors global s false levels false e at a) (λ b at′. entriesFrom vendors global false s within levels false e end f b at′)
+    (onward-plain within at a (readEntry (source vendors global s) false levels (mode false e) at a) (λ b at′. entriesFrom (source vendors global s) false within levels (mode false e) end f b at′)
     (entry-plain vendors global s levels e at a) (λ b at′. from-plain vendors global s within levels e end f b at′)))
     (λ t. rw (t, entriesFrom) tt)
 
 walk-plain : (vendors : List ℕ) (global : ℕ) (s : List ℕ) (levels : ℕ) (e : Endian) (end a at : ℕ)
-    → WalkPlain (readTags vendors global false s levels false e end a at)
+    → WalkPlain (readTags (source vendors global s) false levels (mode false e) end a at)
 unfolding readTags
 walk-plain vendors global s zero e end a at = from-plain vendors global s (λ e′ end′ b at′. entriesRefused reason.Nested at′) zero e end (suc (length s)) a at
 walk-plain vendors global s (suc l) e end a at =
-    from-plain vendors global s (λ e′ end′ b at′. readTags vendors global false s l true e′ end′ b at′) (suc l) e end (suc (length s)) a at
+    from-plain vendors global s (λ e′ end′ b at′. readTags (source vendors global s) false l (mode true e′) end′ b at′) (suc l) e end (suc (length s)) a at
 
 whole-plain : (settings : Settings) (vendors s : List ℕ) → settings .erased ≡ false → WalkPlain (wholeWalk settings vendors s)
 unfolding wholeWalk

@@ -9,6 +9,7 @@ use mathlib.Core.List.{List, [], _∷_, _++_, append-assoc, append-nil}
 use lib.ListN.{length, length-append}
 use lib.Seq.{sets, length-sets}
 use borrow.Author.Tests.{lt-ltb, le-ltb}
+use Rattle.entries.specs.Source.{source, mode}
 use Rattle.numbers.specs.declared.Endian.{Endian}
 use Rattle.format.specs.declared.refusal.Reason.{Reason}
 use Rattle.format.specs.declared.refusal.Reason.the-variants as reason
@@ -114,23 +115,23 @@ module _ (vendors : List ℕ) (global : ℕ) (erased : Bool) (s : List ℕ) wher
   -- how the inside of a root is read, with so many levels still allowed outside it
   unfoldable pub withinOf : ℕ → Endian → ℕ → ℕ → ℕ → Entries
   withinOf zero e end b at = entriesRefused reason.Nested at
-  withinOf (suc l) e end b at = readTags vendors global erased s l true e end b at
+  withinOf (suc l) e end b at = readTags (source vendors global s) erased l (mode true e) end b at
 
   walk-levels : (levels : ℕ) (isErased : Bool) (e : Endian) (end a at : ℕ)
-      → entriesFrom vendors global erased s (withinOf levels) levels isErased e end (suc (length s)) a at ≡ readTags vendors global erased s levels isErased e end a at
+      → entriesFrom (source vendors global s) erased (withinOf levels) levels (mode isErased e) end (suc (length s)) a at ≡ readTags (source vendors global s) erased levels (mode isErased e) end a at
   unfolding withinOf readTags
   walk-levels zero isErased e end a at = refl
   walk-levels (suc l) isErased e end a at = refl
 
   within-less : (levels : ℕ) (e : Endian) (end b at : ℕ) → 0 < levels
-      → withinOf levels e end b at ≡ readTags vendors global erased s (levels - 1) true e end b at
+      → withinOf levels e end b at ≡ readTags (source vendors global s) erased (levels - 1) (mode true e) end b at
   unfolding withinOf
   within-less zero e end b at h = absurd (omega arith)
-  within-less (suc l) e end b at h = ap (λ (k : ℕ). readTags vendors global erased s k true e end b at) (sym (sub-one (suc l)))
+  within-less (suc l) e end b at h = ap (λ (k : ℕ). readTags (source vendors global s) erased k (mode true e) end b at) (sym (sub-one (suc l)))
 
   -- a root is only read where a level is left
   inside-levels : (levels : ℕ) (isErased : Bool) (e : Endian) (at a : ℕ) {row : Row} {xs : List Attr} {p : ℕ} {e′ : Endian} {end′ : ℕ}
-      → readEntry vendors global s erased levels isErased e at a ≡ inside row xs p e′ end′ → 0 < levels
+      → readEntry (source vendors global s) erased levels (mode isErased e) at a ≡ inside row xs p e′ end′ → 0 < levels
   unfolding readEntry entryFrom ordinary
   inside-levels zero isErased e at a q = absurd (never (headAt erased s e at) q)
     where
@@ -139,11 +140,11 @@ module _ (vendors : List ℕ) (global : ℕ) (erased : Bool) (s : List ℕ) wher
       no-run kind (failed why) t = let z : _≡_ {A = ℕ} 0 1 = cc in omega arith
 
       never : (h : Head) {row : Row} {xs : List Attr} {p : ℕ} {e′ : Endian} {end′ : ℕ}
-          → entryFrom vendors global s zero isErased e at a h ≡ inside row xs p e′ end′ → ⊥
+          → entryFrom (source vendors global s) zero (mode isErased e) at a h ≡ inside row xs p e′ end′ → ⊥
       never (head.Null place) t = let z : _≡_ {A = ℕ} 0 1 = cc in omega arith
       never (head.Skipped place) t = let z : _≡_ {A = ℕ} 0 1 = cc in omega arith
       never (head.Root end) t = let z : _≡_ {A = ℕ} 0 1 = cc in omega arith
-      never (head.Ordinary kind end) t = no-run kind (attributes vendors global s e false end at) t
+      never (head.Ordinary kind end) t = no-run kind (attributes (source vendors global s) e false end at) t
       never (head.Refused why) t = let z : _≡_ {A = ℕ} 0 1 = cc in omega arith
   inside-levels (suc l) isErased e at a q = omega arith
 
@@ -151,15 +152,15 @@ module _ (vendors : List ℕ) (global : ℕ) (erased : Bool) (s : List ℕ) wher
 
   module _ (levels : ℕ) (isErased : Bool) (e : Endian) (end : ℕ) where
     abbrev pub whole : ℕ → ℕ → Entries
-    whole a at = readTags vendors global erased s levels isErased e end a at
+    whole a at = readTags (source vendors global s) erased levels (mode isErased e) end a at
 
     -- what is left with f turns
     abbrev left : ℕ → ℕ → ℕ → Entries
-    left f a at = entriesFrom vendors global erased s (withinOf levels) levels isErased e end f a at
+    left f a at = entriesFrom (source vendors global s) erased (withinOf levels) levels (mode isErased e) end f a at
 
     -- the entry at a place
     abbrev entryHere : ℕ → ℕ → Entry
-    entryHere at a = readEntry vendors global s erased levels isErased e at a
+    entryHere at a = readEntry (source vendors global s) erased levels (mode isErased e) at a
 
     -- rs and xs were read and stored, some turns are left, and what is left comes to the whole
     pub record Loop (from : State) (rows₀ rows attrs₀ attrs : List ℕ) (now : State) : Type 0 where
@@ -338,10 +339,10 @@ module _ (vendors : List ℕ) (global : ℕ) (erased : Bool) (s : List ℕ) wher
               inside-levels levels isErased e (now .at) (now .attrs) (told .3)
 
           module _ {r′ : walk.the-data} {rows₂ attrs₂ : List ℕ}
-              (w : WalkRead to (readTags vendors global erased s (levels - 1) true e′ end′ (to .attrs) (to .at)) r′ rows₁ rows₂ attrs₁ attrs₂) where
+              (w : WalkRead to (readTags (source vendors global s) erased (levels - 1) (mode true e′) end′ (to .attrs) (to .at)) r′ rows₁ rows₂ attrs₁ attrs₂) where
             -- what is left after the root itself, given what its inside comes to
             turn-inside : (xs : List Attr) (p : ℕ) (row : Row) → entryHere (now .at) (now .attrs) ≡ inside row xs p e′ end′ → (v : Entries)
-                → readTags vendors global erased s (levels - 1) true e′ end′ (now .attrs + length xs) p ≡ v → (f : ℕ)
+                → readTags (source vendors global s) erased (levels - 1) (mode true e′) end′ (now .attrs + length xs) p ≡ v → (f : ℕ)
                 → left (suc f) (now .attrs) (now .at) ≡ join (row ∷ []) xs (entriesThen (now .attrs + length xs) v (λ b at′. left f b at′))
             unfolding onward entriesThen
             turn-inside xs p row is v p′ f =
@@ -358,7 +359,7 @@ module _ (vendors : List ℕ) (global : ℕ) (erased : Bool) (s : List ℕ) wher
                 let xs : List Attr = told .1 in
                 let p : ℕ = told .2 in
                 let mid : State = advanced now 1 (length xs) p in
-                let nested : ℕ → ℕ → Entries = λ b at′. readTags vendors global erased s (levels - 1) true e′ end′ b at′ in
+                let nested : ℕ → ℕ → Entries = λ b at′. readTags (source vendors global s) erased (levels - 1) (mode true e′) end′ b at′ in
                 let w′ : WalkRead mid (nested (now .attrs + length xs) p) r′ rows₁ rows₂ attrs₁ attrs₂ =
                 subst (λ (x : State). WalkRead x (nested (x .attrs) (x .at)) r′ rows₁ rows₂ attrs₁ attrs₂) (told .4) w
                 in
@@ -389,7 +390,7 @@ module _ (vendors : List ℕ) (global : ℕ) (erased : Bool) (s : List ℕ) wher
                 let told = told-inside now (entryHere (now .at) (now .attrs)) (q .answer) t in
                 let forward : now .at + 4 ≤ told .2 = stores-as (told .3) .1 .forward in
                 let place : to .at ≡ told .2 = ap (λ (x : State). x .at) (told .4) in
-                let nested : Entries = readTags vendors global erased s (levels - 1) true e′ end′ (to .attrs) (to .at) in
+                let nested : Entries = readTags (source vendors global s) erased (levels - 1) (mode true e′) end′ (to .attrs) (to .at) in
                 let told′ = told-walked to nested (w .answer) t′ in
                 let stored′ : Stored to (told′ .0) (told′ .1) (told′ .2) rows₁ rows₂ attrs₁ attrs₂ =
                 subst (λ (u : Entries). WalkStores to u rows₁ rows₂ attrs₁ attrs₂) (told′ .3) (w .stores)
@@ -403,9 +404,9 @@ module _ (vendors : List ℕ) (global : ℕ) (erased : Bool) (s : List ℕ) wher
             unfolding entriesThen join
             refused-inside {why} {at} t′ =
                 let told = told-inside now (entryHere (now .at) (now .attrs)) (q .answer) t in
-                let is = told-refused to (readTags vendors global erased s (levels - 1) true e′ end′ (to .attrs) (to .at)) (w .answer) t′ in
-                let place : readTags vendors global erased s (levels - 1) true e′ end′ (now .attrs + length (told .1)) (told .2) ≡ entriesRefused why at =
-                ap (λ (x : State). readTags vendors global erased s (levels - 1) true e′ end′ (x .attrs) (x .at)) (sym (told .4)) ∙ is
+                let is = told-refused to (readTags (source vendors global s) erased (levels - 1) (mode true e′) end′ (to .attrs) (to .at)) (w .answer) t′ in
+                let place : readTags (source vendors global s) erased (levels - 1) (mode true e′) end′ (now .attrs + length (told .1)) (told .2) ≡ entriesRefused why at =
+                ap (λ (x : State). readTags (source vendors global s) erased (levels - 1) (mode true e′) end′ (x .attrs) (x .at)) (sym (told .4)) ∙ is
                 in
                 stops (turn-inside (told .1) (told .2) (told .0) (told .3) (entriesRefused why at) place)
 

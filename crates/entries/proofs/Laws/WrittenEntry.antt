@@ -7,6 +7,7 @@ use mathlib.Core.List.{List, [], _∷_, _++_}
 use lib.ListN.{length, take, drop, length-append}
 use lib.Dec.{leb, ltb, eqb}
 use borrow.Author.Tests.{ltb-true, ltb-false, leb-false, eqb-true, eqb-false}
+use Rattle.entries.specs.Source.{source, mode}
 use Rattle.numbers.proofs.Laws.Tests.{cond-all}
 use Rattle.numbers.specs.Value.{valueOf}
 use Rattle.numbers.proofs.Laws.Value.{there-inside, read-all}
@@ -113,7 +114,7 @@ module _ (vendors : List ℕ) (e : Endian) (s : List ℕ) (small : Bytes s) (at 
   module _ (global levels a : ℕ) where
     -- by what it begins with
     abbrev HeadFound : Head → Type 0
-    HeadFound h = EntryFound vendors e s at (entryFrom vendors global s levels false e at a h)
+    HeadFound h = EntryFound vendors e s at (entryFrom (source vendors global s) levels (mode false e) at a h)
 
     tag-found : 8 ≤ valueOf e 4 s at → at + 6 ≤ length s → HeadFound (tagHead false (at + valueOf e 4 s at) (valueOf e 2 s (at + 4)))
     unfolding entryFrom tagHead attributes
@@ -123,12 +124,12 @@ module _ (vendors : List ℕ) (e : Endian) (s : List ℕ) (small : Bytes s) (at 
         cond-all HeadFound (isOn kind tags)
         (λ k. cond-all HeadFound (eqb kind tag.Padding)
         (λ p h fits. padding-found vendors e s small at size refl fits some (eqb-true kind tag.Padding p))
-        (λ p. ordinary-found kind a some refl k (eqb-false kind tag.Padding p) (attributes vendors global s e false (at + size) at)
+        (λ p. ordinary-found kind a some refl k (eqb-false kind tag.Padding p) (attributes (source vendors global s) e false (at + size) at)
         (run-found vendors e s global small (at + size) (suc (length s)) (at + 6) room)))
         (λ k. tt)
 
     -- the theorem of one entry
-    pub entry-written : EntryFound vendors e s at (readEntry vendors global s false levels false e at a)
+    pub entry-written : EntryFound vendors e s at (readEntry (source vendors global s) false levels (mode false e) at a)
     unfolding readEntry entryFrom headAt sizeHead
     entry-written =
         let size : ℕ = valueOf e 4 s at in

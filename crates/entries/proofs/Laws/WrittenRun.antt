@@ -7,6 +7,7 @@ use mathlib.Core.Bool.{false}
 use mathlib.Core.List.{List, [], _∷_, _++_}
 use lib.ListN.{length, length-append}
 use borrow.Author.Tests.{lt-ltb, le-ltb}
+use Rattle.entries.specs.Source.{source}
 use Rattle.numbers.specs.declared.Endian.{Endian}
 use Rattle.attributes.specs.Read.{readAttribute}
 use Rattle.attributes.specs.declared.read.Attribute as attribute
@@ -54,13 +55,13 @@ module _ (vendors : List ℕ) (e : Endian) (s : List ℕ) where
   on-found at (attribute.the-variants.Short field) k x others = tt
   on-found at (attribute.the-variants.Unknown field) k x others = tt
 
-  pub run-found : (global : ℕ) → Bytes s → (end f at : ℕ) → at ≤ length s → AllFound vendors e s at (readRun vendors global s e false end f false at)
+  pub run-found : (global : ℕ) → Bytes s → (end f at : ℕ) → at ≤ length s → AllFound vendors e s at (readRun (source vendors global s) e false end f false at)
   unfolding readRun runEnds
   run-found global small end zero at h = none-found at h
   run-found global small end (suc f) at h =
       elim (decLe (suc at) end) [
         | yes b ↦ rw (lt-ltb at end b, readRun)
-            (on-found at (readAttribute vendors e s at) (λ n next. readRun vendors global s e false end f false next) (attribute-found vendors e s small at)
+            (on-found at (readAttribute vendors e s at) (λ n next. readRun (source vendors global s) e false end f false next) (attribute-found vendors e s small at)
             (λ n next inside. run-found global small end f next inside))
         | no b ↦ rw (le-ltb at end (omega arith), readRun) (none-found at h)
       ]
