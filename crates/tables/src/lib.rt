@@ -1,6 +1,7 @@
 // Rows and attributes in lent words: the only crate that knows the words. It stands for the Rust's `Tag` and `TagMap`. A table is two lent slices,
-// one of rows and one of attributes, and their counts beside them. Read `words` (one word), `row` and `store` (a row, an attribute), `test` (what makes a table one that can
-// be read), `find` (the row of a key), `check` (the tests that every public call makes first). What it means: specs/Row.antt, Test.antt, Find.antt, Check.antt.
+// one of rows and one of attributes, and their counts beside them. Read `row` and `store` (a row, an attribute), `test` (what makes a table one that can
+// be read), `find` (the row of a key), `check` (the tests that every
+// public call makes first), `keyed` (the row of a key after them). What it means: specs/Row.antt, Table.antt, Test.antt, Find.antt, Check.antt, Keyed.antt.
 pub mod check;
 pub mod find;
 pub mod keyed;

@@ -1,4 +1,4 @@
--- What follows from `Size` and `Ways`, for each way that the code comes to an answer; and that what was prepared, with the sizes of types, is the size.
+-- What follows from `Size` and `Prepare`, for each way that the code comes to an answer; and that what was prepared, with the sizes of types, is the size.
 use Prim.Native.Nat.{ℕ, zero, suc, _+_, _-_, _≤_, _<_}
 use native.Mathlib.Nat.{sub-zero}
 use native.Mathlib.Omega.{arith}
