@@ -8,7 +8,7 @@ use lib.Seq.{sets}
 use Rattle.lent.specs.Outcome.{Outcomes}
 use Rattle.format.specs.declared.settings.Settings.{Settings}
 use Rattle.tables.specs.Row.{rowsWords, attrsWords, rowsFrom, attrsFrom}
-use Rattle.tables.specs.Test.{fitting}
+use Rattle.tables.specs.Holds.{fitting}
 use Rattle.tables.specs.declared.row.Row.{Row}
 use Rattle.tables.specs.declared.row.Attr.{Attr}
 use Rattle.tables.specs.declared.row.Counts.{Counts}

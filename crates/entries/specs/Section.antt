@@ -12,7 +12,7 @@ use Rattle.format.specs.Settings.{settingsHold}
 use Rattle.format.specs.declared.settings.Settings.{Settings}
 use Rattle.format.specs.declared.refusal.Reason.{Reason}
 use Rattle.format.specs.declared.refusal.Reason.the-variants as reason
-use Rattle.tables.specs.Test.{fitting}
+use Rattle.tables.specs.Holds.{fitting}
 use Rattle.tables.specs.Row.{rowsWords, attrsWords}
 use Rattle.tables.specs.declared.row.Counts.{Counts}
 use Rattle.entries.specs.Walk.{Entries, entriesRead, entriesRefused, readTags}

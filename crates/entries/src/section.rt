@@ -21,7 +21,7 @@ ghost use lib.ListN.{length};
 ghost use Rattle.lent.specs.Outcome.{BothGiven};
 ghost use Rattle.format.specs.Limits.{sectionLimit};
 ghost use Rattle.entries.specs.Inside.Promise.{start, walkAnswer, WalkRead};
-ghost use Rattle.tables.specs.Test.{fitting};
+ghost use Rattle.tables.specs.Holds.{fitting};
 ghost use Rattle.entries.specs.Section.{wholeWalk, countDebugSection, readDebugSection};
 
 // What counting answers.

@@ -13,7 +13,7 @@ use Rattle.format.specs.Refusal.{numberOf}
 use Rattle.format.specs.declared.settings.Settings.{Settings}
 use Rattle.blocks.specs.declared.types.Type.{«Type»}
 use Rattle.tables.specs.Row.{rowAt}
-use Rattle.tables.specs.Check.{tested}
+use Rattle.tables.specs.Tests.{tested}
 use Rattle.records.specs.Scan.{runOf}
 use Rattle.records.specs.Fields.{nameOf}
 use Rattle.records.specs.MemberWords.{namePlace, nameLength}

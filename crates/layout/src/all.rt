@@ -19,10 +19,10 @@ use sizes::known::known_at;
 use sizes::known::put_known;
 use sizes::prepare::is_structure;
 use sizes::sized::Sized;
-use tables::check::Check;
-use tables::check::check_table;
 use tables::row::Counts;
 use tables::row::row_at;
+use tables::tests::Tested;
+use tables::tests::test_table;
 ghost use mathlib.Core.Path.{_≡_};
 ghost use Prim.Native.Nat.{_*_, _≤_};
 ghost use lib.ListN.{length};
@@ -451,8 +451,8 @@ pub fn all_layouts(
         (now (attrs .entry)) counts) (now (structures .entry)) (now (members .entry))) r (now (structures .exit)) (now (members .exit))
         ⌝ }
 {
-    match check_table(s, settings, vendors, sizes, rows, attrs, counts) {
-        Check::Passed => lay_all(
+    match test_table(s, settings, vendors, sizes, rows, attrs, counts) {
+        Tested::Passed => lay_all(
             s,
             settings,
             sizes,
@@ -462,6 +462,6 @@ pub fn all_layouts(
             structures,
             members,
         ),
-        Check::Refused(why) => AllLayouts::Refused(why),
+        Tested::Refused(why) => AllLayouts::Refused(why),
     }
 }

@@ -10,7 +10,7 @@ use Rattle.lent.specs.Outcome.{Outcome, outcome}
 use Rattle.numbers.specs.declared.Endian.{Endian}
 use Rattle.format.specs.declared.refusal.Reason.the-variants as reason
 use Rattle.tables.specs.Find.{rowOfKey}
-use Rattle.tables.specs.Check.{refusedAt, tested}
+use Rattle.tables.specs.Tests.{refusedAt, tested}
 use Rattle.tables.specs.declared.find.Found.{Found}
 use Rattle.tables.specs.declared.find.Found.the-variants.{At, Nothing}
 use Rattle.links.specs.Walk.{Walk, ends, endless}

@@ -6,16 +6,16 @@ use format::refusal::Refusal;
 use format::settings::Settings;
 use lent::cells::put_cell;
 use numbers::Endian;
-use tables::check::Check;
-use tables::check::check_table;
 use tables::find::Found;
 use tables::find::find_row;
 use tables::row::Counts;
 use tables::row::row_at;
+use tables::tests::Tested;
+use tables::tests::test_table;
 ghost use mathlib.Core.Path.{_≡_};
 ghost use Rattle.tables.specs.Table.{table};
 ghost use Rattle.lent.specs.Outcome.{Given};
-ghost use Rattle.tables.specs.Check.{refusedAt};
+ghost use Rattle.tables.specs.Tests.{refusedAt};
 ghost use Rattle.links.specs.Walk.{walkFrom};
 ghost use Rattle.links.specs.Links.{siblingRow, childWalk};
 ghost use Rattle.links.specs.Inside.Links.{Rows};
@@ -193,11 +193,11 @@ pub fn children(
         (now (attrs .entry)) counts) key (now (room .entry))) r (now (room .exit))
         ⌝ }
 {
-    match check_table(s, settings, vendors, sizes, rows, attrs, counts) {
-        Check::Passed => {
+    match test_table(s, settings, vendors, sizes, rows, attrs, counts) {
+        Tested::Passed => {
             let e = settings.endian;
             children_by_key(s, e, rows, attrs, counts.rows, key, room)
         }
-        Check::Refused(why) => ChildRows::Refused(why),
+        Tested::Refused(why) => ChildRows::Refused(why),
     }
 }

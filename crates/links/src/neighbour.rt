@@ -5,14 +5,14 @@ use format::refusal::Reason;
 use format::refusal::Refusal;
 use format::settings::Settings;
 use numbers::Endian;
-use tables::check::Check;
-use tables::check::check_table;
 use tables::find::Found;
 use tables::find::find_row;
 use tables::row::Counts;
+use tables::tests::Tested;
+use tables::tests::test_table;
 ghost use mathlib.Core.Path.{_≡_};
 ghost use Rattle.tables.specs.Table.{table};
-ghost use Rattle.tables.specs.Check.{refusedAt};
+ghost use Rattle.tables.specs.Tests.{refusedAt};
 ghost use Rattle.tables.specs.Find.{rowOfKey};
 ghost use Rattle.links.specs.Links.{nextRow, siblingRow};
 ghost use Rattle.links.specs.Inside.Links.{Rows};
@@ -80,9 +80,9 @@ pub fn next_tag(
         r ≡ nextTag (table (now (s .entry)) settings (now (vendors .entry)) (now (sizes .entry)) (now (rows .entry)) (now (attrs .entry)) counts) key
         ⌝ }
 {
-    match check_table(s, settings, vendors, sizes, rows, attrs, counts) {
-        Check::Passed => next_by_key(rows, counts.rows, key),
-        Check::Refused(why) => Neighbour::Refused(why),
+    match test_table(s, settings, vendors, sizes, rows, attrs, counts) {
+        Tested::Passed => next_by_key(rows, counts.rows, key),
+        Tested::Refused(why) => Neighbour::Refused(why),
     }
 }
 
@@ -102,11 +102,11 @@ pub fn next_sibling(
         key
         ⌝ }
 {
-    match check_table(s, settings, vendors, sizes, rows, attrs, counts) {
-        Check::Passed => {
+    match test_table(s, settings, vendors, sizes, rows, attrs, counts) {
+        Tested::Passed => {
             let e = settings.endian;
             sibling_by_key(s, e, rows, attrs, counts.rows, key)
         }
-        Check::Refused(why) => Neighbour::Refused(why),
+        Tested::Refused(why) => Neighbour::Refused(why),
     }
 }

@@ -16,7 +16,7 @@ use Rattle.format.specs.declared.settings.Producer.the-variants.{Mwcc, Gcc, Oth
 use Rattle.format.specs.declared.refusal.Refusal.{Refusal}
 use Rattle.format.specs.declared.refusal.Reason.the-variants as reason
 use Rattle.attributes.specs.Parts.{blockAt}
-use Rattle.tables.specs.Check.{refusedAt}
+use Rattle.tables.specs.Tests.{refusedAt}
 use Rattle.links.specs.Links.{childWalk}
 use Rattle.tables.specs.Keyed.{inRowOfKey}
 use Rattle.records.specs.Taken.{special}

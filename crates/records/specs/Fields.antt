@@ -15,7 +15,7 @@ use Rattle.blocks.specs.declared.location.Located.{Located}
 use Rattle.blocks.specs.declared.location.Located.the-variants as located
 use Rattle.blocks.specs.declared.types.Typed.{Typed}
 use Rattle.blocks.specs.declared.types.Typed.the-variants as typed
-use Rattle.tables.specs.Check.{refusedAt}
+use Rattle.tables.specs.Tests.{refusedAt}
 use Rattle.tables.specs.declared.find.Found.{Found}
 use Rattle.tables.specs.declared.find.Found.the-variants as found
 use Rattle.links.specs.Typed.{wordAt}

@@ -12,7 +12,7 @@ use Rattle.format.specs.declared.settings.Producer.the-variants.{Mwcc, Gcc, Oth
 use Rattle.format.specs.declared.refusal.Refusal.{Refusal}
 use Rattle.format.specs.declared.refusal.Reason.the-variants as reason
 use Rattle.tables.specs.Row.{rowAt}
-use Rattle.tables.specs.Check.{refusedAt}
+use Rattle.tables.specs.Tests.{refusedAt}
 use Rattle.links.specs.Walk.{Walk, ends, endless}
 use Rattle.links.specs.Links.{childWalk, nonNull}
 use Rattle.records.specs.Scan.{runOf, faultAt, faultsFrom, orElse}

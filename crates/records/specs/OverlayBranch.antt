@@ -7,7 +7,7 @@ use Rattle.format.specs.AttributeKind as attribute
 use Rattle.format.specs.declared.settings.Roles.{Roles}
 use Rattle.format.specs.declared.settings.Settings.{Settings}
 use Rattle.format.specs.declared.refusal.Reason.the-variants as reason
-use Rattle.tables.specs.Check.{refusedAt}
+use Rattle.tables.specs.Tests.{refusedAt}
 use Rattle.tables.specs.Keyed.{inRowOfKey}
 use Rattle.records.specs.Scan.{runOf}
 use Rattle.records.specs.Fields.{roleName, roleWord, wordOf, needed}

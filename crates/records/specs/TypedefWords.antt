@@ -11,7 +11,7 @@ use Rattle.blocks.specs.declared.types.Type.{«Type»}
 use Rattle.blocks.specs.declared.types.Typed.{Typed}
 use Rattle.blocks.specs.declared.types.Typed.the-variants as typed
 use Rattle.tables.specs.Row.{rowAt}
-use Rattle.tables.specs.Check.{refusedAt}
+use Rattle.tables.specs.Tests.{refusedAt}
 use Rattle.links.specs.Links.{childWalk}
 use Rattle.records.specs.Taken.{special}
 use Rattle.records.specs.Scan.{runOf, attributeAt, numberAt, faultAt, isType}

@@ -23,7 +23,7 @@ use tables::row::ends_of;
 use tables::row::row_at;
 ghost use mathlib.Core.Path.{_≡_};
 ghost use Prim.Native.Nat.{_-_};
-ghost use Rattle.tables.specs.Check.{refusedAt};
+ghost use Rattle.tables.specs.Tests.{refusedAt};
 ghost use Rattle.records.specs.Scan.{runOf, attributeAt, expected, expectedForm, isType, typedFault, locatedFault, locationFault, contentFault};
 ghost use Rattle.records.specs.Scan.{formFault, attributeFault, faultAt, faultsFrom};
 ghost use Rattle.records.specs.Inside.Scan.{scanFrom, Plain};

@@ -23,12 +23,12 @@ use records::member::MemberRead;
 use records::member::member_at;
 use records::scan::refused;
 use records::scan::run_of;
-use tables::check::Check;
-use tables::check::check_table;
 use tables::find::Found;
 use tables::find::find_row;
 use tables::row::Counts;
 use tables::row::row_at;
+use tables::tests::Tested;
+use tables::tests::test_table;
 ghost use mathlib.Core.Path.{_≡_};
 ghost use Rattle.tables.specs.Table.{table};
 ghost use Rattle.links.specs.Inside.Kids.{kidsOf};
@@ -356,8 +356,8 @@ pub fn size_of_key(
         key
         ⌝ }
 {
-    match check_table(s, settings, vendors, sizes, rows, attrs, counts) {
-        Check::Passed => {
+    match test_table(s, settings, vendors, sizes, rows, attrs, counts) {
+        Tested::Passed => {
             let known = [0u64; 0];
             entry_size(
                 s,
@@ -372,7 +372,7 @@ pub fn size_of_key(
                 key,
             )
         }
-        Check::Refused(why) => Sized::Refused(why),
+        Tested::Refused(why) => Sized::Refused(why),
     }
 }
 
@@ -392,8 +392,8 @@ pub fn size_of_type(
         of
         ⌝ }
 {
-    match check_table(s, settings, vendors, sizes, rows, attrs, counts) {
-        Check::Passed => {
+    match test_table(s, settings, vendors, sizes, rows, attrs, counts) {
+        Tested::Passed => {
             let known = [0u64; 0];
             type_size(
                 s,
@@ -408,6 +408,6 @@ pub fn size_of_type(
                 of,
             )
         }
-        Check::Refused(why) => Sized::Refused(why),
+        Tested::Refused(why) => Sized::Refused(why),
     }
 }

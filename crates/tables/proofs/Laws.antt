@@ -1,11 +1,11 @@
 -- Laws. `Flat`: runs of stores, and things of so many words one after the other. `Row`: what the code reads and stores; what was stored is read back.
--- `Test`, `Check`: for each way that the code tests. `Find`: bisection, and what is known of a row that was found. `Checked`: what a table that passed
+-- `Holds`, `Tests`: for each way that the code tests. `Find`: bisection, and what is known of a row that was found. `Held`: what a table that passed
 -- is known to hold. `Keyed`: what comes of the row of a key. `Only`: no second answer fits.
 pub mod Flat
 pub mod Row
-pub mod Test
+pub mod Holds
 pub mod Find
-pub mod Checked
-pub mod Check
+pub mod Held
+pub mod Tests
 pub mod Keyed
 pub mod Only

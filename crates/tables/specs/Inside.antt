@@ -1,3 +1,3 @@
--- What the code's searches promise: `Find` (bisection), `Test` (a row's own words, before its attributes).
+-- What the code's searches promise: `Find` (bisection), `Holds` (a row's own words, before its attributes).
 pub mod Find
-pub mod Test
+pub mod Holds

@@ -4,7 +4,7 @@ use Rattle.tables.specs.Table.{Table}
 use Rattle.format.specs.declared.refusal.Refusal.{Refusal}
 use Rattle.format.specs.declared.refusal.Reason.the-variants as reason
 use Rattle.tables.specs.Find.{rowOfKey}
-use Rattle.tables.specs.Check.{refusedAt, tested}
+use Rattle.tables.specs.Tests.{refusedAt, tested}
 use Rattle.tables.specs.declared.find.Found.{Found}
 use Rattle.tables.specs.declared.find.Found.the-variants.{At, Nothing}
 

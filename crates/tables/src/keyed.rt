@@ -1,9 +1,9 @@
 // The row of a key, after the tests that every call on a table makes first: what every record and every lookup begins with.
-use crate::check::Check;
-use crate::check::check_table;
 use crate::find::Found;
 use crate::find::find_row;
 use crate::row::Counts;
+use crate::tests::Tested;
+use crate::tests::test_table;
 use format::refusal::Reason;
 use format::refusal::Refusal;
 use format::settings::Settings;
@@ -49,8 +49,8 @@ pub fn row_of(
         key Keyed.Refused Keyed.Row
         ⌝ }
 {
-    match check_table(s, settings, vendors, sizes, rows, attrs, counts) {
-        Check::Passed => find_key(rows, counts.rows, key),
-        Check::Refused(why) => Keyed::Refused(why),
+    match test_table(s, settings, vendors, sizes, rows, attrs, counts) {
+        Tested::Passed => find_key(rows, counts.rows, key),
+        Tested::Refused(why) => Keyed::Refused(why),
     }
 }

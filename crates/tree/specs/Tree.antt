@@ -11,7 +11,7 @@ use Rattle.lent.specs.Outcome.{Outcome, outcome}
 use Rattle.format.specs.declared.refusal.Reason.{Reason}
 use Rattle.format.specs.declared.refusal.Reason.the-variants as reason
 use Rattle.tables.specs.Row.{rowAt, erasedRow}
-use Rattle.tables.specs.Check.{refusedAt, tested}
+use Rattle.tables.specs.Tests.{refusedAt, tested}
 use Rattle.tree.specs.Pick.{firstFrom}
 use Rattle.tree.specs.Reach.{reachEnd}
 use Rattle.tree.specs.Nest.{depth, parent, firstFault, firstDeep}

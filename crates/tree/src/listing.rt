@@ -5,17 +5,17 @@ use format::refusal::Reason;
 use format::refusal::Refusal;
 use format::settings::Settings;
 use numbers::Endian;
-use tables::check::Check;
-use tables::check::check_table;
 use tables::row::Counts;
 use tables::row::is_erased;
 use tables::row::row_at;
+use tables::tests::Tested;
+use tables::tests::test_table;
 ghost use mathlib.Core.Path.{_≡_};
 ghost use Rattle.tables.specs.Table.{table};
 ghost use Rattle.lent.specs.Outcome.{Given};
 ghost use Rattle.links.specs.Inside.Links.{Rows};
 ghost use Rattle.tables.specs.Row.{rowAt};
-ghost use Rattle.tables.specs.Check.{refusedAt};
+ghost use Rattle.tables.specs.Tests.{refusedAt};
 ghost use Rattle.tree.specs.Reach.{reachEnd};
 ghost use Rattle.tree.specs.Pick.{firstFrom};
 ghost use Rattle.tree.specs.Inside.Passing.{openDeep};
@@ -109,11 +109,11 @@ pub fn list_tree(
         (now (room .entry))) r (now (room .exit))
         ⌝ }
 {
-    match check_table(s, settings, vendors, sizes, rows, attrs, counts) {
-        Check::Passed => {
+    match test_table(s, settings, vendors, sizes, rows, attrs, counts) {
+        Tested::Passed => {
             let e = settings.endian;
             list(s, e, rows, attrs, counts.rows, room)
         }
-        Check::Refused(why) => Listing::Refused(why),
+        Tested::Refused(why) => Listing::Refused(why),
     }
 }

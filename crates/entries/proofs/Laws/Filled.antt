@@ -21,9 +21,9 @@ use Rattle.format.specs.declared.refusal.Reason.{Reason}
 use Rattle.format.specs.declared.refusal.Reason.the-variants as reason
 use Rattle.tables.specs.Row.{rowsWords, attrsWords, rowAt, attrAt, rowsFrom, attrsFrom, endianOf}
 use Rattle.tables.proofs.Laws.Row.{rows-back, attrs-back}
-use Rattle.tables.specs.Test.{fitting, runHolds, rowHolds, rowsHold, tableHolds}
-use Rattle.tables.proofs.Laws.Test.{row-passes, table-rows, Fits, fits-all}
-use Rattle.tables.proofs.Laws.Checked.{attr-passes}
+use Rattle.tables.specs.Holds.{fitting, runHolds, rowHolds, rowsHold, tableHolds}
+use Rattle.tables.proofs.Laws.Holds.{row-passes, table-rows, Fits, fits-all}
+use Rattle.tables.proofs.Laws.Held.{attr-passes}
 use Rattle.tables.specs.declared.row.Row.{Row}
 use Rattle.tables.specs.declared.row.Attr.{Attr}
 use Rattle.tables.specs.declared.row.Counts.{Counts}

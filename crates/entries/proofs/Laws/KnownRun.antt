@@ -23,7 +23,7 @@ use Rattle.attributes.specs.declared.value.End.the-variants.{At}
 use Rattle.attributes.specs.declared.value.End.the-variants as end
 use Rattle.attributes.specs.declared.read.Attribute.{Attribute}
 use Rattle.attributes.specs.declared.read.Attribute.the-variants.{Read, Short, Unknown}
-use Rattle.tables.proofs.Laws.Checked.{AttrKnown}
+use Rattle.tables.proofs.Laws.Held.{AttrKnown}
 use Rattle.tables.specs.declared.row.Attr.{Attr}
 use Rattle.entries.specs.Run.{Run, ran, failed, attr, first, readOn, runEnds, readRun}
 

@@ -22,7 +22,7 @@ use Rattle.tables.specs.declared.row.Counts.{Counts}
 use Rattle.entries.specs.Walk.{Entries, entriesRead, entriesRefused}
 use Rattle.entries.specs.Inside.Promise.{start, Stored, walkAnswer, WalkStores, WalkRead}
 use Rattle.entries.proofs.Laws.Walk.{told-walked, told-refused}
-use Rattle.tables.specs.Test.{fitting}
+use Rattle.tables.specs.Holds.{fitting}
 use Rattle.entries.specs.Section.{wholeWalk, counts, refusal, intoTables, readDebugSection, uncounted, counted, countDebugSection}
 use Rattle.entries.specs.declared.entry.State.{State}
 use Rattle.entries.specs.declared.walk.Walk.the-variants as walk

@@ -22,10 +22,10 @@ use Rattle.format.specs.declared.refusal.Refusal.{Refusal}
 use Rattle.blocks.specs.declared.types.Type.{«Type»}
 use Rattle.lent.proofs.Laws.Stores.{sets-append, sets-out, sets-rest}
 use Rattle.tables.specs.Row.{rowAt}
-use Rattle.tables.specs.Check.{Tells}
-use Rattle.tables.proofs.Laws.Check.{passed-answer, refused-answer}
-use Rattle.tables.specs.declared.check.Check.{Check}
-use Rattle.tables.specs.declared.check.Check.the-variants as check
+use Rattle.tables.specs.Tests.{Tells}
+use Rattle.tables.proofs.Laws.Tests.{passed-answer, refused-answer}
+use Rattle.tables.specs.declared.tests.Tested.{Tested}
+use Rattle.tables.specs.declared.tests.Tested.the-variants as tests
 use Rattle.tables.specs.declared.row.Counts.{Counts}
 use Rattle.tables.specs.declared.row.Row.{Row}
 use Rattle.links.specs.Walk.{Walk, ends, endless}
@@ -704,16 +704,16 @@ all-known settings sizes s rows attrs n ready known w some structures room {stru
     subst (λ (sizeOf : «Type» → Sized). BothGiven (layoutsInto structures room (structuresFrom settings s rows attrs n sizeOf 0 n)) r structures′ room′)
     (known-types settings sizes s rows attrs n ready deepest w some 0) g
 
-module _ {settings : Settings} {vendors sizes s rows attrs : List ℕ} {counts : Counts} {told : Check} (is : Tells (table s settings vendors sizes rows attrs counts) told)
+module _ {settings : Settings} {vendors sizes s rows attrs : List ℕ} {counts : Counts} {told : Tested} (is : Tells (table s settings vendors sizes rows attrs counts) told)
     (structures room : List ℕ) where
-  pub all-passed : told ≡ check.Passed → {structures′ room′ : List ℕ} {r : AllLayouts}
+  pub all-passed : told ≡ tests.Passed → {structures′ room′ : List ℕ} {r : AllLayouts}
       → BothGiven (layoutsInto structures room (structuresFrom settings s rows attrs (counts .rows) (typeSize settings sizes s rows attrs (counts .rows) deepest) 0 (counts .rows)))
       r structures′ room′
       → BothGiven (allLayouts (table s settings vendors sizes rows attrs counts) structures room) r structures′ room′
   unfolding allLayouts
   all-passed p {structures′} {room′} {r} g = subst (λ (o : Outcomes AllLayouts ℕ ℕ). BothGiven o r structures′ room′) (passed-answer _ _ is p) g
 
-  pub all-refused : {why : Refusal} → told ≡ check.Refused why
+  pub all-refused : {why : Refusal} → told ≡ tests.Refused why
       → BothGiven (allLayouts (table s settings vendors sizes rows attrs counts) structures room) (all.Refused why) structures room
   unfolding allLayouts
   all-refused p = given-as (refused-answer (λ why. outcomes (all.Refused why) structures room) _ is p)

@@ -10,12 +10,12 @@ use Rattle.format.specs.declared.settings.Settings.{Settings}
 use Rattle.blocks.specs.declared.types.Type.{«Type»}
 use Rattle.tables.specs.Row.{rowAt}
 use Rattle.tables.proofs.Laws.Find.{row-of-own-key}
-use Rattle.tables.specs.Check.{Tells}
-use Rattle.tables.proofs.Laws.Check.{passed-checked}
-use Rattle.tables.proofs.Laws.Checked.{checked-rising}
+use Rattle.tables.specs.Tests.{Tells}
+use Rattle.tables.proofs.Laws.Tests.{passed-held}
+use Rattle.tables.proofs.Laws.Held.{held-rising}
 use Rattle.tables.specs.declared.row.Counts.{Counts}
-use Rattle.tables.specs.declared.check.Check.{Check}
-use Rattle.tables.specs.declared.check.Check.the-variants as check
+use Rattle.tables.specs.declared.tests.Tested.{Tested}
+use Rattle.tables.specs.declared.tests.Tested.the-variants as tests
 use Rattle.tables.specs.Keyed.{inRowOfKey}
 use Rattle.tables.proofs.Laws.Keyed.{key-found, row-passed, in-row}
 use Rattle.tables.specs.declared.keyed.Keyed.the-variants as keyed
@@ -58,15 +58,15 @@ module _ (settings : Settings) (s rows attrs : List ℕ) (n : ℕ) (sizeOf : «T
 
 -- ---- each has the layout or refusal that its key gives
 
-module _ {settings : Settings} {vendors sizes s rows attrs : List ℕ} {counts : Counts} {told : Check} (is : Tells (table s settings vendors sizes rows attrs counts) told)
-    (p : told ≡ check.Passed) where
+module _ {settings : Settings} {vendors sizes s rows attrs : List ℕ} {counts : Counts} {told : Tested} (is : Tells (table s settings vendors sizes rows attrs counts) told)
+    (p : told ≡ tests.Passed) where
   abbrev there : List ℕ → ℕ → Outcome LayoutRead ℕ
   there room i = layoutInto room (rowLay settings s rows attrs (counts .rows) (innerSize (table s settings vendors sizes rows attrs counts)) i) (layoutAt settings s rows attrs (counts .rows) (innerSize (table s settings vendors sizes rows attrs counts)) i)
 
   own-row : (i : ℕ) → i < counts .rows → keyed.Row i ≡ inRowOfKey (table s settings vendors sizes rows attrs counts) (rowAt rows i .key) keyed.Refused keyed.Row
   own-row i l =
       row-passed settings vendors sizes s rows attrs counts (rowAt rows i .key) is p
-      (key-found (rowAt rows i .key) refl (row-of-own-key (checked-rising (passed-checked is p)) i l))
+      (key-found (rowAt rows i .key) refl (row-of-own-key (held-rising (passed-held is p)) i l))
 
   -- what all layouts tell of row i is what its key gives
   pub each-layout : (i : ℕ) → i < counts .rows → (room : List ℕ) → layoutOfKey (table s settings vendors sizes rows attrs counts) (rowAt rows i .key) room

@@ -18,8 +18,8 @@ use Rattle.format.specs.Limits.{sectionLimit}
 use Rattle.format.specs.Settings.{settingsHold}
 use Rattle.format.specs.declared.settings.Settings.{Settings}
 use Rattle.format.specs.declared.refusal.Refusal.{Refusal}
-use Rattle.tables.specs.Test.{tableHolds}
-use Rattle.tables.specs.Check.{afterTests, tested}
+use Rattle.tables.specs.Holds.{tableHolds}
+use Rattle.tables.specs.Tests.{afterTests, tested}
 use Rattle.tables.specs.declared.row.Counts.{Counts}
 use Rattle.sizes.specs.Size.{innerSize}
 use Rattle.layout.specs.Layout.{laidWords, laidWidth}

@@ -18,10 +18,10 @@ use Rattle.attributes.specs.Parts.{partAt, blockAt}
 use Rattle.blocks.specs.Location.{operandAt, shapeOperand}
 use Rattle.blocks.specs.Modifiers.{allKnown, anyPointer, processModifiers}
 use Rattle.blocks.specs.Types.{withModifiers, modified, knownType, fundamental, fundType, processType}
-use Rattle.tables.specs.Check.{afterTests, tested}
+use Rattle.tables.specs.Tests.{afterTests, tested}
 use Rattle.tables.specs.Find.{rowFrom, rowOfKey}
 use Rattle.tables.specs.Row.{rowAt, attrAt, erasedRow, endianOf}
-use Rattle.tables.specs.Test.{fitting, attrHolds, runHolds, rowHolds, rowsHold, tableHolds}
+use Rattle.tables.specs.Holds.{fitting, attrHolds, runHolds, rowHolds, rowsHold, tableHolds}
 use Rattle.links.specs.Attribute.{wants, attrFrom, attributeOf, asReference, referenceBy, referenceOf}
 use Rattle.links.specs.Links.{nextFrom, nextRow, rowNumber, siblingBy, siblingRow, childWalk, nullRow, nonNull}
 use Rattle.tables.specs.Keyed.{rowBy, inRowOfKey}

@@ -24,7 +24,7 @@ use Rattle.blocks.specs.declared.types.Typed.{Typed}
 use Rattle.blocks.specs.declared.types.Typed.the-variants as typed
 use Rattle.lent.proofs.Laws.Stores.{sets-append, sets-out}
 use Rattle.tables.specs.Row.{rowAt}
-use Rattle.tables.specs.Check.{refusedAt}
+use Rattle.tables.specs.Tests.{refusedAt}
 use Rattle.tables.specs.declared.row.Row.{Row}
 use Rattle.tables.specs.declared.row.Counts.{Counts}
 use Rattle.links.specs.Links.{siblingRow, nextRow, childWalk}

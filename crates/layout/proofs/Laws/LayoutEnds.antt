@@ -16,7 +16,7 @@ use Rattle.format.specs.declared.settings.Settings.{Settings}
 use Rattle.format.specs.declared.refusal.Reason.the-variants as reason
 use Rattle.blocks.specs.declared.types.Type.{«Type»}
 use Rattle.tables.specs.Row.{rowAt}
-use Rattle.tables.specs.Check.{refusedAt}
+use Rattle.tables.specs.Tests.{refusedAt}
 use Rattle.tables.specs.declared.row.Counts.{Counts}
 use Rattle.records.specs.Unions.{Placed, Members, members, membersRefused}
 use Rattle.records.specs.declared.fields.Word.{Word}

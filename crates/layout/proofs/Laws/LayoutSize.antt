@@ -16,8 +16,8 @@ use Rattle.format.specs.declared.refusal.Reason.the-variants as reason
 use Rattle.blocks.specs.declared.types.Type.{«Type»}
 use Rattle.tables.specs.Row.{rowAt}
 use Rattle.tables.specs.Find.{rowOfKey}
-use Rattle.tables.specs.Test.{tableHolds}
-use Rattle.tables.specs.Check.{refusedAt, afterTests, tested}
+use Rattle.tables.specs.Holds.{tableHolds}
+use Rattle.tables.specs.Tests.{refusedAt, afterTests, tested}
 use Rattle.tables.specs.declared.row.Counts.{Counts}
 use Rattle.tables.specs.declared.find.Found.{Found}
 use Rattle.tables.specs.declared.find.Found.the-variants as found

@@ -9,7 +9,7 @@ use lib.ListN.{length, getD}
 use Rattle.format.specs.declared.settings.Settings.{Settings}
 use Rattle.format.specs.declared.refusal.Reason.the-variants as reason
 use Rattle.tables.specs.Row.{rowAt}
-use Rattle.tables.specs.Check.{refusedAt}
+use Rattle.tables.specs.Tests.{refusedAt}
 use Rattle.sizes.specs.Size.{rowSize, entrySize}
 use Rattle.sizes.specs.Inside.Size.{TableReady, typeSizeFrom}
 use Rattle.sizes.specs.Inside.Known.{knownWidth, knownAt}

@@ -17,16 +17,16 @@ use Rattle.tables.specs.Row.{rowAt}
 use Rattle.tables.specs.declared.row.Row.{Row}
 use Rattle.tables.specs.Find.{rowOfKey}
 use Rattle.tables.proofs.Laws.Find.{row-found}
-use Rattle.tables.specs.Test.{TableHolds}
-use Rattle.tables.proofs.Laws.Checked.{checked-rising, checked-rows-few}
-use Rattle.tables.specs.Check.{refusedAt, Tells}
-use Rattle.tables.proofs.Laws.Check.{passed-answer, refused-answer, passed-checked}
+use Rattle.tables.specs.Holds.{TableHolds}
+use Rattle.tables.proofs.Laws.Held.{held-rising, held-rows-few}
+use Rattle.tables.specs.Tests.{refusedAt, Tells}
+use Rattle.tables.proofs.Laws.Tests.{passed-answer, refused-answer, passed-held}
 use Rattle.tables.specs.declared.row.Counts.{Counts}
 use Rattle.tables.specs.declared.find.Found.{Found}
 use Rattle.tables.specs.declared.find.Found.the-variants.{At, Nothing}
-use Rattle.tables.specs.declared.check.Check.{Check}
-use Rattle.tables.specs.declared.check.Check.the-variants.{Passed}
-use Rattle.tables.specs.declared.check.Check.the-variants as check
+use Rattle.tables.specs.declared.tests.Tested.{Tested}
+use Rattle.tables.specs.declared.tests.Tested.the-variants.{Passed}
+use Rattle.tables.specs.declared.tests.Tested.the-variants as tests
 use Rattle.format.specs.declared.settings.Settings.{Settings}
 use Rattle.format.specs.declared.refusal.Refusal.{Refusal}
 use Rattle.format.specs.declared.refusal.Reason.the-variants as reason
@@ -249,12 +249,12 @@ module _ (e : Endian) (s rows attrs : List ℕ) (n key : ℕ) (room : List ℕ) 
 pub asked-there : {rows : List ℕ} {n : ℕ} (key : ℕ) {found : Found} {i : ℕ} → Rows rows n → found ≡ rowOfKey rows n key → found ≡ At i → Asked rows n i
 asked-there {rows} {n} key table is p = record { table = table; there = row-found rows n key (sym is ∙ p) .0 }
 
-pub tested-rows : {settings : Settings} {vendors sizes s rows attrs : List ℕ} {counts : Counts} {told : Check}
+pub tested-rows : {settings : Settings} {vendors sizes s rows attrs : List ℕ} {counts : Counts} {told : Tested}
     → Tells (table s settings vendors sizes rows attrs counts) told → told ≡ Passed → Rows rows (counts .rows)
 tested-rows {s = s} {rows = rows} {attrs = attrs} {counts = counts} is p =
-    let c : TableHolds s _ rows attrs counts = passed-checked is p in record { rising = checked-rising c; few = checked-rows-few c }
+    let c : TableHolds s _ rows attrs counts = passed-held is p in record { rising = held-rising c; few = held-rows-few c }
 
-module _ (settings : Settings) (vendors sizes s rows attrs : List ℕ) (counts : Counts) (key : ℕ) (room : List ℕ) {told : Check}
+module _ (settings : Settings) (vendors sizes s rows attrs : List ℕ) (counts : Counts) (key : ℕ) (room : List ℕ) {told : Tested}
     (is : Tells (table s settings vendors sizes rows attrs counts) told) where
   pub children-passed : told ≡ Passed → {r : ChildRows} {room′ : List ℕ}
       → Given (childrenBy (settings .endian) s rows attrs (counts .rows) key room (rowOfKey rows (counts .rows) key)) r room′
@@ -263,7 +263,7 @@ module _ (settings : Settings) (vendors sizes s rows attrs : List ℕ) (counts :
   children-passed p {r} {room′} g =
       subst (λ (o : Outcome ChildRows ℕ). Given o r room′) (passed-answer (λ why. outcome (Refused why) room) _ is p) g
 
-  pub children-refused : {why : Refusal} → told ≡ check.Refused why → Given (childrenOfKey (table s settings vendors sizes rows attrs counts) key room) (Refused why) room
+  pub children-refused : {why : Refusal} → told ≡ tests.Refused why → Given (childrenOfKey (table s settings vendors sizes rows attrs counts) key room) (Refused why) room
   unfolding childrenOfKey
   children-refused {why} p =
       subst (λ (o : Outcome ChildRows ℕ). Given o (Refused why) room) (refused-answer (λ w. outcome (Refused w) room) _ is p) (record { answer-is = refl; room-is = refl })

@@ -8,14 +8,14 @@ use Rattle.format.specs.declared.settings.Settings.{Settings}
 use Rattle.format.specs.declared.refusal.Refusal.{Refusal}
 use Rattle.format.specs.declared.refusal.Reason.the-variants as reason
 use Rattle.tables.specs.Find.{rowOfKey}
-use Rattle.tables.specs.Check.{refusedAt, Tells}
-use Rattle.tables.proofs.Laws.Check.{passed-answer, refused-answer}
+use Rattle.tables.specs.Tests.{refusedAt, Tells}
+use Rattle.tables.proofs.Laws.Tests.{passed-answer, refused-answer}
 use Rattle.tables.specs.declared.row.Counts.{Counts}
 use Rattle.tables.specs.declared.find.Found.{Found}
 use Rattle.tables.specs.declared.find.Found.the-variants.{At, Nothing}
-use Rattle.tables.specs.declared.check.Check.{Check}
-use Rattle.tables.specs.declared.check.Check.the-variants.{Passed}
-use Rattle.tables.specs.declared.check.Check.the-variants as check
+use Rattle.tables.specs.declared.tests.Tested.{Tested}
+use Rattle.tables.specs.declared.tests.Tested.the-variants.{Passed}
+use Rattle.tables.specs.declared.tests.Tested.the-variants as tests
 use Rattle.links.specs.Links.{nextRow, siblingRow}
 use Rattle.links.specs.declared.neighbour.Neighbour.{Neighbour}
 use Rattle.links.specs.declared.neighbour.Neighbour.the-variants.{Row, Refused}
@@ -41,7 +41,7 @@ module _ (to : ℕ → ℕ) (n key : ℕ) {found told : Found} (is : found ≡ t
   unfolding neighbourBy
   neighbour-nowhere p h = h ∙ ap (neighbourBy to n key) (sym p ∙ is)
 
-module _ (settings : Settings) (vendors sizes s rows attrs : List ℕ) (counts : Counts) (key : ℕ) {told : Check}
+module _ (settings : Settings) (vendors sizes s rows attrs : List ℕ) (counts : Counts) (key : ℕ) {told : Tested}
     (is : Tells (table s settings vendors sizes rows attrs counts) told) where
   pub next-passed : told ≡ Passed → {r : Neighbour}
       → r ≡ neighbourBy (λ i. nextRow rows (counts .rows) i) (counts .rows) key (rowOfKey rows (counts .rows) key)
@@ -49,7 +49,7 @@ module _ (settings : Settings) (vendors sizes s rows attrs : List ℕ) (counts :
   unfolding nextTag
   next-passed p h = h ∙ passed-answer Refused _ is p
 
-  pub next-refused : {why : Refusal} → told ≡ check.Refused why → Refused why ≡ nextTag (table s settings vendors sizes rows attrs counts) key
+  pub next-refused : {why : Refusal} → told ≡ tests.Refused why → Refused why ≡ nextTag (table s settings vendors sizes rows attrs counts) key
   unfolding nextTag
   next-refused p = refused-answer Refused _ is p
 
@@ -59,6 +59,6 @@ module _ (settings : Settings) (vendors sizes s rows attrs : List ℕ) (counts :
   unfolding nextSibling
   sibling-passed p h = h ∙ passed-answer Refused _ is p
 
-  pub sibling-refused : {why : Refusal} → told ≡ check.Refused why → Refused why ≡ nextSibling (table s settings vendors sizes rows attrs counts) key
+  pub sibling-refused : {why : Refusal} → told ≡ tests.Refused why → Refused why ≡ nextSibling (table s settings vendors sizes rows attrs counts) key
   unfolding nextSibling
   sibling-refused p = refused-answer Refused _ is p

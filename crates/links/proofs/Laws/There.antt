@@ -31,8 +31,8 @@ use Rattle.attributes.proofs.Laws.Part as parts
 use Rattle.attributes.specs.declared.value.End.{End}
 use Rattle.attributes.specs.declared.value.End.the-variants as end
 use Rattle.tables.specs.Row.{rowAt, attrAt, endianOf}
-use Rattle.tables.specs.Test.{isAt, TableHolds}
-use Rattle.tables.proofs.Laws.Checked.{AttrKnown, checked-attr}
+use Rattle.tables.specs.Holds.{isAt, TableHolds}
+use Rattle.tables.proofs.Laws.Held.{AttrKnown, held-attr}
 use Rattle.tables.specs.declared.row.Counts.{Counts}
 use Rattle.tables.specs.declared.find.Found.{Found}
 use Rattle.tables.specs.declared.find.Found.the-variants.{At, Nothing}
@@ -42,7 +42,7 @@ use Rattle.tables.specs.Keyed.{inRowOfKey}
 use Rattle.tables.specs.Row.{endsOf}
 use Rattle.links.specs.Typed.{asPlaced, spotAt, spotIn, placeOfKey, asValue, asWidened, wordAt, wordOfPlace, valueOfKey, partAs, toldWords}
 use Rattle.links.proofs.Laws.Typed.{place-there, place-refused, keyed-asked}
-use Rattle.tables.proofs.Laws.Keyed.{keyed-checked, keyed-key}
+use Rattle.tables.proofs.Laws.Keyed.{keyed-held, keyed-key}
 use Rattle.links.specs.declared.lookup.Wanted.the-variants as wanted
 use Rattle.links.specs.declared.lookup.Reference.the-variants as reference
 use Rattle.tables.specs.declared.keyed.Keyed.{Keyed}
@@ -159,7 +159,7 @@ module _ {s vendors rows attrs : List ℕ} {counts : Counts} (checked : TableHol
   ends-inside {k} formed found =
       let among = attribute-found rows attrs i (wanted.Number number) found in
       let is-number : attrAt attrs k .number ≡ number = eqb-true (attrAt attrs k .number) number (among .2) in
-      let passed : AttrKnown s vendors (endianOf (rowAt rows i .flags)) (attrAt attrs k) = checked-attr checked i here k (among .0) (among .1) in
+      let passed : AttrKnown s vendors (endianOf (rowAt rows i .flags)) (attrAt attrs k) = held-attr checked i here k (among .0) (among .1) in
       ap isAt (of-form (endianOf (rowAt rows i .flags)) s (attrAt attrs k .value) (ap formOf is-number ∙ form-known form number formed) ∙ passed .ends)
 
   -- the number that it says is there
@@ -221,7 +221,7 @@ module _ (settings : Settings) (vendors sizes s rows attrs : List ℕ) (counts :
           → Sound s rows attrs (counts .rows) key number form (placeOfKey (table s settings vendors sizes rows attrs counts) key number form)
       go (keyed.Row i) p =
           subst (Sound s rows attrs (counts .rows) key number form) (place-there settings vendors sizes s rows attrs counts key refl number form p refl)
-          (spot-sound (keyed-checked settings vendors sizes s rows attrs counts key refl p) i
+          (spot-sound (keyed-held settings vendors sizes s rows attrs counts key refl p) i
           (keyed-asked settings vendors sizes s rows attrs counts key refl p .there) key (keyed-key settings vendors sizes s rows attrs counts key refl p)
           number form (settings .endian))
       go (keyed.Refused why) p =

@@ -14,15 +14,15 @@ use Rattle.format.specs.declared.refusal.Refusal.{Refusal}
 use Rattle.attributes.specs.declared.decode.Endians.{Endians}
 use Rattle.tables.specs.Row.{attrAt, endsOf}
 use Rattle.tables.specs.declared.row.Attr.{Attr}
-use Rattle.tables.specs.Test.{TableHolds}
-use Rattle.tables.proofs.Laws.Checked.{checked-rising, checked-rows-few}
+use Rattle.tables.specs.Holds.{TableHolds}
+use Rattle.tables.proofs.Laws.Held.{held-rising, held-rows-few}
 use Rattle.tables.specs.declared.row.Counts.{Counts}
 use Rattle.tables.specs.declared.find.Found.{Found}
 use Rattle.tables.specs.declared.find.Found.the-variants.{At, Nothing}
 use Rattle.tables.specs.Keyed.{inRowOfKey}
 use Rattle.tables.specs.declared.keyed.Keyed.{Keyed}
 use Rattle.tables.specs.declared.keyed.Keyed.the-variants as keyed
-use Rattle.tables.proofs.Laws.Keyed.{in-row, no-row, keyed-checked, keyed-there}
+use Rattle.tables.proofs.Laws.Keyed.{in-row, no-row, keyed-held, keyed-there}
 use Rattle.links.specs.Attribute.{attributeOf}
 use Rattle.links.specs.Inside.Children.{Asked}
 use Rattle.links.specs.Typed.{asLooked, lookedIn, attributeOfKey, blockForm, asPlaced, spotAt, spotIn, placeOfKey, wordAt, wordOfPlace, partAs, partOf, toldWords, Handed}
@@ -60,9 +60,9 @@ module _ (settings : Settings) (vendors sizes s rows attrs : List ℕ) (counts :
 
   pub keyed-asked : {i : ℕ} → told ≡ keyed.Row i → Asked rows (counts .rows) i
   keyed-asked p =
-      let holds : TableHolds s vendors rows attrs counts = keyed-checked settings vendors sizes s rows attrs counts key is p in
+      let holds : TableHolds s vendors rows attrs counts = keyed-held settings vendors sizes s rows attrs counts key is p in
       record {
-        table = record { rising = checked-rising holds; few = checked-rows-few holds };
+        table = record { rising = held-rising holds; few = held-rows-few holds };
         there = keyed-there settings vendors sizes s rows attrs counts key is p;
       }
 

@@ -15,8 +15,8 @@ use Rattle.attributes.specs.End.{fixedEnd, blockEnd, textEnd, valueEnd}
 use Rattle.attributes.specs.Read.{ending, numbered, readAttribute}
 use Rattle.tables.specs.Row.{rowWords, attrWords, rowsWords, attrsWords, rowAt, attrAt, erasedRow, endianOf}
 use Rattle.tables.specs.Find.{rowFrom, rowOfKey}
-use Rattle.tables.specs.Test.{fitting, isAt, attrHolds, runHolds, rowHolds, rowsHold, tableHolds}
-use Rattle.tables.specs.Check.{afterTests, tested}
+use Rattle.tables.specs.Holds.{fitting, isAt, attrHolds, runHolds, rowHolds, rowsHold, tableHolds}
+use Rattle.tables.specs.Tests.{afterTests, tested}
 use Rattle.entries.specs.Head.{nullEnd, tagHead, sizeHead, headAt}
 use Rattle.entries.specs.Run.{first, runEnds, readOn, readRun}
 use Rattle.entries.specs.Entry.{flip, littleFlag, flagOf, flagsOf, kindOf, ordinary, rooted, attributes, rootEndian, rootIn, entryFrom, readEntry}

@@ -10,10 +10,10 @@ use Rattle.lent.specs.Outcome.{Outcome, Given, BothGiven}
 use Rattle.numbers.proofs.Laws.Tests.{cond-all}
 use Rattle.format.specs.Limits.{sectionLimit}
 use Rattle.format.specs.Settings.{settingsHold}
-use Rattle.tables.specs.Test.{tableHolds}
-use Rattle.tables.specs.Check.{tested, afterTests}
+use Rattle.tables.specs.Holds.{tableHolds}
+use Rattle.tables.specs.Tests.{tested, afterTests}
 use Rattle.tables.specs.Row.{rowWidth}
-use Rattle.tables.proofs.Laws.Test.{fits-all}
+use Rattle.tables.proofs.Laws.Holds.{fits-all}
 use Rattle.entries.proofs.Laws.Filled.{answer-read}
 use Rattle.format.specs.Refusal.{numberOf}
 use Rattle.format.specs.declared.refusal.Refusal.{Refusal}

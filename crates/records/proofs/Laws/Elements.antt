@@ -23,7 +23,7 @@ use Rattle.format.specs.declared.refusal.Refusal.{Refusal}
 use Rattle.format.specs.declared.refusal.Reason.the-variants as reason
 use Rattle.attributes.specs.Text.{zeroFrom}
 use Rattle.attributes.proofs.Laws.Text.{zero-after}
-use Rattle.tables.specs.Check.{refusedAt}
+use Rattle.tables.specs.Tests.{refusedAt}
 use Rattle.lent.proofs.Laws.Stores.{sets-append, sets-out}
 use Rattle.records.proofs.Laws.Fields.{by-told}
 use Rattle.records.specs.Elements.{listWidth, valueAt, namedFrom, nameFrom, valued, elementAt, Listed, Elements, are, missing, elementsThen, elementThen, elementsFrom, elementsIn, valuesOf, namesOf}

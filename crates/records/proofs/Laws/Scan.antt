@@ -15,7 +15,7 @@ use Rattle.format.specs.declared.refusal.Refusal.{Refusal}
 use Rattle.format.specs.declared.refusal.Reason.the-variants as reason
 use Rattle.attributes.specs.declared.decode.Endians.{Endians}
 use Rattle.tables.specs.Row.{rowAt, attrAt}
-use Rattle.tables.specs.Check.{refusedAt}
+use Rattle.tables.specs.Tests.{refusedAt}
 use Rattle.tables.specs.declared.row.Row.{Row}
 use Rattle.tables.specs.declared.row.Attr.{Attr}
 use Rattle.tables.specs.Row.{endsOf}

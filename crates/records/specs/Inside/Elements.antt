@@ -7,7 +7,7 @@ use lib.ListN.{length}
 use lib.Seq.{sets}
 use lib.IntN.{ℤ}
 use Rattle.format.specs.declared.refusal.Reason.the-variants as reason
-use Rattle.tables.specs.Check.{refusedAt}
+use Rattle.tables.specs.Tests.{refusedAt}
 use Rattle.records.specs.Elements.{Listed, Elements, are, missing}
 use Rattle.records.specs.Enumeration.{Lists, listed, listsRefused}
 use Rattle.records.specs.declared.counted.Counted.{Counted}

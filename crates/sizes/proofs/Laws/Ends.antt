@@ -9,7 +9,7 @@ use Rattle.format.specs.declared.settings.Settings.{Settings}
 use Rattle.format.specs.declared.refusal.Reason.the-variants as reason
 use Rattle.blocks.specs.declared.types.Type.{«Type»}
 use Rattle.tables.specs.Row.{rowAt}
-use Rattle.tables.specs.Check.{refusedAt}
+use Rattle.tables.specs.Tests.{refusedAt}
 use Rattle.records.specs.Member.{memberAt}
 use Rattle.records.specs.Unions.{Placed, Members, members, membersRefused, andMember, memberThen}
 use Rattle.records.specs.declared.member.Member.{Member}

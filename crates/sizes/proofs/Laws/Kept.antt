@@ -20,7 +20,7 @@ use Rattle.blocks.specs.declared.types.TypeKind.{TypeKind}
 use Rattle.blocks.specs.declared.types.TypeKind.the-variants as kind
 use Rattle.tables.specs.Row.{rowAt}
 use Rattle.tables.specs.Find.{rowOfKey}
-use Rattle.tables.specs.Check.{refusedAt}
+use Rattle.tables.specs.Tests.{refusedAt}
 use Rattle.tables.specs.declared.row.Row.{Row}
 use Rattle.tables.specs.declared.find.Found.{Found}
 use Rattle.tables.specs.declared.find.Found.the-variants as found

@@ -20,7 +20,7 @@ use Rattle.blocks.proofs.Laws.Subscript.{used-inside}
 use Rattle.blocks.specs.declared.types.Type.{«Type»}
 use Rattle.blocks.specs.declared.subscript.Subscript.{Subscript}
 use Rattle.blocks.specs.declared.subscript.Subscript.the-variants as subscript
-use Rattle.tables.specs.Check.{refusedAt}
+use Rattle.tables.specs.Tests.{refusedAt}
 use Rattle.records.proofs.Laws.Taken.{test-passed, test-failed}
 use Rattle.sizes.specs.Size.{sizeLimit, sizeThen, times, subscriptThen, productFrom, productOf}
 use Rattle.sizes.specs.Inside.Prepare.{timesOf}

@@ -25,14 +25,14 @@ use Rattle.blocks.specs.declared.subscripts.Counted.the-variants as counted
 use Rattle.tables.specs.Row.{rowAt}
 use Rattle.tables.specs.Find.{rowOfKey}
 use Rattle.tables.proofs.Laws.Find.{row-found}
-use Rattle.tables.specs.Check.{refusedAt, Tells}
-use Rattle.tables.proofs.Laws.Check.{passed-answer, passed-checked, passed-short}
-use Rattle.tables.proofs.Laws.Checked.{checked-rising, checked-rows-few}
-use Rattle.tables.specs.Test.{TableHolds}
+use Rattle.tables.specs.Tests.{refusedAt, Tells}
+use Rattle.tables.proofs.Laws.Tests.{passed-answer, passed-held, passed-short}
+use Rattle.tables.proofs.Laws.Held.{held-rising, held-rows-few}
+use Rattle.tables.specs.Holds.{TableHolds}
 use Rattle.tables.specs.declared.row.Row.{Row}
 use Rattle.tables.specs.declared.row.Counts.{Counts}
-use Rattle.tables.specs.declared.check.Check.{Check}
-use Rattle.tables.specs.declared.check.Check.the-variants as check
+use Rattle.tables.specs.declared.tests.Tested.{Tested}
+use Rattle.tables.specs.declared.tests.Tested.the-variants as tests
 use Rattle.tables.specs.declared.find.Found.{Found}
 use Rattle.tables.specs.declared.find.Found.the-variants as found
 use Rattle.links.specs.Links.{childWalk, nonNull}
@@ -414,12 +414,12 @@ found-asked {rows = rows} {n = n} w key is p =
 
 -- ---- the public calls
 
-module _ {settings : Settings} {vendors sizes s rows attrs : List ℕ} {counts : Counts} {told : Check} (is : Tells (table s settings vendors sizes rows attrs counts) told)
-    (p : told ≡ check.Passed) where
+module _ {settings : Settings} {vendors sizes s rows attrs : List ℕ} {counts : Counts} {told : Tested} (is : Tells (table s settings vendors sizes rows attrs counts) told)
+    (p : told ≡ tests.Passed) where
   pub ready : TableReady s rows (counts .rows)
   ready =
-      let c : TableHolds s vendors rows attrs counts = passed-checked is p in
-      record { table = record { rising = checked-rising c; few = checked-rows-few c }; short = passed-short is p }
+      let c : TableHolds s vendors rows attrs counts = passed-held is p in
+      record { table = record { rising = held-rising c; few = held-rows-few c }; short = passed-short is p }
 
   pub key-sized : (key : ℕ) {r : Sized} → r ≡ entrySizeFrom settings sizes s rows attrs (counts .rows) [] depthLimit key
       → r ≡ sizeOfKey (table s settings vendors sizes rows attrs counts) key

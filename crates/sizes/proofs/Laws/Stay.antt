@@ -16,7 +16,7 @@ use Rattle.blocks.specs.declared.subscripts.Counted.{Counted}
 use Rattle.blocks.specs.declared.subscripts.Counted.the-variants as counted
 use Rattle.tables.specs.Row.{rowAt}
 use Rattle.tables.specs.Find.{rowOfKey}
-use Rattle.tables.specs.Check.{refusedAt}
+use Rattle.tables.specs.Tests.{refusedAt}
 use Rattle.tables.specs.declared.find.Found.{Found}
 use Rattle.tables.specs.declared.find.Found.the-variants as found
 use Rattle.records.specs.Scan.{runOf, faultsFrom}

@@ -12,7 +12,7 @@ use Rattle.format.specs.declared.settings.Settings.{Settings}
 use Rattle.format.specs.declared.refusal.Reason.the-variants as reason
 use Rattle.tables.specs.Row.{rowAt}
 use Rattle.tables.specs.Find.{rowOfKey}
-use Rattle.tables.specs.Check.{refusedAt}
+use Rattle.tables.specs.Tests.{refusedAt}
 use Rattle.links.specs.Links.{siblingRow}
 use Rattle.links.specs.Inside.Links.{Rows}
 use Rattle.links.specs.Inside.Children.{Asked}

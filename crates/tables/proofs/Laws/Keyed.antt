@@ -15,12 +15,12 @@ use Rattle.format.specs.declared.refusal.Reason.the-variants as reason
 use Rattle.tables.specs.Row.{rowAt}
 use Rattle.tables.specs.Find.{rowOfKey}
 use Rattle.tables.proofs.Laws.Find.{row-found}
-use Rattle.tables.specs.Test.{tableHolds, TableHolds}
-use Rattle.tables.specs.Check.{refusedAt, afterTests, tested, Tells}
-use Rattle.tables.proofs.Laws.Check.{passed-answer, refused-answer}
+use Rattle.tables.specs.Holds.{tableHolds, TableHolds}
+use Rattle.tables.specs.Tests.{refusedAt, afterTests, tested, Tells}
+use Rattle.tables.proofs.Laws.Tests.{passed-answer, refused-answer}
 use Rattle.tables.specs.declared.row.Counts.{Counts}
-use Rattle.tables.specs.declared.check.Check.{Check}
-use Rattle.tables.specs.declared.check.Check.the-variants as check
+use Rattle.tables.specs.declared.tests.Tested.{Tested}
+use Rattle.tables.specs.declared.tests.Tested.the-variants as tests
 use Rattle.tables.specs.declared.find.Found.{Found}
 use Rattle.tables.specs.declared.find.Found.the-variants.{At, Nothing}
 use Rattle.tables.specs.Keyed.{rowBy, inRowOfKey}
@@ -38,14 +38,14 @@ module _ (key : ℕ) {found f : Found} (is : found ≡ f) where
   unfolding rowBy
   key-nowhere p = ap (rowBy key keyed.Refused keyed.Row) (sym p ∙ is)
 
-module _ (settings : Settings) (vendors sizes s rows attrs : List ℕ) (counts : Counts) (key : ℕ) {told : Check}
+module _ (settings : Settings) (vendors sizes s rows attrs : List ℕ) (counts : Counts) (key : ℕ) {told : Tested}
     (is : Tells (table s settings vendors sizes rows attrs counts) told) where
-  pub row-passed : told ≡ check.Passed → {r : Keyed} → r ≡ rowBy key keyed.Refused keyed.Row (rowOfKey rows (counts .rows) key)
+  pub row-passed : told ≡ tests.Passed → {r : Keyed} → r ≡ rowBy key keyed.Refused keyed.Row (rowOfKey rows (counts .rows) key)
       → r ≡ inRowOfKey (table s settings vendors sizes rows attrs counts) key keyed.Refused keyed.Row
   unfolding inRowOfKey
   row-passed p h = h ∙ passed-answer keyed.Refused _ is p
 
-  pub row-refused : {why : Refusal} → told ≡ check.Refused why → keyed.Refused why ≡ inRowOfKey (table s settings vendors sizes rows attrs counts) key keyed.Refused keyed.Row
+  pub row-refused : {why : Refusal} → told ≡ tests.Refused why → keyed.Refused why ≡ inRowOfKey (table s settings vendors sizes rows attrs counts) key keyed.Refused keyed.Row
   unfolding inRowOfKey
   row-refused p = refused-answer keyed.Refused _ is p
 
@@ -113,8 +113,8 @@ module _ (settings : Settings) (vendors sizes s rows attrs : List ℕ) (counts :
       subst (Known _ _ _) (sym is ∙ p)
       (known key (settingsHold settings vendors sizes) (ltb (length s) sectionLimit) (tableHolds s vendors rows attrs counts) (rowOfKey rows (counts .rows) key))
 
-  pub keyed-checked : TableHolds s vendors rows attrs counts
-  keyed-checked = record { holds = told-known .1 }
+  pub keyed-held : TableHolds s vendors rows attrs counts
+  keyed-held = record { holds = told-known .1 }
 
   pub keyed-short : length s < sectionLimit
   keyed-short = ltb-true (length s) sectionLimit (told-known .0)

@@ -4,7 +4,7 @@ use denote.Ref.{now}
 use Rattle.lent.specs.OneAnswer.{OneAnswer, OneRoom}
 use Rattle.tables.proofs.row as row
 use Rattle.tables.proofs.store as store
-use Rattle.tables.proofs.test as test
+use Rattle.tables.proofs.holds as holds
 
 -- `row::row_at`
 pub only-row-at : OneAnswer row.row_at.Kinds.ps row.row_at.Kinds.r row.row_at.Reads.Post
@@ -30,6 +30,6 @@ only-put-row-rows κs a z z′ e e′ p q = cc
 pub only-put-attr-attrs : OneRoom store.put_attr.Kinds.ps store.put_attr.Kinds.r (λ κs e. now (e .0)) store.put_attr.Reads.Post
 only-put-attr-attrs κs a z z′ e e′ p q = cc
 
--- `test::table_holds`
-pub only-table-holds : OneAnswer test.table_holds.Kinds.ps test.table_holds.Kinds.r test.table_holds.Reads.Post
+-- `holds::table_holds`
+pub only-table-holds : OneAnswer holds.table_holds.Kinds.ps holds.table_holds.Kinds.r holds.table_holds.Reads.Post
 only-table-holds κs a z z′ e e′ p q = cc

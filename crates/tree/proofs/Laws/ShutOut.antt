@@ -38,7 +38,7 @@ use Rattle.entries.specs.Head.{nullEnd, tagHead, sizeHead, headAt}
 use Rattle.entries.specs.Run.{attr, first, runEnds, readOn, readRun}
 use Rattle.entries.specs.Entry.{littleFlag, flagOf, flagsOf, kindOf, ordinary, attributes, entryFrom, readEntry}
 use Rattle.entries.specs.Walk.{entriesRead, join, entriesThen, onward, entriesFrom, readTags}
-use Rattle.tables.specs.Test.{fitting}
+use Rattle.tables.specs.Holds.{fitting}
 use Rattle.entries.specs.Section.{counts, intoTables, wholeWalk, readDebugSection}
 use Rattle.entries.proofs.Laws.Section.{attrs-decide}
 use Rattle.entries.specs.declared.section.Section.{Section}

@@ -17,13 +17,13 @@ use Rattle.format.specs.declared.refusal.Refusal.{Refusal}
 use Rattle.format.specs.declared.refusal.Reason.{Reason}
 use Rattle.format.specs.declared.refusal.Reason.the-variants as reason
 use Rattle.tables.specs.Row.{rowAt, erasedRow}
-use Rattle.tables.specs.Check.{refusedAt, Tells}
-use Rattle.tables.proofs.Laws.Check.{passed-answer, refused-answer}
+use Rattle.tables.specs.Tests.{refusedAt, Tells}
+use Rattle.tables.proofs.Laws.Tests.{passed-answer, refused-answer}
 use Rattle.tables.specs.declared.row.Row.{Row}
 use Rattle.tables.specs.declared.row.Counts.{Counts}
-use Rattle.tables.specs.declared.check.Check.{Check}
-use Rattle.tables.specs.declared.check.Check.the-variants.{Passed}
-use Rattle.tables.specs.declared.check.Check.the-variants as check
+use Rattle.tables.specs.declared.tests.Tested.{Tested}
+use Rattle.tables.specs.declared.tests.Tested.the-variants.{Passed}
+use Rattle.tables.specs.declared.tests.Tested.the-variants as tests
 use Rattle.tree.specs.Pick.{firstFrom}
 use Rattle.tree.proofs.Laws.Pick.{first-from-is}
 use Rattle.tree.specs.Reach.{reachEnd}
@@ -154,7 +154,7 @@ module _ (rows : List ℕ) (n : ℕ) (reach : ℕ → ℕ) (room : List ℕ) {er
             in
             record { answer-is = rw (no-erased, no-fault, no-deep, test); room-is = rw (no-erased, no-fault, no-deep, test) words }
 
-module _ (settings : Settings) (vendors sizes s rows attrs : List ℕ) (counts : Counts) (room : List ℕ) {told : Check}
+module _ (settings : Settings) (vendors sizes s rows attrs : List ℕ) (counts : Counts) (room : List ℕ) {told : Tested}
     (is : Tells (table s settings vendors sizes rows attrs counts) told) where
   pub tree-passed : told ≡ Passed → {r : Listing} {room′ : List ℕ}
       → Given (listingOf rows (counts .rows) (λ i. reachEnd (settings .endian) s rows attrs (counts .rows) i) room) r room′
@@ -162,7 +162,7 @@ module _ (settings : Settings) (vendors sizes s rows attrs : List ℕ) (counts :
   unfolding listTree
   tree-passed p {r} {room′} g = subst (λ (o : Outcome Listing ℕ). Given o r room′) (passed-answer (λ why. outcome (Refused why) room) _ is p) g
 
-  pub tree-refused : {why : Refusal} → told ≡ check.Refused why → Given (listTree (table s settings vendors sizes rows attrs counts) room) (Refused why) room
+  pub tree-refused : {why : Refusal} → told ≡ tests.Refused why → Given (listTree (table s settings vendors sizes rows attrs counts) room) (Refused why) room
   unfolding listTree
   tree-refused {why} p =
       subst (λ (o : Outcome Listing ℕ). Given o (Refused why) room) (refused-answer (λ w. outcome (Refused w) room) _ is p) (record { answer-is = refl; room-is = refl })

@@ -19,10 +19,10 @@ use Rattle.format.specs.Limits.{depthLimit, sectionLimit}
 use Rattle.format.specs.Settings.{settingsHold}
 use Rattle.format.specs.declared.settings.Settings.{Settings}
 use Rattle.tables.specs.Row.{rowAt, erasedRow}
-use Rattle.tables.specs.Test.{tableHolds, TableHolds}
-use Rattle.tables.proofs.Laws.Checked.{checked-rising, checked-inside}
+use Rattle.tables.specs.Holds.{tableHolds, TableHolds}
+use Rattle.tables.proofs.Laws.Held.{held-rising, held-inside}
 use Rattle.lent.proofs.Laws.Stores.{sets-back}
-use Rattle.tables.specs.Check.{afterTests, tested}
+use Rattle.tables.specs.Tests.{afterTests, tested}
 use Rattle.tables.specs.declared.row.Counts.{Counts}
 use Rattle.entries.specs.Section.{readDebugSection}
 use Rattle.entries.proofs.Laws.Filled.{filled-holds}
@@ -123,7 +123,7 @@ module _ (settings : Settings) (vendors sizes s rows₀ attrs₀ : List ℕ) (c 
   unerased = rw (read .first-is) (none-erased settings vendors sizes s rows₀ attrs₀ c off (sym (read .answer-is)))
 
   plain : Plain s rows (c .rows)
-  plain = record { rising = checked-rising checked; inside = λ j h. checked-inside checked j h; unerased = unerased }
+  plain = record { rising = held-rising checked; inside = λ j h. held-inside checked j h; unerased = unerased }
 
   no-erased : ltb (firstErased rows (c .rows)) (c .rows) ≡ false
   unfolding firstErased

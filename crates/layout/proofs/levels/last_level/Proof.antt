@@ -1,5 +1,5 @@
 use Rattle.format.specs.declared.refusal.Reason.the-variants as reason
-use Rattle.tables.specs.Check.{refusedAt}
+use Rattle.tables.specs.Tests.{refusedAt}
 use Rattle.tables.specs.declared.row.Row.{Row}
 use Rattle.sizes.specs.declared.sized.Sized.the-variants.{Refused}
 use Rattle.layout.specs.Inside.Levels.{lastLevel, KnownUpTo}

@@ -1,10 +1,10 @@
-use Rattle.tables.proofs.Laws.Test.{row-bad, row-apart, row-past, row-run}
+use Rattle.tables.proofs.Laws.Holds.{row-bad, row-apart, row-past, row-run}
 use borrow.Author.Tests.{not-true, not-false}
 use borrow.Author.Needs.{needs}
 use native.Mathlib.Omega.{arith}
 use mathlib.Core.Path.{sym, _∙_}
-use Rattle.tables.proofs.test.row_holds.Statement.{statement}
-use Rattle.tables.proofs.test.row_holds.Tie as tie
+use Rattle.tables.proofs.holds.row_holds.Statement.{statement}
+use Rattle.tables.proofs.holds.row_holds.Tie as tie
 
 returns : tie.Need-returns
 returns c = row-bad _ _ _ _ _ _ _ (sym (c .before .head-holds .ensures) ∙ not-true _ (c .if1 .taken))

@@ -10,9 +10,9 @@ use Rattle.format.specs.Settings.{settingsHold}
 use Rattle.format.specs.declared.refusal.Refusal.{Refusal}
 use Rattle.format.specs.declared.refusal.Reason.{Reason}
 use Rattle.format.specs.declared.refusal.Reason.the-variants as reason
-use Rattle.tables.specs.Test.{tableHolds}
-use Rattle.tables.specs.declared.check.Check.{Check}
-use Rattle.tables.specs.declared.check.Check.the-variants.{Passed, Refused}
+use Rattle.tables.specs.Holds.{tableHolds}
+use Rattle.tables.specs.declared.tests.Tested.{Tested}
+use Rattle.tables.specs.declared.tests.Tested.the-variants.{Passed, Refused}
 
 -- a refusal with its place
 abbrev pub refusedAt : ℕ → Reason → Refusal
@@ -31,5 +31,5 @@ tested t refused answer =
     (tableHolds (t .section) (t .vendors) (t .rows) (t .attrs) (t .counts)) refused answer
 
 -- what the tests alone answer
-pub record Tells (t : Table) (r : Check) : Type 0 where
+pub record Tells (t : Table) (r : Tested) : Type 0 where
   pub told : r ≡ tested t Refused Passed

@@ -1,6 +1,6 @@
 // The tests that every public call on a table makes first: 1, 2, 3.
+use crate::holds::table_holds;
 use crate::row::Counts;
-use crate::test::table_holds;
 use format::limits::SECTION_LIMIT;
 use format::refusal::Reason;
 use format::refusal::Refusal;
@@ -8,21 +8,21 @@ use format::settings::Settings;
 use format::settings::settings_hold;
 ghost use mathlib.Core.Path.{_≡_};
 ghost use Rattle.tables.specs.Table.{table};
-ghost use Rattle.tables.specs.Check.{Tells, refusedAt};
+ghost use Rattle.tables.specs.Tests.{Tells, refusedAt};
 
-pub enum Check {
+pub enum Tested {
     Passed,
     Refused(Refusal),
 }
 
-fn refuse(reason: Reason) -> Check
-    ensures { λ r. ⌜ r ≡ Check.Refused (refusedAt 0 reason) ⌝ }
+fn refuse(reason: Reason) -> Tested
+    ensures { λ r. ⌜ r ≡ Tested.Refused (refusedAt 0 reason) ⌝ }
 {
-    Check::Refused(Refusal { reason, place: 0 })
+    Tested::Refused(Refusal { reason, place: 0 })
 }
 
 // The tests that every call on a table makes first: 1 settings, 2 long, 3 table.
-pub fn check_table(
+pub fn test_table(
     s: &[u8],
     settings: Settings,
     vendors: &[u16],
@@ -30,7 +30,7 @@ pub fn check_table(
     rows: &[u32],
     attrs: &[u32],
     counts: Counts,
-) -> Check
+) -> Tested
     ensures { λ r. ⌜
         Tells (table (now (s .entry)) settings (now (vendors .entry)) (now (sizes .entry)) (now (rows .entry)) (now (attrs .entry)) counts) r
         ⌝ }
@@ -42,7 +42,7 @@ pub fn check_table(
         return refuse(Reason::Long);
     }
     if table_holds(s, vendors, rows, attrs, counts) {
-        Check::Passed
+        Tested::Passed
     } else {
         refuse(Reason::Table)
     }

@@ -1,8 +1,8 @@
-use Rattle.tables.proofs.Laws.Test.{atEnd, attr-wide, attr-told}
+use Rattle.tables.proofs.Laws.Holds.{atEnd, attr-wide, attr-told}
 use borrow.Author.Needs.{needs}
 use denote.Ref.{now}
-use Rattle.tables.proofs.test.attr_holds.Statement.{statement}
-use Rattle.tables.proofs.test.attr_holds.Tie as tie
+use Rattle.tables.proofs.holds.attr_holds.Statement.{statement}
+use Rattle.tables.proofs.holds.attr_holds.Tie as tie
 
 returns : tie.Need-returns
 returns c = attr-wide _ (now (c .before .before .before .before .args .vendors)) _ _ (λ k. c .before .before .shared-slice-known2 .given k .fits) (c .if1 .taken)

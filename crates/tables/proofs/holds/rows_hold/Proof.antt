@@ -1,13 +1,13 @@
-use Rattle.tables.specs.Test.{rowsHold}
-use Rattle.tables.proofs.Laws.Test.{rows-bad, rows-next, rows-end, row-passed}
+use Rattle.tables.specs.Holds.{rowsHold}
+use Rattle.tables.proofs.Laws.Holds.{rows-bad, rows-next, rows-end, row-passed}
 use native.Mathlib.Nat.{sub-zero}
 use borrow.Author.Tests.{not-true, not-false}
 use borrow.Author.Needs.{needs}
 use native.Mathlib.Omega.{arith}
 use Prim.Native.Nat.{_+_, _-_, _≤_}
 use mathlib.Core.Path.{_≡_, sym, _∙_}
-use Rattle.tables.proofs.test.rows_hold.Statement.{statement}
-use Rattle.tables.proofs.test.rows_hold.Tie as tie
+use Rattle.tables.proofs.holds.rows_hold.Statement.{statement}
+use Rattle.tables.proofs.holds.rows_hold.Tie as tie
 
 abbrev Inv-loop : tie.InvT-loop
 Inv-loop s vendors rows n attrs total least₀ run₀ i₀ least run i = (i ≤ n) × (rowsHold s vendors rows attrs total i (n - i) least run ≡ rowsHold s vendors rows attrs total 0 n 0 0)

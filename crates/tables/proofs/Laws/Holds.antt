@@ -23,11 +23,11 @@ use Rattle.attributes.specs.declared.value.End.the-variants as end
 use Rattle.attributes.specs.declared.read.Ending.{Ending}
 use Rattle.attributes.specs.declared.read.Ending.the-variants as ending
 use Rattle.tables.specs.Row.{rowWidth, attrWidth, rowAt, attrAt, endianOf}
-use Rattle.tables.specs.Test.{fitting, isAt, attrHolds, runHolds, rowHolds, rowsHold, tableHolds}
+use Rattle.tables.specs.Holds.{fitting, isAt, attrHolds, runHolds, rowHolds, rowsHold, tableHolds}
 use Rattle.tables.specs.declared.row.Row.{Row}
 use Rattle.tables.specs.declared.row.Attr.{Attr}
 use Rattle.tables.specs.declared.row.Counts.{Counts}
-use Rattle.tables.specs.Inside.Test.{headHolds}
+use Rattle.tables.specs.Inside.Holds.{headHolds}
 
 -- ---- a word of more than 16 bits is no tag and no known number
 

@@ -15,8 +15,8 @@ use format::tag_kind::is_tag;
 use numbers::Endian;
 ghost use mathlib.Core.Path.{_≡_};
 ghost use Prim.Native.Nat.{_+_, _^_, _<_};
-ghost use Rattle.tables.specs.Test.{attrHolds, runHolds, rowHolds, rowsHold, tableHolds};
-ghost use Rattle.tables.specs.Inside.Test.{headHolds};
+ghost use Rattle.tables.specs.Holds.{attrHolds, runHolds, rowHolds, rowsHold, tableHolds};
+ghost use Rattle.tables.specs.Inside.Holds.{headHolds};
 
 // A known number, and a value wholly inside the section.
 fn attr_holds(s: &[u8], vendors: &[u16], e: Endian, attr: Attr) -> bool

@@ -12,15 +12,15 @@ use Rattle.format.specs.Settings.{settingsHold}
 use Rattle.format.specs.declared.settings.Settings.{Settings}
 use Rattle.format.specs.declared.refusal.Refusal.{Refusal}
 use Rattle.format.specs.declared.refusal.Reason.the-variants as reason
-use Rattle.tables.specs.Test.{tableHolds, TableHolds}
-use Rattle.tables.specs.Check.{refusedAt, afterTests, tested, Tells}
+use Rattle.tables.specs.Holds.{tableHolds, TableHolds}
+use Rattle.tables.specs.Tests.{refusedAt, afterTests, tested, Tells}
 use Rattle.tables.specs.declared.row.Counts.{Counts}
-use Rattle.tables.specs.declared.check.Check.{Check}
-use Rattle.tables.specs.declared.check.Check.the-variants.{Passed, Refused}
+use Rattle.tables.specs.declared.tests.Tested.{Tested}
+use Rattle.tables.specs.declared.tests.Tested.the-variants.{Passed, Refused}
 
 -- ---- what the tests come to tells what every call comes to
 
-abbrev Comes : {A : Type 0} → Bool → Bool → Bool → (Refusal → A) → A → Check → Type 0
+abbrev Comes : {A : Type 0} → Bool → Bool → Bool → (Refusal → A) → A → Tested → Type 0
 Comes a b c refused answer Passed = answer ≡ afterTests a b c refused answer
 Comes a b c refused answer (Refused why) = refused why ≡ afterTests a b c refused answer
 
@@ -32,7 +32,7 @@ comes true false c refused answer = refl
 comes false b c refused answer = refl
 
 -- what passed holds
-abbrev Holds : Bool → Bool → Bool → Check → Type 0
+abbrev Holds : Bool → Bool → Bool → Tested → Type 0
 Holds a b c Passed = (a ≡ true) × (b ≡ true) × (c ≡ true)
 Holds a b c (Refused why) = Unit
 
@@ -43,7 +43,7 @@ holds true true false = tt
 holds true false c = tt
 holds false b c = tt
 
-module _ {settings : Settings} {vendors sizes s rows attrs : List ℕ} {counts : Counts} {r : Check} where
+module _ {settings : Settings} {vendors sizes s rows attrs : List ℕ} {counts : Counts} {r : Tested} where
   pub passed-answer : {A : Type 0} (refused : Refusal → A) (answer : A) → Tells (table s settings vendors sizes rows attrs counts) r → r ≡ Passed → answer ≡ tested (table s settings vendors sizes rows attrs counts) refused answer
   unfolding tested
   passed-answer refused answer is p =
@@ -62,8 +62,8 @@ module _ {settings : Settings} {vendors sizes s rows attrs : List ℕ} {counts :
   passed-holds is p =
       subst (Holds _ _ _) (sym (is .told) ∙ p) (holds (settingsHold settings vendors sizes) (ltb (length s) sectionLimit) (tableHolds s vendors rows attrs counts))
 
-  pub passed-checked : Tells (table s settings vendors sizes rows attrs counts) r → r ≡ Passed → TableHolds s vendors rows attrs counts
-  passed-checked is p = record { holds = passed-holds is p .2 }
+  pub passed-held : Tells (table s settings vendors sizes rows attrs counts) r → r ≡ Passed → TableHolds s vendors rows attrs counts
+  passed-held is p = record { holds = passed-holds is p .2 }
 
   pub passed-short : Tells (table s settings vendors sizes rows attrs counts) r → r ≡ Passed → length s < sectionLimit
   passed-short is p = ltb-true (length s) sectionLimit (passed-holds is p .1)
@@ -72,21 +72,21 @@ module _ {settings : Settings} {vendors sizes s rows attrs : List ℕ} {counts :
 
 module _ (settings : Settings) (vendors sizes s rows attrs : List ℕ) (counts : Counts) where
   pub check-settings : settingsHold settings vendors sizes ≡ false
-      → {r : Check} → r ≡ Refused (refusedAt 0 reason.Settings) → Tells (table s settings vendors sizes rows attrs counts) r
+      → {r : Tested} → r ≡ Refused (refusedAt 0 reason.Settings) → Tells (table s settings vendors sizes rows attrs counts) r
   unfolding tested afterTests
   check-settings h e = record { told = e ∙ rw h }
 
   pub check-long : settingsHold settings vendors sizes ≡ true → sectionLimit ≤ length s
-      → {r : Check} → r ≡ Refused (refusedAt 0 reason.Long) → Tells (table s settings vendors sizes rows attrs counts) r
+      → {r : Tested} → r ≡ Refused (refusedAt 0 reason.Long) → Tells (table s settings vendors sizes rows attrs counts) r
   unfolding tested afterTests
   check-long h k e = record { told = e ∙ rw (h, le-ltb (length s) sectionLimit k) }
 
-  pub check-table : settingsHold settings vendors sizes ≡ true → length s < sectionLimit → tableHolds s vendors rows attrs counts ≡ false
-      → {r : Check} → r ≡ Refused (refusedAt 0 reason.Table) → Tells (table s settings vendors sizes rows attrs counts) r
+  pub test-table : settingsHold settings vendors sizes ≡ true → length s < sectionLimit → tableHolds s vendors rows attrs counts ≡ false
+      → {r : Tested} → r ≡ Refused (refusedAt 0 reason.Table) → Tells (table s settings vendors sizes rows attrs counts) r
   unfolding tested afterTests
-  check-table h k t e = record { told = e ∙ rw (h, lt-ltb (length s) sectionLimit k, t) }
+  test-table h k t e = record { told = e ∙ rw (h, lt-ltb (length s) sectionLimit k, t) }
 
   pub check-passed : settingsHold settings vendors sizes ≡ true → length s < sectionLimit → tableHolds s vendors rows attrs counts ≡ true
-      → {r : Check} → r ≡ Passed → Tells (table s settings vendors sizes rows attrs counts) r
+      → {r : Tested} → r ≡ Passed → Tells (table s settings vendors sizes rows attrs counts) r
   unfolding tested afterTests
   check-passed h k t e = record { told = e ∙ rw (h, lt-ltb (length s) sectionLimit k, t) }

@@ -1,12 +1,12 @@
-use Rattle.tables.specs.Test.{runHolds}
-use Rattle.tables.proofs.Laws.Test.{run-bad, run-next, run-end}
+use Rattle.tables.specs.Holds.{runHolds}
+use Rattle.tables.proofs.Laws.Holds.{run-bad, run-next, run-end}
 use native.Mathlib.Nat.{add-zero, sub-zero}
 use borrow.Author.Tests.{not-true, not-false}
 use borrow.Author.Needs.{needs}
 use Prim.Native.Nat.{_+_, _-_, _≤_}
 use mathlib.Core.Path.{_≡_, sym, _∙_}
-use Rattle.tables.proofs.test.run_holds.Statement.{statement}
-use Rattle.tables.proofs.test.run_holds.Tie as tie
+use Rattle.tables.proofs.holds.run_holds.Statement.{statement}
+use Rattle.tables.proofs.holds.run_holds.Tie as tie
 
 abbrev Inv-loop : tie.InvT-loop
 Inv-loop s vendors e attrs first n k₀ k = (k ≤ n) × (runHolds s vendors e attrs (first + k) (n - k) ≡ runHolds s vendors e attrs first n)

@@ -1,9 +1,9 @@
 use borrow.Author.Tests.{not-true, not-false}
-use Rattle.tables.proofs.Laws.Check.{check-settings, check-long, check-table, check-passed}
+use Rattle.tables.proofs.Laws.Tests.{check-settings, check-long, test-table, check-passed}
 use mathlib.Core.Path.{refl, sym, _∙_}
 use borrow.Author.Needs.{needs}
-use Rattle.tables.proofs.check.check_table.Statement.{statement}
-use Rattle.tables.proofs.check.check_table.Tie as tie
+use Rattle.tables.proofs.tests.test_table.Statement.{statement}
+use Rattle.tables.proofs.tests.test_table.Tie as tie
 
 returns : tie.Need-returns
 returns c = check-settings _ _ _ _ _ _ _ (sym (c .before .before .settings-hold .ensures) ∙ not-true _ (c .before .if1 .taken)) (c .refuse .ensures)
@@ -15,10 +15,10 @@ returns-3 : tie.Need-returns-3
 returns-3 c = check-passed _ _ _ _ _ _ _ (sym (c .before .before .before .before .settings-hold .ensures) ∙ not-false _ (c .before .before .before .if1 .left)) (c .before .before .if2 .left) (sym (c .before .table-holds .ensures) ∙ c .if3 .taken) refl
 
 returns-4 : tie.Need-returns-4
-returns-4 c = check-table _ _ _ _ _ _ _ (sym (c .before .before .before .before .before .settings-hold .ensures) ∙ not-false _ (c .before .before .before .before .if1 .left)) (c .before .before .before .if2 .left) (sym (c .before .before .table-holds .ensures) ∙ c .before .if3 .left) (c .refuse3 .ensures)
+returns-4 c = test-table _ _ _ _ _ _ _ (sym (c .before .before .before .before .before .settings-hold .ensures) ∙ not-false _ (c .before .before .before .before .if1 .left)) (c .before .before .before .if2 .left) (sym (c .before .before .table-holds .ensures) ∙ c .before .if3 .left) (c .refuse3 .ensures)
 
-pub check-table-spec : {M : Type 1} → statement M
-check-table-spec =
+pub test-table-spec : {M : Type 1} → statement M
+test-table-spec =
     tie.close
     (tie.spec
     (λ c κs. search needs)

@@ -1,8 +1,8 @@
-use Rattle.tables.proofs.Laws.Test.{head-low, head-outside, head-wide, head-flags, head-kind}
+use Rattle.tables.proofs.Laws.Holds.{head-low, head-outside, head-wide, head-flags, head-kind}
 use borrow.Author.Needs.{needs}
 use mathlib.Core.Path.{_∙_}
-use Rattle.tables.proofs.test.head_holds.Statement.{statement}
-use Rattle.tables.proofs.test.head_holds.Tie as tie
+use Rattle.tables.proofs.holds.head_holds.Statement.{statement}
+use Rattle.tables.proofs.holds.head_holds.Tie as tie
 
 returns : tie.Need-returns
 returns c = head-low _ _ _ (c .if1 .taken)

@@ -16,8 +16,8 @@ use Rattle.attributes.specs.End.{valueEnd}
 use Rattle.attributes.specs.declared.value.End.{End}
 use Rattle.attributes.specs.declared.value.End.the-variants.{At, Short}
 use Rattle.tables.specs.Row.{rowWidth, rowAt, attrAt, endianOf}
-use Rattle.tables.specs.Test.{fitting, isAt, attrHolds, runHolds, rowHolds, rowsHold, tableHolds, TableHolds}
-use Rattle.tables.proofs.Laws.Test.{both, RowPassed, row-passed, rows-step, Fits, fits-all}
+use Rattle.tables.specs.Holds.{fitting, isAt, attrHolds, runHolds, rowHolds, rowsHold, tableHolds, TableHolds}
+use Rattle.tables.proofs.Laws.Holds.{both, RowPassed, row-passed, rows-step, Fits, fits-all}
 use Rattle.tables.specs.Inside.Find.{Rising}
 use Rattle.tables.specs.declared.row.Attr.{Attr}
 use Rattle.tables.specs.declared.row.Counts.{Counts}
@@ -121,25 +121,25 @@ module _ {s vendors rows attrs : List ℕ} {counts : Counts} (checked : TableHol
   parts = both (fitting counts (length rows) (length attrs)) (rowsHold s vendors rows attrs (counts .attrs) 0 (counts .rows) 0 0) (checked .holds)
 
   -- the counts are allowed, and fit the lent words
-  pub checked-fits : Fits counts (length rows) (length attrs)
-  checked-fits = fits-all counts (length rows) (length attrs) (parts .0)
+  pub held-fits : Fits counts (length rows) (length attrs)
+  held-fits = fits-all counts (length rows) (length attrs) (parts .0)
 
-  pub checked-rows-few : counts .rows ≤ entryLimit
-  checked-rows-few = checked-fits .rows-few
+  pub held-rows-few : counts .rows ≤ entryLimit
+  held-rows-few = held-fits .rows-few
 
   -- each row's key lies in the section
-  pub checked-inside : (i : ℕ) → i < counts .rows → rowAt rows i .key < length s
-  checked-inside i h = inside-at s vendors rows attrs (counts .attrs) (counts .rows) (parts .1) i h
+  pub held-inside : (i : ℕ) → i < counts .rows → rowAt rows i .key < length s
+  held-inside i h = inside-at s vendors rows attrs (counts .attrs) (counts .rows) (parts .1) i h
 
   -- each attribute of a row has a known number, and a value that ends inside
-  pub checked-attr : (i : ℕ) → i < counts .rows → (k : ℕ) → rowAt rows i .first ≤ k → k < rowAt rows i .first + rowAt rows i .count
+  pub held-attr : (i : ℕ) → i < counts .rows → (k : ℕ) → rowAt rows i .first ≤ k → k < rowAt rows i .first + rowAt rows i .count
       → AttrKnown s vendors (endianOf (rowAt rows i .flags)) (attrAt attrs k)
-  checked-attr = known-at s vendors rows attrs (counts .attrs) (counts .rows) (parts .1)
+  held-attr = known-at s vendors rows attrs (counts .attrs) (counts .rows) (parts .1)
 
   -- keys rise, so that the row of a key is found by bisection
-  pub checked-rising : Rising rows (counts .rows)
-  checked-rising =
-      let lent : counts .rows * rowWidth ≤ length rows = checked-fits .rows-lent in
+  pub held-rising : Rising rows (counts .rows)
+  held-rising =
+      let lent : counts .rows * rowWidth ≤ length rows = held-fits .rows-lent in
       record {
         few = omega arith;
         rise = λ i h. (let up : rowAt rows i .key + 4 ≤ rowAt rows (i + 1) .key = above-at s vendors rows attrs (counts .attrs) (counts .rows) (parts .1) i h in omega arith);

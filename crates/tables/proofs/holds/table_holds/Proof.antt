@@ -1,8 +1,8 @@
-use Rattle.tables.proofs.Laws.Test.{table-many-rows, table-short-rows, table-many-attrs, table-short-attrs, table-rows}
+use Rattle.tables.proofs.Laws.Holds.{table-many-rows, table-short-rows, table-many-attrs, table-short-attrs, table-rows}
 use borrow.Author.Needs.{needs}
 use mathlib.Core.Path.{_∙_}
-use Rattle.tables.proofs.test.table_holds.Statement.{statement}
-use Rattle.tables.proofs.test.table_holds.Tie as tie
+use Rattle.tables.proofs.holds.table_holds.Statement.{statement}
+use Rattle.tables.proofs.holds.table_holds.Tie as tie
 
 returns : tie.Need-returns
 returns c = table-many-rows _ _ _ _ _ (c .if1 .taken)
