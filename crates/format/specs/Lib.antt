@@ -12,6 +12,7 @@ pub mod LocationOp
 pub mod SubscriptFormat
 pub mod Limits
 pub mod Refusal
+pub mod Said
 pub mod Settings
 pub mod InputA
 -- What functions inside promise. Nothing public rests on it.

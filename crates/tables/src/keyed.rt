@@ -11,7 +11,8 @@ ghost use mathlib.Core.Path.{_≡_};
 ghost use Rattle.tables.specs.Table.{table};
 ghost use Rattle.tables.specs.Find.{rowOfKey};
 ghost use Rattle.tables.specs.Inside.Find.{Rising};
-ghost use Rattle.tables.specs.Keyed.{rowBy, inRowOfKey};
+ghost use Rattle.tables.specs.Keyed.{foundRow, rowOf};
+ghost use Rattle.tables.specs.Inside.Keyed.{saidKeyed};
 
 // The row that has a key.
 pub enum Keyed {
@@ -22,7 +23,7 @@ pub enum Keyed {
 // The row of a key, in a table that was tested.
 fn find_key(rows: &[u32], n: usize, key: u32) -> Keyed
     requires { ⌜ Rising (now rows) n ⌝ }
-    ensures { λ r. ⌜ r ≡ rowBy key Keyed.Refused Keyed.Row (rowOfKey (now (rows .entry)) n key) ⌝ }
+    ensures { λ r. ⌜ saidKeyed r ≡ foundRow key (rowOfKey (now (rows .entry)) n key) ⌝ }
 {
     match find_row(rows, n, key) {
         Found::At(i) => Keyed::Row(i),
@@ -45,8 +46,8 @@ pub fn row_of(
     key: u32,
 ) -> Keyed
     ensures { λ r. ⌜
-        r ≡ inRowOfKey (table (now (s .entry)) settings (now (vendors .entry)) (now (sizes .entry)) (now (rows .entry)) (now (attrs .entry)) counts)
-        key Keyed.Refused Keyed.Row
+        saidKeyed r ≡ rowOf (table (now (s .entry)) settings (now (vendors .entry)) (now (sizes .entry)) (now (rows .entry)) (now (attrs .entry))
+        counts) key
         ⌝ }
 {
     match test_table(s, settings, vendors, sizes, rows, attrs, counts) {

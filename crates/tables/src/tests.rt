@@ -8,7 +8,8 @@ use format::settings::Settings;
 use format::settings::settings_hold;
 ghost use mathlib.Core.Path.{_≡_};
 ghost use Rattle.tables.specs.Table.{table};
-ghost use Rattle.tables.specs.Tests.{Tells, refusedAt};
+ghost use Rattle.tables.specs.Tests.{Tells};
+ghost use Rattle.tables.specs.Inside.Keyed.{refusedAt};
 
 pub enum Tested {
     Passed,

@@ -1,92 +1,71 @@
--- What follows from `Check`: a call goes on with what passed, and hands on what was refused.
+-- For each way that the code tests; and what holds where all three passed.
 use Prim.Native.Nat.{ℕ, _≤_, _<_}
-use mathlib.Core.Path.{_≡_, refl, sym, _∙_, subst}
-use mathlib.Core.Bool.{Bool, true, false}
+use mathlib.Core.Path.{_≡_, sym, ap, _∙_}
+use mathlib.Core.Bool.{true, false}
 use mathlib.Core.List.{List}
 use lib.ListN.{length}
 use lib.Dec.{ltb}
 use borrow.Author.Tests.{lt-ltb, le-ltb, ltb-true}
-use Rattle.tables.specs.Table.{table}
+use Rattle.tables.specs.Table.{Table, table}
 use Rattle.format.specs.Limits.{sectionLimit}
 use Rattle.format.specs.Settings.{settingsHold}
 use Rattle.format.specs.declared.settings.Settings.{Settings}
-use Rattle.format.specs.declared.refusal.Refusal.{Refusal}
 use Rattle.format.specs.declared.refusal.Reason.the-variants as reason
 use Rattle.tables.specs.Holds.{tableHolds, TableHolds}
-use Rattle.tables.specs.Tests.{refusedAt, afterTests, tested, Tells}
+use Rattle.format.specs.Said.{gives, must, _>>_}
+use Rattle.format.proofs.Laws.Said.{case-said, must-gave, last-gave}
+use Rattle.tables.specs.Tests.{saidTested, testTable, Tells}
+use Rattle.tables.specs.Inside.Keyed.{refusedAt}
 use Rattle.tables.specs.declared.row.Counts.{Counts}
 use Rattle.tables.specs.declared.tests.Tested.{Tested}
 use Rattle.tables.specs.declared.tests.Tested.the-variants.{Passed, Refused}
 
--- ---- what the tests come to tells what every call comes to
+-- ---- the three tests passed
 
-abbrev Comes : {A : Type 0} → Bool → Bool → Bool → (Refusal → A) → A → Tested → Type 0
-Comes a b c refused answer Passed = answer ≡ afterTests a b c refused answer
-Comes a b c refused answer (Refused why) = refused why ≡ afterTests a b c refused answer
+pub record Holding (t : Table) : Type 0 where
+  pub settings-hold : settingsHold (t .settings) (t .vendors) (t .sizes) ≡ true
+  pub section-short : ltb (length (t .section)) sectionLimit ≡ true
+  pub table-holds : tableHolds (t .section) (t .vendors) (t .rows) (t .attrs) (t .counts) ≡ true
 
-comes : {A : Type 0} (a b c : Bool) (refused : Refusal → A) (answer : A) → Comes a b c refused answer (afterTests a b c Refused Passed)
-unfolding afterTests
-comes true true true refused answer = refl
-comes true true false refused answer = refl
-comes true false c refused answer = refl
-comes false b c refused answer = refl
+pub tests-hold : (t : Table) → testTable t ≡ gives tt → Holding t
+unfolding testTable
+tests-hold t p =
+    let first = must-gave (settingsHold (t .settings) (t .vendors) (t .sizes)) reason.Settings 0 _ p in
+    let second = must-gave (ltb (length (t .section)) sectionLimit) reason.Long 0 _ (first .1) in
+    record { settings-hold = first .0; section-short = second .0; table-holds = last-gave _ reason.Table 0 (second .1) }
 
--- what passed holds
-abbrev Holds : Bool → Bool → Bool → Tested → Type 0
-Holds a b c Passed = (a ≡ true) × (b ≡ true) × (c ≡ true)
-Holds a b c (Refused why) = Unit
-
-holds : (a b c : Bool) → Holds a b c (afterTests a b c Refused Passed)
-unfolding afterTests
-holds true true true = (refl, refl, refl)
-holds true true false = tt
-holds true false c = tt
-holds false b c = tt
+-- ---- what passed holds
 
 module _ {settings : Settings} {vendors sizes s rows attrs : List ℕ} {counts : Counts} {r : Tested} where
-  pub passed-answer : {A : Type 0} (refused : Refusal → A) (answer : A) → Tells (table s settings vendors sizes rows attrs counts) r → r ≡ Passed → answer ≡ tested (table s settings vendors sizes rows attrs counts) refused answer
-  unfolding tested
-  passed-answer refused answer is p =
-      subst (Comes _ _ _ refused answer) (sym (is .told) ∙ p)
-      (comes (settingsHold settings vendors sizes) (ltb (length s) sectionLimit) (tableHolds s vendors rows attrs counts) refused answer)
-
-  pub refused-answer : {A : Type 0} (refused : Refusal → A) (answer : A) {why : Refusal} → Tells (table s settings vendors sizes rows attrs counts) r → r ≡ Refused why
-      → refused why ≡ tested (table s settings vendors sizes rows attrs counts) refused answer
-  unfolding tested
-  refused-answer refused answer is p =
-      subst (Comes _ _ _ refused answer) (sym (is .told) ∙ p)
-      (comes (settingsHold settings vendors sizes) (ltb (length s) sectionLimit) (tableHolds s vendors rows attrs counts) refused answer)
-
-  passed-holds : Tells (table s settings vendors sizes rows attrs counts) r → r ≡ Passed → Holds (settingsHold settings vendors sizes) (ltb (length s) sectionLimit) (tableHolds s vendors rows attrs counts) Passed
-  unfolding tested
-  passed-holds is p =
-      subst (Holds _ _ _) (sym (is .told) ∙ p) (holds (settingsHold settings vendors sizes) (ltb (length s) sectionLimit) (tableHolds s vendors rows attrs counts))
+  passed-holds : Tells (table s settings vendors sizes rows attrs counts) r → r ≡ Passed → Holding (table s settings vendors sizes rows attrs counts)
+  unfolding saidTested
+  passed-holds is p = tests-hold (table s settings vendors sizes rows attrs counts) (sym (case-said saidTested (is .told) p))
 
   pub passed-held : Tells (table s settings vendors sizes rows attrs counts) r → r ≡ Passed → TableHolds s vendors rows attrs counts
-  passed-held is p = record { holds = passed-holds is p .2 }
+  passed-held is p = record { holds = passed-holds is p .table-holds }
 
   pub passed-short : Tells (table s settings vendors sizes rows attrs counts) r → r ≡ Passed → length s < sectionLimit
-  passed-short is p = ltb-true (length s) sectionLimit (passed-holds is p .1)
+  passed-short is p = ltb-true (length s) sectionLimit (passed-holds is p .section-short)
 
 -- ---- the ways through the code
 
 module _ (settings : Settings) (vendors sizes s rows attrs : List ℕ) (counts : Counts) where
-  pub check-settings : settingsHold settings vendors sizes ≡ false
-      → {r : Tested} → r ≡ Refused (refusedAt 0 reason.Settings) → Tells (table s settings vendors sizes rows attrs counts) r
-  unfolding tested afterTests
-  check-settings h e = record { told = e ∙ rw h }
+  pub settings-fail : settingsHold settings vendors sizes ≡ false → {r : Tested} → r ≡ Refused (refusedAt 0 reason.Settings)
+      → Tells (table s settings vendors sizes rows attrs counts) r
+  unfolding testTable must _>>_ saidTested
+  settings-fail h e = record { told = ap saidTested e ∙ rw h }
 
-  pub check-long : settingsHold settings vendors sizes ≡ true → sectionLimit ≤ length s
-      → {r : Tested} → r ≡ Refused (refusedAt 0 reason.Long) → Tells (table s settings vendors sizes rows attrs counts) r
-  unfolding tested afterTests
-  check-long h k e = record { told = e ∙ rw (h, le-ltb (length s) sectionLimit k) }
+  pub section-long : settingsHold settings vendors sizes ≡ true → sectionLimit ≤ length s → {r : Tested} → r ≡ Refused (refusedAt 0 reason.Long)
+      → Tells (table s settings vendors sizes rows attrs counts) r
+  unfolding testTable must _>>_ saidTested
+  section-long h k e = record { told = ap saidTested e ∙ rw (h, le-ltb (length s) sectionLimit k) }
 
-  pub test-table : settingsHold settings vendors sizes ≡ true → length s < sectionLimit → tableHolds s vendors rows attrs counts ≡ false
+  pub table-fails : settingsHold settings vendors sizes ≡ true → length s < sectionLimit → tableHolds s vendors rows attrs counts ≡ false
       → {r : Tested} → r ≡ Refused (refusedAt 0 reason.Table) → Tells (table s settings vendors sizes rows attrs counts) r
-  unfolding tested afterTests
-  test-table h k t e = record { told = e ∙ rw (h, lt-ltb (length s) sectionLimit k, t) }
+  unfolding testTable must _>>_ saidTested
+  table-fails h k t e = record { told = ap saidTested e ∙ rw (h, lt-ltb (length s) sectionLimit k, t) }
 
-  pub check-passed : settingsHold settings vendors sizes ≡ true → length s < sectionLimit → tableHolds s vendors rows attrs counts ≡ true
-      → {r : Tested} → r ≡ Passed → Tells (table s settings vendors sizes rows attrs counts) r
-  unfolding tested afterTests
-  check-passed h k t e = record { told = e ∙ rw (h, lt-ltb (length s) sectionLimit k, t) }
+  pub all-pass : settingsHold settings vendors sizes ≡ true → length s < sectionLimit → tableHolds s vendors rows attrs counts ≡ true
+      → Tells (table s settings vendors sizes rows attrs counts) Passed
+  unfolding testTable must _>>_ saidTested
+  all-pass h k t = record { told = rw (h, lt-ltb (length s) sectionLimit k, t) }
