@@ -1,5 +1,8 @@
--- Laws. `Location` to `Subscripts`: what the code computes. `Filled`: the words of the dimensions are complete, and fill the room. `StandardRead`: the
--- shapes that the standard writes are read back; `StandardWritten`: nothing else is taken. `Only`: no second answer fits.
+-- Laws. `Number`: a number that was read. `Back`: what is said leads back to the code's enums. `Location` to `Subscripts`: what the code computes. `Filled`: the words
+-- of the dimensions are complete, and fill the room. `StandardRead`: the shapes that the standard writes are read back; `StandardWritten`: nothing else is
+-- taken. `Only`: no second answer fits.
+pub mod Number
+pub mod Back
 pub mod Location
 pub mod Modifiers
 pub mod Producer

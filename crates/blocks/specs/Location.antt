@@ -9,17 +9,32 @@ use Rattle.numbers.specs.declared.Endian.{Endian}
 use Rattle.format.specs.declared.location_op.LocationOp.{LocationOp}
 use Rattle.format.specs.declared.location_op.LocationOp.the-variants.{Register, BaseRegister, Address, Const, Deref2, Deref4, Add, MwFpReg, MwFpDReg}
 use Rattle.format.specs.declared.location_op.LocationOp.the-variants.{MwDRef8, Unknown}
-use Rattle.format.specs.declared.refusal.Refusal.{Refusal}
-use Rattle.format.specs.declared.refusal.Reason.{Reason}
 use Rattle.format.specs.declared.refusal.Reason.the-variants as reason
+use Rattle.format.specs.Said.{Said, gives, refuse, refusal, must, _>>_}
 use Rattle.blocks.specs.declared.location.Located.{Located}
 use Rattle.blocks.specs.declared.location.Located.the-variants as located
 use Rattle.blocks.specs.declared.location.VariableLocation.{VariableLocation}
 use Rattle.blocks.specs.declared.location.VariableLocation.the-variants as variable
 
--- a refusal of a block alone: its place is 0
-abbrev pub refusedBlock : Reason → Refusal
-refusedBlock why = record { reason = why; place = 0 }
+-- ---- what the answers say; a refusal of a block alone has the place 0
+
+-- an offset or an address
+unfoldable pub saidLocated : Located → Said ℕ
+saidLocated (located.Is n) = gives n
+saidLocated (located.Refused why) = refusal why
+
+-- where a variable is: in a register, at an address, at a register plus an offset
+pub data VariablePlace : Type 0 where
+  inRegister : ℕ → VariablePlace
+  atAddress : ℕ → VariablePlace
+  atRegisterPlus : ℕ → ℕ → VariablePlace
+
+-- such a place
+unfoldable pub saidVariableLocation : VariableLocation → Said VariablePlace
+saidVariableLocation (variable.Register n) = gives (inRegister n)
+saidVariableLocation (variable.Address n) = gives (atAddress n)
+saidVariableLocation (variable.RegisterPlus r n) = gives (atRegisterPlus r n)
+saidVariableLocation (variable.Refused why) = refusal why
 
 -- ---- atoms
 
@@ -64,16 +79,18 @@ operandAt e block at = readAt (λ (n : ℕ). n) 0 e 4 block at
 -- ---- the shapes that are taken
 
 -- the first operand of a block that is made of these atoms; any other block is 17
-unfoldable pub shapeOperand : List LocationOp → Endian → List ℕ → Located
+unfoldable pub shapeOperand : List LocationOp → Endian → List ℕ → Said ℕ
 unfolding madeOf
-shapeOperand ops e block = cond (madeOf ops block 0) (located.Is (operandAt e block 1)) (located.Refused (refusedBlock reason.Block))
+shapeOperand ops e block = do
+  must (madeOf ops block 0) reason.Block 0
+  gives (operandAt e block 1)
 
 -- `process_offset`: CONST n, ADD
-abbrev pub processOffset : Endian → List ℕ → Located
+abbrev pub processOffset : Endian → List ℕ → Said ℕ
 processOffset e block = shapeOperand (Const ∷ Add ∷ []) e block
 
 -- `process_address`: ADDR a
-abbrev pub processAddress : Endian → List ℕ → Located
+abbrev pub processAddress : Endian → List ℕ → Said ℕ
 processAddress e block = shapeOperand (Address ∷ []) e block
 
 -- a register alone: REG r, BASEREG r, or Metrowerks' floating one
@@ -87,9 +104,9 @@ unfolding madeOf
 isRegisterPlus block = madeOf (BaseRegister ∷ Const ∷ Add ∷ []) block 0
 
 -- `process_variable_location`: a register, an address, or a register plus an offset
-unfoldable pub processVariableLocation : Endian → List ℕ → VariableLocation
+unfoldable pub processVariableLocation : Endian → List ℕ → Said VariablePlace
 unfolding madeOf
 processVariableLocation e block =
-    cond (isRegister block) (variable.Register (operandAt e block 1))
-    (cond (madeOf (Address ∷ []) block 0) (variable.Address (operandAt e block 1))
-    (cond (isRegisterPlus block) (variable.RegisterPlus (operandAt e block 1) (operandAt e block 6)) (variable.Refused (refusedBlock reason.Block))))
+    cond (isRegister block) (gives (inRegister (operandAt e block 1)))
+    (cond (madeOf (Address ∷ []) block 0) (gives (atAddress (operandAt e block 1)))
+    (cond (isRegisterPlus block) (gives (atRegisterPlus (operandAt e block 1) (operandAt e block 6))) (refuse reason.Block 0)))

@@ -1,14 +1,19 @@
 -- Modifiers (document 01, 'Types, records, sizes'): each byte says one, its high bit dropped; one that is not known is 18.
 use Prim.Native.Nat.{ℕ}
-use mathlib.Core.Bool.{Bool, true, false, cond, _&&_, _||_}
+use mathlib.Core.Bool.{Bool, true, false, _&&_, _||_}
 use mathlib.Core.List.{List, [], _∷_}
 use Rattle.format.specs.Modifier.{modifierOf}
 use Rattle.format.specs.declared.modifier.Modifier.{Modifier}
 use Rattle.format.specs.declared.modifier.Modifier.the-variants.{MwPointerTo, PointerTo, ReferenceTo, Const, Volatile, Unknown}
 use Rattle.format.specs.declared.refusal.Reason.the-variants as reason
-use Rattle.blocks.specs.Location.{refusedBlock}
+use Rattle.format.specs.Said.{Said, gives, refusal, must, _>>_}
 use Rattle.blocks.specs.declared.modifiers.Modifiers.{Modifiers}
 use Rattle.blocks.specs.declared.modifiers.Modifiers.the-variants.{Known, Refused}
+
+-- what an answer says: whether a pointer or a reference stands among modifiers that are known
+unfoldable pub saidModifiers : Modifiers → Said Bool
+saidModifiers (Known pointer) = gives pointer
+saidModifiers (Refused why) = refusal why
 
 -- a modifier that document 01 names
 unfoldable pub isKnown : Modifier → Bool
@@ -39,5 +44,7 @@ anyPointer [] = false
 anyPointer (m ∷ rest) = isPointer (modifierOf m) || anyPointer rest
 
 -- `process_modifiers`
-unfoldable pub processModifiers : List ℕ → Modifiers
-processModifiers block = cond (allKnown block) (Known (anyPointer block)) (Refused (refusedBlock reason.Number))
+unfoldable pub processModifiers : List ℕ → Said Bool
+processModifiers block = do
+  must (allKnown block) reason.Number 0
+  gives (anyPointer block)

@@ -8,8 +8,8 @@ ghost use mathlib.Core.Path.{_≡_};
 ghost use mathlib.Core.List.{[], _∷_};
 ghost use lib.ListN.{getD};
 ghost use Rattle.format.specs.declared.location_op.LocationOp.the-variants as op;
-ghost use Rattle.blocks.specs.Location.{refusedBlock, madeOf, operandAt, isRegister, isRegisterPlus, processOffset, processAddress};
-ghost use Rattle.blocks.specs.Location.{processVariableLocation};
+ghost use Rattle.blocks.specs.Location.{saidLocated, saidVariableLocation, madeOf, operandAt, isRegister, isRegisterPlus, processOffset};
+ghost use Rattle.blocks.specs.Location.{processAddress, processVariableLocation};
 
 const REGISTER: u8 = 0x01;
 
@@ -39,7 +39,7 @@ pub enum VariableLocation {
 
 // A refusal of a block alone, which has no key: its place is 0.
 pub(crate) fn refused_block(reason: Reason) -> Refusal
-    ensures { λ r. ⌜ r ≡ refusedBlock reason ⌝ }
+    ensures { λ r. ⌜ r ≡ record { reason = reason; place = 0 } ⌝ }
 {
     Refusal { reason, place: 0 }
 }
@@ -91,7 +91,7 @@ fn is_register_plus(block: &[u8]) -> bool
 
 // The offset of a member: CONST n, ADD.
 pub fn process_offset(block: &[u8], e: Endian) -> Located
-    ensures { λ r. ⌜ r ≡ processOffset e (now (block .entry)) ⌝ }
+    ensures { λ r. ⌜ saidLocated r ≡ processOffset e (now (block .entry)) ⌝ }
 {
     if is_offset(block) {
         Located::Is(operand_at(block, 1, e))
@@ -102,7 +102,7 @@ pub fn process_offset(block: &[u8], e: Endian) -> Located
 
 // The address of a variable: ADDR a.
 pub fn process_address(block: &[u8], e: Endian) -> Located
-    ensures { λ r. ⌜ r ≡ processAddress e (now (block .entry)) ⌝ }
+    ensures { λ r. ⌜ saidLocated r ≡ processAddress e (now (block .entry)) ⌝ }
 {
     if is_address(block) {
         Located::Is(operand_at(block, 1, e))
@@ -113,7 +113,7 @@ pub fn process_address(block: &[u8], e: Endian) -> Located
 
 // Where a variable is: a register, an address, or a register plus an offset.
 pub fn process_variable_location(block: &[u8], e: Endian) -> VariableLocation
-    ensures { λ r. ⌜ r ≡ processVariableLocation e (now (block .entry)) ⌝ }
+    ensures { λ r. ⌜ saidVariableLocation r ≡ processVariableLocation e (now (block .entry)) ⌝ }
 {
     if is_register(block) {
         VariableLocation::Register(operand_at(block, 1, e))

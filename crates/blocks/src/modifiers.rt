@@ -5,7 +5,7 @@ use format::modifier::parse_int;
 use format::refusal::Reason;
 use format::refusal::Refusal;
 ghost use mathlib.Core.Path.{_≡_};
-ghost use Rattle.blocks.specs.Modifiers.{isKnown, isPointer, processModifiers};
+ghost use Rattle.blocks.specs.Modifiers.{saidModifiers, isKnown, isPointer, processModifiers};
 
 // All are known: does a pointer or a reference stand among them? Or 18.
 pub enum Modifiers {
@@ -42,7 +42,7 @@ fn is_pointer(m: Modifier) -> bool
 
 // Whether a pointer or a reference stands among modifiers; or 18 for one that is not known.
 pub fn process_modifiers(block: &[u8]) -> Modifiers
-    ensures { λ r. ⌜ r ≡ processModifiers (now (block .entry)) ⌝ }
+    ensures { λ r. ⌜ saidModifiers r ≡ processModifiers (now (block .entry)) ⌝ }
 {
     let mut pointer = false;
     let mut i = 0;

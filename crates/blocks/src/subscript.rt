@@ -24,9 +24,11 @@ use numbers::unsigned::u32_at;
 use std::num::wrapping_add_u32;
 ghost use mathlib.Core.Path.{_≡_};
 ghost use Rattle.format.specs.FundType.{fundTypeOf};
-ghost use Rattle.blocks.specs.Types.{processType};
-ghost use Rattle.blocks.specs.Subscript.{lowBound, knownIndex, indexAt, highBound, constBound, locationSize, sizedDimension, highLocationBy};
-ghost use Rattle.blocks.specs.Subscript.{highLocation, locationBound, elementOf, elementTypeAt, subscriptAs, nextSubscript};
+ghost use Rattle.attributes.specs.declared.read.Attribute.the-variants as attribute;
+ghost use Rattle.blocks.specs.Location.{saidLocated};
+ghost use Rattle.blocks.specs.Subscript.{saidSubscript, indexAt, constBound, locationSize, locationBound, elementAs, elementTypeAt, subscriptAs};
+ghost use Rattle.blocks.specs.Subscript.{nextSubscript};
+ghost use Rattle.blocks.specs.Inside.Subscript.{saidIndex, lowBound, knownIndex, highBound, sizedDimension, sizedBy, highLocation};
 
 pub enum Subscript {
     // The index type and the size; 0 is unbounded.
@@ -43,7 +45,7 @@ pub enum Index {
 
 // The low bound must be 0.
 fn low_bound(block: &[u8], e: Endian, index: u16) -> Index
-    ensures { λ r. ⌜ r ≡ lowBound e (now (block .entry)) index ⌝ }
+    ensures { λ r. ⌜ saidIndex r ≡ lowBound e (now (block .entry)) index ⌝ }
 {
     match u32_at(block, 3, e) {
         Read32::Value(low) => {
@@ -59,7 +61,7 @@ fn low_bound(block: &[u8], e: Endian, index: u16) -> Index
 
 // An index type does not pass `parse_int`.
 fn known_index(block: &[u8], e: Endian, number: u16) -> Index
-    ensures { λ r. ⌜ r ≡ knownIndex e (now (block .entry)) (fundTypeOf number) ⌝ }
+    ensures { λ r. ⌜ saidIndex r ≡ knownIndex e (now (block .entry)) (fundTypeOf number) ⌝ }
 {
     match try_from(number) {
         FundType::Known(index) => low_bound(block, e, index),
@@ -68,7 +70,7 @@ fn known_index(block: &[u8], e: Endian, number: u16) -> Index
 }
 
 fn index_at(block: &[u8], e: Endian) -> Index
-    ensures { λ r. ⌜ r ≡ indexAt e (now (block .entry)) ⌝ }
+    ensures { λ r. ⌜ saidIndex r ≡ indexAt e (now (block .entry)) ⌝ }
 {
     match u16_at(block, 1, e) {
         Read16::Value(number) => known_index(block, e, number),
@@ -78,7 +80,7 @@ fn index_at(block: &[u8], e: Endian) -> Index
 
 // The high bound plus one, wrapping: 0xFFFFFFFF is unbounded.
 fn high_bound(block: &[u8], e: Endian, index: u16) -> Subscript
-    ensures { λ r. ⌜ r ≡ highBound e (now (block .entry)) index ⌝ }
+    ensures { λ r. ⌜ saidSubscript r ≡ highBound e (now (block .entry)) index ⌝ }
 {
     match u32_at(block, 7, e) {
         Read32::Value(high) => Subscript::Dimension {
@@ -92,7 +94,7 @@ fn high_bound(block: &[u8], e: Endian, index: u16) -> Subscript
 
 // Format 0.
 fn const_bound(block: &[u8], e: Endian) -> Subscript
-    ensures { λ r. ⌜ r ≡ constBound e (now (block .entry)) ⌝ }
+    ensures { λ r. ⌜ saidSubscript r ≡ constBound e (now (block .entry)) ⌝ }
 {
     match index_at(block, e) {
         Index::Is(index) => high_bound(block, e, index),
@@ -102,7 +104,7 @@ fn const_bound(block: &[u8], e: Endian) -> Subscript
 
 // A location's offset is the size itself; an empty one is unbounded.
 fn location_size(location: &[u8], e: Endian) -> Located
-    ensures { λ r. ⌜ r ≡ locationSize e (now (location .entry)) ⌝ }
+    ensures { λ r. ⌜ saidLocated r ≡ locationSize e (now (location .entry)) ⌝ }
 {
     if location.len() == 0 {
         Located::Is(0)
@@ -112,7 +114,7 @@ fn location_size(location: &[u8], e: Endian) -> Located
 }
 
 fn sized_dimension(location: &[u8], e: Endian, index: u16) -> Subscript
-    ensures { λ r. ⌜ r ≡ sizedDimension e index (now (location .entry)) ⌝ }
+    ensures { λ r. ⌜ saidSubscript r ≡ sizedDimension e index (now (location .entry)) ⌝ }
 {
     match location_size(location, e) {
         Located::Is(size) => Subscript::Dimension {
@@ -126,7 +128,7 @@ fn sized_dimension(location: &[u8], e: Endian, index: u16) -> Subscript
 
 // A location of n bytes.
 fn sized_by(block: &[u8], e: Endian, index: u16, n: usize) -> Subscript
-    ensures { λ r. ⌜ r ≡ highLocationBy e (now (block .entry)) index n ⌝ }
+    ensures { λ r. ⌜ saidSubscript r ≡ sizedBy e (now (block .entry)) index n ⌝ }
 {
     if bytes_there(block, 9, n) {
         sized_dimension(part(block, 9, n), e, index)
@@ -136,7 +138,7 @@ fn sized_by(block: &[u8], e: Endian, index: u16, n: usize) -> Subscript
 }
 
 fn high_location(block: &[u8], e: Endian, index: u16) -> Subscript
-    ensures { λ r. ⌜ r ≡ highLocation e (now (block .entry)) index ⌝ }
+    ensures { λ r. ⌜ saidSubscript r ≡ highLocation e (now (block .entry)) index ⌝ }
 {
     match u16_at(block, 7, e) {
         Read16::Value(n) => sized_by(block, e, index, n as usize),
@@ -146,7 +148,7 @@ fn high_location(block: &[u8], e: Endian, index: u16) -> Subscript
 
 // Format 1.
 fn location_bound(block: &[u8], e: Endian) -> Subscript
-    ensures { λ r. ⌜ r ≡ locationBound e (now (block .entry)) ⌝ }
+    ensures { λ r. ⌜ saidSubscript r ≡ locationBound e (now (block .entry)) ⌝ }
 {
     match index_at(block, e) {
         Index::Is(index) => high_location(block, e, index),
@@ -155,7 +157,7 @@ fn location_bound(block: &[u8], e: Endian) -> Subscript
 }
 
 fn element_type(block: &[u8], e: Endian, number: u16, value: usize, used: usize) -> Subscript
-    ensures { λ r. ⌜ r ≡ elementOf used (processType (record { section = e; «data» = e }) (now (block .entry)) number value) ⌝ }
+    ensures { λ r. ⌜ saidSubscript r ≡ elementAs e (now (block .entry)) (attribute.Read number value used) ⌝ }
 {
     let ends = Endians {
         section: e,
@@ -169,7 +171,7 @@ fn element_type(block: &[u8], e: Endian, number: u16, value: usize, used: usize)
 
 // Format 8: a type attribute. No vendor number is one, so none need be known here.
 fn element(block: &[u8], e: Endian) -> Subscript
-    ensures { λ r. ⌜ r ≡ elementTypeAt e (now (block .entry)) ⌝ }
+    ensures { λ r. ⌜ saidSubscript r ≡ elementTypeAt e (now (block .entry)) ⌝ }
 {
     let vendors = [0u16; 0];
     match read_attribute(block, 1, e, &vendors) {
@@ -184,7 +186,7 @@ fn element(block: &[u8], e: Endian) -> Subscript
 }
 
 fn subscript_as(block: &[u8], e: Endian, format: SubscriptFormat) -> Subscript
-    ensures { λ r. ⌜ r ≡ subscriptAs e (now (block .entry)) format ⌝ }
+    ensures { λ r. ⌜ saidSubscript r ≡ subscriptAs e (now (block .entry)) format ⌝ }
 {
     match format {
         SubscriptFormat::FundTypeConstConst => const_bound(block, e),
@@ -206,7 +208,7 @@ fn subscript_as(block: &[u8], e: Endian, format: SubscriptFormat) -> Subscript
 
 // The subscript that a block begins with. What follows it is `&block[used..]`, and `used` is at least 1 and inside the block.
 pub fn next_subscript(block: &[u8], e: Endian) -> Subscript
-    ensures { λ r. ⌜ r ≡ nextSubscript e (now (block .entry)) ⌝ }
+    ensures { λ r. ⌜ saidSubscript r ≡ nextSubscript e (now (block .entry)) ⌝ }
 {
     if block.len() == 0 {
         return Subscript::Refused(refused_block(Reason::Block));

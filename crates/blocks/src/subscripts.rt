@@ -12,7 +12,8 @@ ghost use Prim.Native.Nat.{_*_};
 ghost use lib.ListN.{set};
 ghost use lib.Seq.{sets};
 ghost use Rattle.lent.specs.Outcome.{Given};
-ghost use Rattle.blocks.specs.Subscripts.{dimensionWords, elementOr, countSubscripts, processArraySubscriptData};
+ghost use Rattle.blocks.specs.Subscripts.{saidCounted, saidSubscripts, dimensionWords, elementOr, countSubscripts};
+ghost use Rattle.blocks.specs.Subscripts.{processArraySubscriptData};
 ghost use Rattle.blocks.specs.Inside.Subscripts.{Walked};
 
 // The words of a dimension: its index type, its size (0 is unbounded).
@@ -48,7 +49,7 @@ fn put_dimension(t: &mut [u32], n: usize, index: u16, size: u32)
 
 // An array needs an element type.
 fn element_or(element: Element, dimensions: usize) -> Counted
-    ensures { λ r. ⌜ r ≡ elementOr dimensions element ⌝ }
+    ensures { λ r. ⌜ saidCounted r ≡ elementOr dimensions element ⌝ }
 {
     match element {
         Element::Is(of) => Counted::Are {
@@ -85,7 +86,7 @@ fn walk_subscripts(block: &[u8], e: Endian, dims: &mut [u32]) -> Counted
 
 // The element type and the number of dimensions, with no room: all subscripts are read.
 pub fn count_subscripts(block: &[u8], e: Endian) -> Counted
-    ensures { λ r. ⌜ r ≡ countSubscripts e (now (block .entry)) ⌝ }
+    ensures { λ r. ⌜ saidCounted r ≡ countSubscripts e (now (block .entry)) ⌝ }
 {
     let mut none = [0u32; 0];
     walk_subscripts(block, e, &mut none)
@@ -93,7 +94,7 @@ pub fn count_subscripts(block: &[u8], e: Endian) -> Counted
 
 // The Rust's `process_array_subscript_data`: the dimensions into lent room, two words each; or a refusal, and the room stays as it was.
 pub fn process_array_subscript_data(block: &[u8], e: Endian, dims: &mut [u32]) -> Subscripts
-    ensures { λ r. ⌜ Given (processArraySubscriptData e (now (block .entry)) (now (dims .entry))) r (now (dims .exit)) ⌝ }
+    ensures { λ r. ⌜ Given (processArraySubscriptData e (now (block .entry)) (now (dims .entry))) (saidSubscripts r) (now (dims .exit)) ⌝ }
 {
     match count_subscripts(block, e) {
         Counted::Are {

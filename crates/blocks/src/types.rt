@@ -18,7 +18,7 @@ use numbers::unsigned::u16_at;
 use numbers::unsigned::u32_at;
 ghost use mathlib.Core.Path.{_≡_};
 ghost use Rattle.attributes.specs.Parts.{partAt};
-ghost use Rattle.blocks.specs.Types.{modified, fundamental, fundType, modFundType, userDefType, modUDType, processType};
+ghost use Rattle.blocks.specs.Types.{saidTyped, modified, fundamental, fundType, modFundType, userDefType, modUDType, processType};
 
 // A fundamental type, or the key of the entry that defines the type.
 pub enum TypeKind {
@@ -41,7 +41,7 @@ pub enum Typed {
 
 // A type with its modifiers, which stand from `place` on.
 fn modified(place: usize, modifiers: &[u8], kind: TypeKind) -> Typed
-    ensures { λ r. ⌜ r ≡ modified place (now (modifiers .entry)) kind ⌝ }
+    ensures { λ r. ⌜ saidTyped r ≡ modified place (now (modifiers .entry)) kind ⌝ }
 {
     match process_modifiers(modifiers) {
         Modifiers::Known { pointer } => Typed::Is(Type {
@@ -56,7 +56,7 @@ fn modified(place: usize, modifiers: &[u8], kind: TypeKind) -> Typed
 
 // A fundamental type's number comes before the modifiers in the order of faults.
 fn fundamental(place: usize, modifiers: &[u8], number: u16) -> Typed
-    ensures { λ r. ⌜ r ≡ fundamental place (now (modifiers .entry)) number ⌝ }
+    ensures { λ r. ⌜ saidTyped r ≡ fundamental place (now (modifiers .entry)) number ⌝ }
 {
     match parse_int(number) {
         FundType::Known(known) => modified(place, modifiers, TypeKind::Fundamental(known)),
@@ -66,7 +66,7 @@ fn fundamental(place: usize, modifiers: &[u8], number: u16) -> Typed
 
 // FundType: two bytes of data.
 fn fund_type(s: &[u8], at: usize, ends: Endians) -> Typed
-    ensures { λ r. ⌜ r ≡ fundType ends (now (s .entry)) at ⌝ }
+    ensures { λ r. ⌜ saidTyped r ≡ fundType ends (now (s .entry)) at ⌝ }
 {
     match data2(s, at, ends) {
         Read16::Value(number) => fundamental(at, &s[..0], number),
@@ -76,7 +76,7 @@ fn fund_type(s: &[u8], at: usize, ends: Endians) -> Typed
 
 // UserDefType: a reference.
 fn user_def_type(s: &[u8], at: usize, ends: Endians) -> Typed
-    ensures { λ r. ⌜ r ≡ userDefType ends (now (s .entry)) at ⌝ }
+    ensures { λ r. ⌜ saidTyped r ≡ userDefType ends (now (s .entry)) at ⌝ }
 {
     match reference(s, at, ends) {
         Read32::Value(key) => modified(at, &s[..0], TypeKind::UserDefined(key)),
@@ -86,7 +86,7 @@ fn user_def_type(s: &[u8], at: usize, ends: Endians) -> Typed
 
 // ModFundType's block: modifiers, then two bytes of fundamental type.
 fn mod_fund_type(block: &[u8], place: usize, e: Endian) -> Typed
-    ensures { λ r. ⌜ r ≡ modFundType e place (now (block .entry)) ⌝ }
+    ensures { λ r. ⌜ saidTyped r ≡ modFundType e place (now (block .entry)) ⌝ }
 {
     if block.len() < 2 {
         return Typed::Refused(refused_block(Reason::Block));
@@ -100,7 +100,7 @@ fn mod_fund_type(block: &[u8], place: usize, e: Endian) -> Typed
 
 // ModUDType's block: modifiers, then four bytes of reference.
 fn mod_u_d_type(block: &[u8], place: usize, e: Endian) -> Typed
-    ensures { λ r. ⌜ r ≡ modUDType e place (now (block .entry)) ⌝ }
+    ensures { λ r. ⌜ saidTyped r ≡ modUDType e place (now (block .entry)) ⌝ }
 {
     if block.len() < 4 {
         return Typed::Refused(refused_block(Reason::Block));
@@ -115,7 +115,7 @@ fn mod_u_d_type(block: &[u8], place: usize, e: Endian) -> Typed
 // The type that an attribute of this number, with its value at a place, says. An attribute that is no type attribute is 17, as is a place
 // past the end, where no byte stands; before it `at + 2` is a number still.
 pub fn process_type(s: &[u8], number: u16, at: usize, ends: Endians) -> Typed
-    ensures { λ r. ⌜ r ≡ processType ends (now (s .entry)) number at ⌝ }
+    ensures { λ r. ⌜ saidTyped r ≡ processType ends (now (s .entry)) number at ⌝ }
 {
     if s.len() < at {
         return Typed::Refused(refused_block(Reason::Block));

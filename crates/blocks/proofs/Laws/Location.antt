@@ -12,11 +12,10 @@ use Rattle.numbers.specs.declared.unsigned.Read32.{Read32}
 use Rattle.numbers.specs.declared.unsigned.Read32.the-variants.{Value, Short}
 use Rattle.format.specs.declared.location_op.LocationOp.{LocationOp}
 use Rattle.format.specs.declared.location_op.LocationOp.the-variants.{Address, Const, Add}
-use Rattle.format.specs.declared.refusal.Refusal.{Refusal}
 use Rattle.format.specs.declared.refusal.Reason.the-variants as reason
-use Rattle.blocks.specs.Location.{refusedBlock, atomNumber, operandWidth, madeOf, operandAt, isRegister, isRegisterPlus, processVariableLocation, shapeOperand}
-use Rattle.blocks.specs.declared.location.Located.the-variants as located
-use Rattle.blocks.specs.declared.location.VariableLocation.the-variants as variable
+use Rattle.format.specs.Said.{Said, gives, refuse}
+use Rattle.format.proofs.Laws.Said.{must-passed, must-failed}
+use Rattle.blocks.specs.Location.{VariablePlace, inRegister, atAddress, atRegisterPlus, atomNumber, operandWidth, madeOf, operandAt, isRegister, isRegisterPlus, processVariableLocation, shapeOperand}
 
 -- ---- bytes and operands
 
@@ -68,30 +67,30 @@ module _ (block : List ℕ) {first : ℕ} (is : first ≡ getD block 0 0) where
 -- ---- what a test that was made decides
 
 module _ (ops : List LocationOp) (e : Endian) (block : List ℕ) {made : Bool} (is : made ≡ madeOf ops block 0) where
-  pub operand-taken : made ≡ true → {n : ℕ} → n ≡ operandAt e block 1 → located.Is n ≡ shapeOperand ops e block
+  pub operand-taken : made ≡ true → {n : ℕ} → n ≡ operandAt e block 1 → gives n ≡ shapeOperand ops e block
   unfolding shapeOperand
-  operand-taken h p = rw (← is, h) (ap located.Is p)
+  operand-taken h p = must-passed is _ _ _ h (ap gives p)
 
-  pub operand-refused : made ≡ false → {why : Refusal} → why ≡ refusedBlock reason.Block → located.Refused why ≡ shapeOperand ops e block
+  pub operand-refused : made ≡ false → {z : Said ℕ} → z ≡ refuse reason.Block 0 → z ≡ shapeOperand ops e block
   unfolding shapeOperand
-  operand-refused h p = rw (← is, h) (ap located.Refused p)
+  operand-refused h p = must-failed is _ _ _ h p
 
 module _ (e : Endian) (block : List ℕ) {register : Bool} (is : register ≡ isRegister block) where
-  pub in-register : register ≡ true → {n : ℕ} → n ≡ operandAt e block 1 → variable.Register n ≡ processVariableLocation e block
+  pub in-register : register ≡ true → {n : ℕ} → n ≡ operandAt e block 1 → gives (inRegister n) ≡ processVariableLocation e block
   unfolding processVariableLocation
-  in-register h p = rw (← is, h) (ap variable.Register p)
+  in-register h p = rw (← is, h) (ap (λ (k : ℕ). gives (inRegister k)) p)
 
   module _ (no-register : register ≡ false) {address : Bool} (is-address : address ≡ madeOf (Address ∷ []) block 0) where
-    pub at-address : address ≡ true → {n : ℕ} → n ≡ operandAt e block 1 → variable.Address n ≡ processVariableLocation e block
+    pub at-address : address ≡ true → {n : ℕ} → n ≡ operandAt e block 1 → gives (atAddress n) ≡ processVariableLocation e block
     unfolding processVariableLocation
-    at-address h p = rw (← is, no-register, ← is-address, h) (ap variable.Address p)
+    at-address h p = rw (← is, no-register, ← is-address, h) (ap (λ (k : ℕ). gives (atAddress k)) p)
 
     module _ (no-address : address ≡ false) {plus : Bool} (is-plus : plus ≡ isRegisterPlus block) where
       pub at-register-plus : plus ≡ true → {r n : ℕ} → r ≡ operandAt e block 1 → n ≡ operandAt e block 6
-          → variable.RegisterPlus r n ≡ processVariableLocation e block
+          → gives (atRegisterPlus r n) ≡ processVariableLocation e block
       unfolding processVariableLocation
       at-register-plus h p q = rw (← is, no-register, ← is-address, no-address, ← is-plus, h, p, q)
 
-      pub nowhere : plus ≡ false → {why : Refusal} → why ≡ refusedBlock reason.Block → variable.Refused why ≡ processVariableLocation e block
+      pub nowhere : plus ≡ false → {z : Said VariablePlace} → z ≡ refuse reason.Block 0 → z ≡ processVariableLocation e block
       unfolding processVariableLocation
-      nowhere h p = rw (← is, no-register, ← is-address, no-address, ← is-plus, h) (ap variable.Refused p)
+      nowhere h p = p ∙ rw (← is, no-register, ← is-address, no-address, ← is-plus, h)

@@ -16,11 +16,10 @@ use Rattle.format.specs.Lookup.{lookup}
 use Rattle.format.specs.LocationOp.{locationOps, locationOpOf}
 use Rattle.format.specs.declared.location_op.LocationOp.{LocationOp}
 use Rattle.format.specs.declared.location_op.LocationOp.the-variants.{Register, BaseRegister, Address, Const, Deref2, Deref4, Add, MwFpReg, MwFpDReg, MwDRef8, Unknown}
-use Rattle.blocks.specs.Location.{atomNumber, operandWidth, madeOf, operandAt, isRegister, isRegisterPlus, processOffset, processAddress, processVariableLocation}
+use Rattle.format.specs.Said.{gives}
+use Rattle.blocks.specs.Location.{inRegister, atAddress, atRegisterPlus, atomNumber, operandWidth, madeOf, operandAt, isRegister, isRegisterPlus, processOffset, processAddress, processVariableLocation}
 use Rattle.blocks.proofs.Laws.Location.{operand-taken, in-register, at-address, at-register-plus}
 use Rattle.blocks.specs.Standard.{Atom, atom, writtenAtom, written, alone, plus, registerPlus}
-use Rattle.blocks.specs.declared.location.Located.the-variants as located
-use Rattle.blocks.specs.declared.location.VariableLocation.the-variants as variable
 use Rattle.blocks.specs.Standard.{ops}
 
 -- the number of each atom says that atom in the table of atoms; Unknown's, which is no byte, stands in no line of it
@@ -112,39 +111,39 @@ unfolding written writtenAtom madeOf atomNumber operandWidth
 other e r n = refl
 
 module _ (e : Endian) {n : ℕ} (small : n < 256 ^ 4) where
-  pub offset-read : processOffset e (written e (plus n)) ≡ located.Is n
+  pub offset-read : processOffset e (written e (plus n)) ≡ gives n
   unfolding operandWidth ops
   offset-read = sym (operand-taken (Const ∷ Add ∷ []) e (written e (plus n)) refl (made-of e (plus n)) (sym (first-operand e (atom Const n) refl (atom Add 0 ∷ []) small)))
 
-  pub address-read : processAddress e (written e (alone Address n)) ≡ located.Is n
+  pub address-read : processAddress e (written e (alone Address n)) ≡ gives n
   unfolding operandWidth ops
   address-read = sym (operand-taken (Address ∷ []) e (written e (alone Address n)) refl (made-of e (alone Address n)) (sym (first-operand e (atom Address n) refl [] small)))
 
   -- an atom that is a register
   alone-read : (op : LocationOp) → operandWidth op ≡ 4 → isRegister (written e (alone op n)) ≡ true
-      → processVariableLocation e (written e (alone op n)) ≡ variable.Register n
+      → processVariableLocation e (written e (alone op n)) ≡ gives (inRegister n)
   alone-read op width is =
       sym (in-register e (written e (alone op n)) refl is (sym (first-operand e (atom op n) width [] small)))
 
-  pub register-read : processVariableLocation e (written e (alone Register n)) ≡ variable.Register n
+  pub register-read : processVariableLocation e (written e (alone Register n)) ≡ gives (inRegister n)
   unfolding isRegister operandWidth ops
   register-read = alone-read Register refl (rw (made-of e (alone Register n)))
 
-  pub base-register-read : processVariableLocation e (written e (alone BaseRegister n)) ≡ variable.Register n
+  pub base-register-read : processVariableLocation e (written e (alone BaseRegister n)) ≡ gives (inRegister n)
   unfolding isRegister operandWidth ops
   base-register-read = alone-read BaseRegister refl (rw (made-of e (alone BaseRegister n), or-true))
 
-  pub fp-register-read : processVariableLocation e (written e (alone MwFpReg n)) ≡ variable.Register n
+  pub fp-register-read : processVariableLocation e (written e (alone MwFpReg n)) ≡ gives (inRegister n)
   unfolding isRegister operandWidth ops
   fp-register-read = alone-read MwFpReg refl (rw (made-of e (alone MwFpReg n), or-true, or-true))
 
-  pub variable-address-read : processVariableLocation e (written e (alone Address n)) ≡ variable.Address n
+  pub variable-address-read : processVariableLocation e (written e (alone Address n)) ≡ gives (atAddress n)
   unfolding operandWidth ops
   variable-address-read =
       sym
       (at-address e (written e (alone Address n)) refl (no-register e n) refl (made-of e (alone Address n)) (sym (first-operand e (atom Address n) refl [] small)))
 
-pub register-plus-read : (e : Endian) {r n : ℕ} → r < 256 ^ 4 → n < 256 ^ 4 → processVariableLocation e (written e (registerPlus r n)) ≡ variable.RegisterPlus r n
+pub register-plus-read : (e : Endian) {r n : ℕ} → r < 256 ^ 4 → n < 256 ^ 4 → processVariableLocation e (written e (registerPlus r n)) ≡ gives (atRegisterPlus r n)
 unfolding operandWidth ops isRegisterPlus
 register-plus-read e {r} {n} h k =
     sym

@@ -1,4 +1,5 @@
 -- Nothing else is taken: a block that is taken is the written form of what was read.
+use Rattle.format.proofs.Laws.Said.{Of, of-test}
 use Prim.Native.Nat.{ℕ, suc, _+_, _≤_}
 use native.Mathlib.Nat.{zero-add}
 use native.Mathlib.Omega.{arith}
@@ -19,13 +20,10 @@ use Rattle.numbers.specs.declared.Endian.{Endian}
 use Rattle.numbers.specs.declared.Endian.the-variants.{Big, Little}
 use Rattle.format.specs.declared.location_op.LocationOp.{LocationOp}
 use Rattle.format.specs.declared.location_op.LocationOp.the-variants.{Register, BaseRegister, Address, Const, Add, MwFpReg}
-use Rattle.blocks.specs.Location.{shapeOperand, atomNumber, operandWidth, madeOf, operandAt, isRegister, isRegisterPlus, processOffset, processAddress, processVariableLocation}
+use Rattle.format.specs.Said.{gives}
+use Rattle.blocks.specs.Location.{VariablePlace, inRegister, atAddress, atRegisterPlus, shapeOperand, atomNumber, operandWidth, madeOf, operandAt, isRegister, isRegisterPlus, processOffset, processAddress, processVariableLocation}
 use Rattle.blocks.specs.Standard.{Atom, atom, writtenAtom, written, alone, plus, registerPlus}
 use Rattle.blocks.proofs.Laws.StandardRead.{atom-length}
-use Rattle.blocks.specs.declared.location.Located.{Located}
-use Rattle.blocks.specs.declared.location.Located.the-variants as located
-use Rattle.blocks.specs.declared.location.VariableLocation.{VariableLocation}
-use Rattle.blocks.specs.declared.location.VariableLocation.the-variants as variable
 use Rattle.blocks.specs.Standard.{operandOf, atomsAt, InRegister}
 
 -- ---- any atoms
@@ -106,33 +104,30 @@ either : (a b : Bool) → (a || b) ≡ true → (a ≡ true) ⊎ (b ≡ true)
 either true b h = inl refl
 either false b h = inr h
 
--- what an answer says of the block; a refusal says nothing
-abbrev LocatedIn : Endian → (ℕ → List Atom) → List ℕ → Located → Type 0
-LocatedIn e form block (located.Is n) = block ≡ written e (form n)
-LocatedIn e form block (located.Refused why) = Unit
+-- what an answer says of the block
+abbrev LocatedIn : Endian → (ℕ → List Atom) → List ℕ → ℕ → Type 0
+LocatedIn e form block n = block ≡ written e (form n)
 
-abbrev VariableIn : Endian → List ℕ → VariableLocation → Type 0
-VariableIn e block (variable.Register n) = InRegister e block n
-VariableIn e block (variable.Address n) = block ≡ written e (alone Address n)
-VariableIn e block (variable.RegisterPlus r n) = block ≡ written e (registerPlus r n)
-VariableIn e block (variable.Refused why) = Unit
+abbrev VariableIn : Endian → List ℕ → VariablePlace → Type 0
+VariableIn e block (inRegister n) = InRegister e block n
+VariableIn e block (atAddress n) = block ≡ written e (alone Address n)
+VariableIn e block (atRegisterPlus r n) = block ≡ written e (registerPlus r n)
 
 module _ (e : Endian) {block : List ℕ} (small : Bytes block) where
-  pub offset-only : {n : ℕ} → processOffset e block ≡ located.Is n → block ≡ written e (plus n)
+  pub offset-only : {n : ℕ} → processOffset e block ≡ gives n → block ≡ written e (plus n)
   unfolding shapeOperand
   offset-only p =
-      subst (LocatedIn e plus block) p
-      (cond-all (LocatedIn e plus block) (madeOf (Const ∷ Add ∷ []) block 0) (λ h. plus-written e block small h) (λ h. tt))
+      subst (Of (LocatedIn e plus block)) p (of-test (LocatedIn e plus block) _ _ _ _ (λ h. plus-written e block small h))
 
-  pub address-only : {n : ℕ} → processAddress e block ≡ located.Is n → block ≡ written e (alone Address n)
+  pub address-only : {n : ℕ} → processAddress e block ≡ gives n → block ≡ written e (alone Address n)
   unfolding shapeOperand operandWidth
   address-only p =
-      subst (LocatedIn e (alone Address) block) p
-      (cond-all (LocatedIn e (alone Address) block) (madeOf (Address ∷ []) block 0) (λ h. alone-written e block small Address refl h) (λ h. tt))
+      subst (Of (LocatedIn e (alone Address) block)) p
+      (of-test (LocatedIn e (alone Address) block) _ _ _ _ (λ h. alone-written e block small Address refl h))
 
-  in-register : isRegister block ≡ true → InRegister e block (operandAt e block 1)
+  is-register : isRegister block ≡ true → InRegister e block (operandAt e block 1)
   unfolding isRegister operandWidth
-  in-register h =
+  is-register h =
       elim (either (madeOf (Register ∷ []) block 0) (madeOf (BaseRegister ∷ []) block 0 || madeOf (MwFpReg ∷ []) block 0) h) [
         | inl r ↦ inl (alone-written e block small Register refl r)
         | inr k ↦
@@ -142,18 +137,18 @@ module _ (e : Endian) {block : List ℕ} (small : Bytes block) where
             ]
       ]
 
-  variable-in : VariableIn e block (processVariableLocation e block)
+  variable-in : Of (VariableIn e block) (processVariableLocation e block)
   unfolding processVariableLocation operandWidth
   variable-in =
-      cond-all (VariableIn e block) (isRegister block) (λ h. in-register h)
-      (λ h. cond-all (VariableIn e block) (madeOf (Address ∷ []) block 0) (λ k. alone-written e block small Address refl k)
-      (λ k. cond-all (VariableIn e block) (isRegisterPlus block) (λ l. register-plus-written e block small l) (λ l. tt)))
+      cond-all (Of (VariableIn e block)) (isRegister block) (λ h. is-register h)
+      (λ h. cond-all (Of (VariableIn e block)) (madeOf (Address ∷ []) block 0) (λ k. alone-written e block small Address refl k)
+      (λ k. cond-all (Of (VariableIn e block)) (isRegisterPlus block) (λ l. register-plus-written e block small l) (λ l. tt)))
 
-  pub register-only : {n : ℕ} → processVariableLocation e block ≡ variable.Register n → InRegister e block n
-  register-only p = subst (VariableIn e block) p variable-in
+  pub register-only : {n : ℕ} → processVariableLocation e block ≡ gives (inRegister n) → InRegister e block n
+  register-only p = subst (Of (VariableIn e block)) p variable-in
 
-  pub variable-address-only : {n : ℕ} → processVariableLocation e block ≡ variable.Address n → block ≡ written e (alone Address n)
-  variable-address-only p = subst (VariableIn e block) p variable-in
+  pub variable-address-only : {n : ℕ} → processVariableLocation e block ≡ gives (atAddress n) → block ≡ written e (alone Address n)
+  variable-address-only p = subst (Of (VariableIn e block)) p variable-in
 
-  pub register-plus-only : {r n : ℕ} → processVariableLocation e block ≡ variable.RegisterPlus r n → block ≡ written e (registerPlus r n)
-  register-plus-only p = subst (VariableIn e block) p variable-in
+  pub register-plus-only : {r n : ℕ} → processVariableLocation e block ≡ gives (atRegisterPlus r n) → block ≡ written e (registerPlus r n)
+  register-plus-only p = subst (Of (VariableIn e block)) p variable-in

@@ -5,30 +5,29 @@ use native.Mathlib.Numerals.{add-one}
 use native.Mathlib.Omega.{arith}
 use mathlib.Core.Path.{_≡_, refl, sym, ap, subst, _∙_}
 use mathlib.Core.Bool.{false}
-use mathlib.Core.List.{List, [], _∷_}
-use lib.ListN.{length, take, drop, set, length-drop}
+use mathlib.Core.List.{List, [], _∷_, _++_, append-assoc, append-nil}
+use lib.ListN.{length, take, drop, set, length-drop, length-append}
 use lib.Seq.{set-out, sets, length-sets, take-all}
-use lib.Dec.{eqb}
+use lib.Dec.{eqb, leb}
 use borrow.Author.Tests.{eq-eqb, ne-eqb, le-leb, lt-leb}
 use Rattle.lent.specs.Outcome.{Outcome, Given}
+use Rattle.lent.proofs.Laws.Stores.{sets-append}
 use Rattle.numbers.specs.declared.Endian.{Endian}
 use Rattle.format.specs.declared.refusal.Refusal.{Refusal}
-use Rattle.format.specs.declared.refusal.Reason.the-variants as reason
-use Rattle.blocks.specs.Location.{refusedBlock}
-use Rattle.blocks.specs.Subscript.{nextSubscript}
-use Rattle.blocks.specs.Subscript.{UsesInside}
+use Rattle.format.specs.Said.{Said, gives, refuses, refusal, _>>=_, inRoom, fillsRoom}
+use Rattle.format.proofs.Laws.Said.{case-said, given-is, given-refused, fills, wants}
+use Rattle.blocks.specs.Subscript.{Part, saidSubscript, nextSubscript, UsesInside}
 use Rattle.blocks.proofs.Laws.Subscript.{used-inside}
-use Rattle.blocks.specs.Subscripts.{dimensionWords, Dimensions, elementOr, before, step, subscriptsFrom, wholeBlock, countSubscripts, dimensionsInto, processArraySubscriptData}
-use Rattle.blocks.specs.Inside.Subscripts.{Walked}
+use Rattle.blocks.specs.Subscripts.{Array, saidCounted, saidSubscripts, dimensionWords, Dimensions, elementOr, atEnd, before, step, subscriptsFrom, wholeBlock, countSubscripts, processArraySubscriptData}
+use Rattle.blocks.specs.Inside.Subscripts.{Stored, Walked}
 use Rattle.blocks.specs.declared.types.Type.{«Type»}
 use Rattle.blocks.specs.declared.subscript.Subscript.{Subscript}
 use Rattle.blocks.specs.declared.subscript.Subscript.the-variants as subscript
 use Rattle.blocks.specs.declared.subscripts.Element.{Element}
-use Rattle.blocks.specs.declared.subscripts.Element.the-variants as element
+use Rattle.blocks.specs.declared.subscripts.Element.the-variants as sofar
 use Rattle.blocks.specs.declared.subscripts.Counted.{Counted}
 use Rattle.blocks.specs.declared.subscripts.Counted.the-variants as counted
 use Rattle.blocks.specs.declared.subscripts.Subscripts.the-variants as subscripts
-use Rattle.blocks.specs.declared.subscripts.Subscripts.{Subscripts}
 
 -- ---- a dimension's words
 
@@ -45,28 +44,18 @@ module _ (t : List ℕ) (n index size : ℕ) where
       let second : set t (suc (n * 2)) size ≡ t = set-out t (suc (n * 2)) size (omega arith) in
       sym (ap (λ (u : List ℕ). set u (suc (n * 2)) size) first ∙ second)
 
--- ---- the element type at the end
-
-pub element-is : (n : ℕ) {el : Element} {t : «Type»} → el ≡ element.Is t → counted.Are t n ≡ elementOr n el
-unfolding elementOr
-element-is n p = ap (elementOr n) (sym p)
-
-pub element-none : (n : ℕ) {el : Element} {why : Refusal} → el ≡ element.Nothing → why ≡ refusedBlock reason.Block → counted.Refused why ≡ elementOr n el
-unfolding elementOr
-element-none n p h = ap counted.Refused h ∙ ap (elementOr n) (sym p)
-
 -- ---- a turn of the walk
 
 module _ (e : Endian) (el : Element) (n : ℕ) (block : List ℕ) where
   -- at the end nothing is read
-  at-end : (turns : ℕ) → length block ≡ 0 → subscriptsFrom e turns el n block ≡ record { answer = elementOr n el; words = [] }
+  at-end : (turns : ℕ) → length block ≡ 0 → subscriptsFrom e turns el n block ≡ atEnd el n
   unfolding subscriptsFrom
   at-end zero h = refl
   at-end (suc turns) h = rw (eq-eqb (length block) 0 h, subscriptsFrom)
 
   -- before it, one subscript and then the rest
   one-turn : (turns : ℕ) → 0 < length block → length block ≤ turns
-      → subscriptsFrom e turns el n block ≡ step (λ el′ n′ used. subscriptsFrom e (turns - 1) el′ n′ (drop used block)) el n (nextSubscript e block)
+      → subscriptsFrom e turns el n block ≡ (nextSubscript e block >>= step (λ el′ n′ used. subscriptsFrom e (turns - 1) el′ n′ (drop used block)) el n)
   unfolding subscriptsFrom
   one-turn zero h k = absurd (omega arith)
   one-turn (suc turns) h k =
@@ -74,142 +63,206 @@ module _ (e : Endian) (el : Element) (n : ℕ) (block : List ℕ) where
       let place : suc turns - 1 ≡ turns = omega arith in
       rw (test, place, subscriptsFrom)
 
--- what is left comes to the whole: the answer, and the words in the room
+-- words before words before those of the rest
+before-before : (first second : List ℕ) (d : Said Dimensions) → before first (before second d) ≡ before (first ++ second) d
+unfolding before _>>=_
+before-before first second (gives d) = ap (λ (w : List ℕ). gives (record { array = d .array; words = w })) (sym (append-assoc first second (d .words)))
+before-before first second (refuses number place counts) = refl
+
+before-none : (d : Said Dimensions) → before [] d ≡ d
+unfolding before _>>=_
+before-none (gives d) = refl
+before-none (refuses number place counts) = refl
+
+-- a dimension has two words
+two-more : (done : List ℕ) (index size n : ℕ) → length done ≡ n * 2 → length (done ++ dimensionWords index size) ≡ (n + 1) * 2
+unfolding dimensionWords
+two-more done index size n h =
+    let both : length (done ++ dimensionWords index size) ≡ length done + 2 = length-append done (dimensionWords index size) in
+    omega (arith, both, h)
+
+-- what is left comes to the whole: the words that are in the room, before those of the rest
 pub record Left (e : Endian) (block room₀ rest : List ℕ) (n : ℕ) (el : Element) (room : List ℕ) : Type 0 where
   pub turns : ℕ
+  pub done : List ℕ
   pub enough : length rest ≤ turns
   pub few : n + length rest ≤ length block
   pub kept : length room ≡ length room₀
-  pub answer-left : subscriptsFrom e turns el n rest .answer ≡ countSubscripts e block
-  pub room-left : sets room (n * 2) (subscriptsFrom e turns el n rest .words) ≡ sets room₀ 0 (wholeBlock e block .words)
+  pub many : length done ≡ n * 2
+  pub stored : room ≡ sets room₀ 0 done
+  pub whole : wholeBlock e block ≡ before done (subscriptsFrom e turns el n rest)
 
-pub begin : (e : Endian) (block room : List ℕ) → Left e block room block 0 element.Nothing room
-unfolding countSubscripts wholeBlock
+pub begin : (e : Endian) (block room : List ℕ) → Left e block room block 0 sofar.Nothing room
+unfolding wholeBlock
 begin e block room =
     record {
       turns = length block;
+      done = [];
       enough = le-refl (length block);
       few = omega arith;
       kept = refl;
-      answer-left = refl;
-      room-left = refl;
+      many = refl;
+      stored = refl;
+      whole = sym (before-none (subscriptsFrom e (length block) sofar.Nothing 0 block));
     }
 
+-- the words of an array are those done
+stored-end : (done : List ℕ) (el : Element) (n : ℕ) (room₀ : List ℕ) {room : List ℕ} → room ≡ sets room₀ 0 done → Stored (before done (atEnd el n)) room₀ room
+unfolding before atEnd elementOr _>>=_
+stored-end done (sofar.Is t) n room₀ h = h ∙ ap (sets room₀ 0) (sym (append-nil done))
+stored-end done sofar.Nothing n room₀ h = tt
+
+counted-end : (done : List ℕ) (el : Element) (n : ℕ) → elementOr n el ≡ (before done (atEnd el n) >>= (λ d. gives (d .array)))
+unfolding before atEnd elementOr _>>=_
+counted-end done (sofar.Is t) n = refl
+counted-end done sofar.Nothing n = refl
+
 module _ {e : Endian} {block room₀ rest : List ℕ} {n : ℕ} {el : Element} {room : List ℕ} (l : Left e block room₀ rest n el room) where
-  pub walk-done : {r : Counted} → length rest ≤ 0 → r ≡ elementOr n el → Walked e block r room₀ room
-  walk-done h p =
-      let end : subscriptsFrom e (l .turns) el n rest ≡ record { answer = elementOr n el; words = [] } = at-end e el n rest (l .turns) (omega arith) in
+  -- the rest decides
+  walked : {d : Said Dimensions} {r : Counted} → subscriptsFrom e (l .turns) el n rest ≡ d
+      → saidCounted r ≡ (before (l .done) d >>= (λ d′. gives (d′ .array))) → Stored (before (l .done) d) room₀ room → Walked e block r room₀ room
+  unfolding countSubscripts
+  walked {d} p answer left =
+      let all : before (l .done) d ≡ wholeBlock e block = ap (before (l .done)) (sym p) ∙ sym (l .whole) in
       record {
-        answer-is = p ∙ ap (λ (d : Dimensions). d .answer) (sym end) ∙ l .answer-left;
-        room-is = ap (λ (d : Dimensions). sets room (n * 2) (d .words)) (sym end) ∙ l .room-left;
+        answer-is = answer ∙ ap (λ (w : Said Dimensions). w >>= (λ d′. gives (d′ .array))) all;
+        room-is = subst (λ (w : Said Dimensions). Stored w room₀ room) all left;
       }
 
-  module _ (more : 0 < length rest) {told : Subscript} (is : told ≡ nextSubscript e rest) where
-    -- the rest as a part that is handed on
-    abbrev after : ℕ → List ℕ
-    after used = take (length rest - used) (drop used rest)
+  pub walk-done : {r : Counted} → length rest ≤ 0 → saidCounted r ≡ elementOr n el → Walked e block r room₀ room
+  walk-done h p =
+      walked (at-end e el n rest (l .turns) (omega arith)) (p ∙ counted-end (l .done) el n) (stored-end (l .done) el n room₀ (l .stored))
 
-    is-after : (used : ℕ) → drop used rest ≡ after used
-    is-after used = sym (take-all (length rest - used) (drop used rest) (omega (arith, length-drop used rest)))
+  -- the rest as a part that is handed on
+  abbrev after : ℕ → List ℕ
+  after used = take (length rest - used) (drop used rest)
 
-    abbrev goesOn : Element → ℕ → ℕ → Dimensions
-    goesOn el′ n′ used = subscriptsFrom e (l .turns - 1) el′ n′ (drop used rest)
+  is-after : (used : ℕ) → drop used rest ≡ after used
+  is-after used = sym (take-all (length rest - used) (drop used rest) (omega (arith, length-drop used rest)))
 
-    turned : {r : Subscript} → told ≡ r → subscriptsFrom e (l .turns) el n rest ≡ step goesOn el n r
-    turned p = one-turn e el n rest (l .turns) more (l .enough) ∙ ap (step goesOn el n) (sym is ∙ p)
+  abbrev goesOn : Element → ℕ → ℕ → Said Dimensions
+  goesOn el′ n′ used = subscriptsFrom e (l .turns - 1) el′ n′ (drop used rest)
 
-    inside : {r : Subscript} → told ≡ r → UsesInside rest r
-    inside p = used-inside e rest (sym is ∙ p)
+  shorter : {used : ℕ} → (1 ≤ used) × (used ≤ length rest) → length (drop used rest) < length rest
+  shorter {used} h = omega (arith, h .0, h .1, length-drop used rest)
+
+  less : {used : ℕ} → (1 ≤ used) × (used ≤ length rest) → length (after used) < length rest
+  less {used} h = subst (λ (u : List ℕ). length u < length rest) (is-after used) (shorter h)
+
+  module _ (more : 0 < length rest) {told : Subscript} (is : saidSubscript told ≡ nextSubscript e rest) where
+    turned : {r : Subscript} → told ≡ r → subscriptsFrom e (l .turns) el n rest ≡ (saidSubscript r >>= step goesOn el n)
+    turned p =
+        one-turn e el n rest (l .turns) more (l .enough) ∙ ap (λ (d : Said Part). d >>= step goesOn el n) (sym (case-said saidSubscript is p))
+
+    inside : {r : Subscript} {p : Part} → told ≡ r → saidSubscript r ≡ gives p → UsesInside rest p
+    inside p q = used-inside e rest (sym (case-said saidSubscript is p) ∙ q)
+
+    dimension-used : {index size used : ℕ} → told ≡ subscript.Dimension index size used → (1 ≤ used) × (used ≤ length rest)
+    unfolding saidSubscript
+    dimension-used p = inside p refl
+
+    element-used : {t : «Type»} {used : ℕ} → told ≡ subscript.Element t used → (1 ≤ used) × (used ≤ length rest)
+    unfolding saidSubscript
+    element-used p = inside p refl
 
     pub dimension-inside : {index size used : ℕ} → told ≡ subscript.Dimension index size used → used ≤ length rest
-    dimension-inside p = inside p .1
+    dimension-inside p = dimension-used p .1
 
     pub element-inside : {t : «Type»} {used : ℕ} → told ≡ subscript.Element t used → used ≤ length rest
-    element-inside p = inside p .1
-
-    shorter : {used : ℕ} → (1 ≤ used) × (used ≤ length rest) → length (drop used rest) < length rest
-    shorter {used} h = omega (arith, h .0, h .1, length-drop used rest)
-
-    less : {used : ℕ} → (1 ≤ used) × (used ≤ length rest) → length (after used) < length rest
-    less {used} h = subst (λ (u : List ℕ). length u < length rest) (is-after used) (shorter h)
+    element-inside p = element-used p .1
 
     pub dimension-less : {index size used : ℕ} → told ≡ subscript.Dimension index size used → length (after used) < length rest
-    dimension-less p = less (inside p)
+    dimension-less p = less (dimension-used p)
 
     pub element-less : {t : «Type»} {used : ℕ} → told ≡ subscript.Element t used → length (after used) < length rest
-    element-less p = less (inside p)
+    element-less p = less (element-used p)
 
     pub again-dimension : {index size used : ℕ} {room′ : List ℕ} → told ≡ subscript.Dimension index size used
         → room′ ≡ sets room (n * 2) (dimensionWords index size) → Left e block room₀ (after used) (n + 1) el room′
-    unfolding step before dimensionWords
+    unfolding saidSubscript step _>>=_
     again-dimension {index} {size} {used} {room′} p q =
-        let fewer : length (drop used rest) < length rest = shorter (inside p) in
-        let turn : subscriptsFrom e (l .turns) el n rest ≡ before (dimensionWords index size) (goesOn el (suc n) used) = turned p in
+        let fewer : length (drop used rest) < length rest = shorter (dimension-used p) in
+        let words : List ℕ = dimensionWords index size in
+        let turn : subscriptsFrom e (l .turns) el n rest ≡ before words (goesOn el (suc n) used) = turned p in
         let next : suc n ≡ n + 1 = omega arith in
-        let place : suc (suc (n * 2)) ≡ (n + 1) * 2 = omega arith in
+        let place : n * 2 ≡ 0 + length (l .done) = omega (arith, l .many) in
         subst (λ (u : List ℕ). Left e block room₀ u (n + 1) el room′) (is-after used)
         (record {
           turns = l .turns - 1;
+          done = l .done ++ words;
           enough = omega (arith, l .enough);
           few = omega (arith, l .few);
-          kept = ap length q ∙ length-sets room (n * 2) (dimensionWords index size) ∙ l .kept;
-          answer-left =
-              ap (λ (k : ℕ). goesOn el k used .answer) (sym next) ∙ ap (λ (d : Dimensions). d .answer) (sym turn) ∙ l .answer-left;
-          room-left =
-              ap (λ (u : List ℕ). sets u ((n + 1) * 2) (goesOn el (n + 1) used .words)) q
-              ∙ ap (λ (k : ℕ). sets (sets room (n * 2) (dimensionWords index size)) k (goesOn el (n + 1) used .words)) (sym place)
-              ∙ ap (λ (k : ℕ). sets room (n * 2) (index ∷ size ∷ goesOn el k used .words)) (sym next)
-              ∙ ap (λ (d : Dimensions). sets room (n * 2) (d .words)) (sym turn)
-              ∙ l .room-left;
+          kept = ap length q ∙ length-sets room (n * 2) words ∙ l .kept;
+          many = two-more (l .done) index size n (l .many);
+          stored =
+              q ∙ ap (λ (u : List ℕ). sets u (n * 2) words) (l .stored) ∙ ap (λ (k : ℕ). sets (sets room₀ 0 (l .done)) k words) place
+              ∙ sym (sets-append room₀ 0 (l .done) words);
+          whole =
+              l .whole ∙ ap (before (l .done)) turn ∙ before-before (l .done) words (goesOn el (suc n) used)
+              ∙ ap (λ (k : ℕ). before (l .done ++ words) (goesOn el k used)) next;
         })
 
-    pub again-element : {t : «Type»} {used : ℕ} → told ≡ subscript.Element t used → Left e block room₀ (after used) n (element.Is t) room
-    unfolding step
+    pub again-element : {t : «Type»} {used : ℕ} → told ≡ subscript.Element t used → Left e block room₀ (after used) n (sofar.Is t) room
+    unfolding saidSubscript step _>>=_
     again-element {t} {used} p =
-        let fewer : length (drop used rest) < length rest = shorter (inside p) in
-        let turn : subscriptsFrom e (l .turns) el n rest ≡ goesOn (element.Is t) n used = turned p in
-        subst (λ (u : List ℕ). Left e block room₀ u n (element.Is t) room) (is-after used)
+        let fewer : length (drop used rest) < length rest = shorter (element-used p) in
+        let turn : subscriptsFrom e (l .turns) el n rest ≡ goesOn (sofar.Is t) n used = turned p in
+        subst (λ (u : List ℕ). Left e block room₀ u n (sofar.Is t) room) (is-after used)
         (record {
           turns = l .turns - 1;
+          done = l .done;
           enough = omega (arith, l .enough);
           few = omega (arith, l .few);
           kept = l .kept;
-          answer-left = ap (λ (d : Dimensions). d .answer) (sym turn) ∙ l .answer-left;
-          room-left = ap (λ (d : Dimensions). sets room (n * 2) (d .words)) (sym turn) ∙ l .room-left;
+          many = l .many;
+          stored = l .stored;
+          whole = l .whole ∙ ap (before (l .done)) turn;
         })
 
     pub walk-refused : {why : Refusal} → told ≡ subscript.Refused why → Walked e block (counted.Refused why) room₀ room
-    unfolding step
+    unfolding saidSubscript saidCounted before _>>=_
     walk-refused {why} p =
-        let turn : subscriptsFrom e (l .turns) el n rest ≡ record { answer = counted.Refused why; words = [] } = turned p in
-        record {
-          answer-is = ap (λ (d : Dimensions). d .answer) (sym turn) ∙ l .answer-left;
-          room-is = ap (λ (d : Dimensions). sets room (n * 2) (d .words)) (sym turn) ∙ l .room-left;
-        }
+        let turn : subscriptsFrom e (l .turns) el n rest ≡ refusal why = turned p in
+        walked {r = counted.Refused why} turn refl tt
 
 -- ---- into lent room
 
-module _ (e : Endian) (block room : List ℕ) {told : Counted} (is : told ≡ countSubscripts e block) where
-  into : {t : Counted} → told ≡ t → dimensionsInto (wholeBlock e block .words) room t ≡ processArraySubscriptData e block room
-  unfolding processArraySubscriptData
-  into p = ap (dimensionsInto (wholeBlock e block .words) room) (sym p ∙ is)
+module _ (room : List ℕ) where
+  -- what is done with the room
+  abbrev pub intoRoom : Dimensions → Outcome (Said Array) ℕ
+  intoRoom d = fillsRoom (leb (d .array .dimensions) (length room / 2)) (d .array) (d .array .dimensions ∷ []) (d .words) room
 
-  -- an outcome that is known is the one that is told
-  outcome : {o : Outcome Subscripts ℕ} {t : Counted} → told ≡ t → o ≡ dimensionsInto (wholeBlock e block .words) room t
-      → Given (processArraySubscriptData e block room) (o .answer) (o .room)
-  outcome p q =
-      record { answer-is = ap (λ (x : Outcome Subscripts ℕ). x .answer) (q ∙ into p); room-is = ap (λ (x : Outcome Subscripts ℕ). x .room) (q ∙ into p) }
+  -- where an array is counted, there are words for it
+  array-in : {a : Array} {z : Said Array} {room′ : List ℕ} (d : Said Dimensions) → gives a ≡ (d >>= (λ d′. gives (d′ .array)))
+      → ((words : List ℕ) → d ≡ gives (record { array = a; words = words }) → Given (intoRoom (record { array = a; words = words })) z room′)
+      → Given (inRoom room d intoRoom) z room′
+  unfolding inRoom _>>=_
+  array-in {a} {z} {room′} (gives d) p h =
+      let same : a ≡ d .array = given-is p in
+      subst (λ (x : Array). Given (intoRoom (record { array = x; words = d .words })) z room′) same
+      (h (d .words) (ap (λ (x : Array). gives (record { array = x; words = d .words })) (sym same)))
+  array-in (refuses number place counts) p h = absurd (given-refused p)
 
+  -- where the count is refused, so is all
+  refused-in : (why : Refusal) (d : Said Dimensions) → refusal why ≡ (d >>= (λ d′. gives (d′ .array))) → Given (inRoom room d intoRoom) (refusal why) room
+  unfolding inRoom _>>=_
+  refused-in why (gives d) p = absurd (given-refused (sym p))
+  refused-in why (refuses number place counts) p = record { answer-is = p; room-is = refl }
+
+module _ (e : Endian) (block room : List ℕ) {told : Counted} (is : saidCounted told ≡ countSubscripts e block) where
   pub all-read : {t : «Type»} {n : ℕ} {r : Counted} {room′ : List ℕ} → told ≡ counted.Are t n → n ≤ length room / 2 → Walked e block r room room′
-      → Given (processArraySubscriptData e block room) (subscripts.Read t n) room′
-  unfolding dimensionsInto
-  all-read {t} {n} {room′ = room′} p h w =
-      outcome {o = record { answer = subscripts.Read t n; room = room′ }} p (rw (le-leb n (length room / 2) h, w .room-is))
+      → Given (processArraySubscriptData e block room) (saidSubscripts (subscripts.Read t n)) room′
+  unfolding processArraySubscriptData countSubscripts saidCounted saidSubscripts
+  all-read {n = n} {room′ = room′} p h w =
+      array-in room (wholeBlock e block) (case-said saidCounted is p)
+      (λ words q. fills _ _ words room (le-leb n (length room / 2) h) refl (subst (λ (d : Said Dimensions). Stored d room room′) q (w .room-is)))
 
-  pub no-room : {t : «Type»} {n : ℕ} → told ≡ counted.Are t n → length room / 2 < n → Given (processArraySubscriptData e block room) (subscripts.Room n) room
-  unfolding dimensionsInto
-  no-room {n = n} p h = outcome {o = record { answer = subscripts.Room n; room = room }} p (rw (lt-leb n (length room / 2) h))
+  pub no-room : {t : «Type»} {n : ℕ} → told ≡ counted.Are t n → length room / 2 < n
+      → Given (processArraySubscriptData e block room) (saidSubscripts (subscripts.Room n)) room
+  unfolding processArraySubscriptData countSubscripts saidCounted saidSubscripts
+  no-room {n = n} p h =
+      array-in room (wholeBlock e block) (case-said saidCounted is p) (λ words q. wants _ _ words room (lt-leb n (length room / 2) h) refl refl)
 
-  pub read-refused : {why : Refusal} → told ≡ counted.Refused why → Given (processArraySubscriptData e block room) (subscripts.Refused why) room
-  unfolding dimensionsInto
-  read-refused {why} p = outcome {o = record { answer = subscripts.Refused why; room = room }} p refl
+  pub read-refused : {why : Refusal} → told ≡ counted.Refused why → Given (processArraySubscriptData e block room) (saidSubscripts (subscripts.Refused why)) room
+  unfolding processArraySubscriptData countSubscripts saidCounted saidSubscripts
+  read-refused {why} p = refused-in room why (wholeBlock e block) (case-said saidCounted is p)

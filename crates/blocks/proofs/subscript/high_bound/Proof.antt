@@ -1,19 +1,21 @@
-use Rattle.blocks.specs.declared.subscript.Subscript.the-variants.{Refused}
-use Rattle.numbers.proofs.Laws.Value.{reads-short}
-use Rattle.numbers.proofs.Laws.Read.{says32, short32}
-use Rattle.blocks.proofs.Laws.Subscript.{high-read}
-use Rattle.blocks.specs.Subscript.{highBound}
+use Rattle.format.specs.Said.{refusal, _>>=_}
+use Rattle.format.proofs.Laws.Said.{goes-on}
+use Rattle.blocks.proofs.Laws.Number.{said32, number32}
+use Rattle.blocks.proofs.Laws.Subscript.{wrapped}
+use Rattle.blocks.specs.Subscript.{saidSubscript}
+use Rattle.blocks.specs.Inside.Subscript.{highBound}
+use mathlib.Core.Path.{ap}
 use borrow.Author.Needs.{needs}
-use mathlib.Core.Path.{sym, ap, _∙_}
 use Rattle.blocks.proofs.subscript.high_bound.Statement.{statement}
 use Rattle.blocks.proofs.subscript.high_bound.Tie as tie
 
 returns : tie.Need-returns
-returns c = high-read _ _ _ (says32 _ _ _ _ (sym (c .before .before .before .before .u32-at .ensures) ∙ c .before .before .high .given .1)) (search needs) (c .wrapping-add-u32 .ensures)
+unfolding highBound saidSubscript said32 _>>=_
+returns c = goes-on said32 (number32 _ _ _ _ (c .before .before .before .before .u32-at .ensures)) (c .before .before .high .given .1) _ (wrapped _ (search needs) (c .wrapping-add-u32 .ensures))
 
 returns-2 : tie.Need-returns-2
-unfolding highBound
-returns-2 c = ap Refused (c .refused-block .ensures) ∙ reads-short _ _ _ _ _ _ (short32 _ _ _ _ (sym (c .before .before .before .u32-at .ensures) ∙ c .before .enum-told .given .1))
+unfolding highBound saidSubscript said32 _>>=_
+returns-2 c = goes-on said32 (number32 _ _ _ _ (c .before .before .before .u32-at .ensures)) (c .before .enum-told .given .1) _ (ap refusal (c .refused-block .ensures))
 
 pub high-bound-spec : {M : Type 1} → statement M
 high-bound-spec =

@@ -1,13 +1,19 @@
-use Rattle.blocks.proofs.Laws.Subscript.{index-known, index-unknown}
+use Rattle.format.specs.Said.{refusal, _>>=_}
+use Rattle.format.proofs.Laws.Said.{goes-on}
+use Rattle.blocks.specs.Types.{knownNumber}
+use Rattle.blocks.specs.Inside.Subscript.{saidIndex, knownIndex}
+use mathlib.Core.Path.{ap}
 use borrow.Author.Needs.{needs}
 use Rattle.blocks.proofs.subscript.known_index.Statement.{statement}
 use Rattle.blocks.proofs.subscript.known_index.Tie as tie
 
 returns : tie.Need-returns
-returns c = index-known _ _ (c .before .before .before .before .try-from .ensures) (c .before .before .index .given .1) (c .low-bound .ensures)
+unfolding knownIndex knownNumber _>>=_
+returns c = goes-on knownNumber (ap knownNumber (c .before .before .before .before .try-from .ensures)) (c .before .before .index .given .1) _ (c .low-bound .ensures)
 
 returns-2 : tie.Need-returns-2
-returns-2 c = index-unknown _ _ (c .before .before .before .try-from .ensures) (c .before .enum-told .given .1) (c .refused-block .ensures)
+unfolding knownIndex saidIndex knownNumber _>>=_
+returns-2 c = goes-on knownNumber (ap knownNumber (c .before .before .before .try-from .ensures)) (c .before .enum-told .given .1) _ (ap refusal (c .refused-block .ensures))
 
 pub known-index-spec : {M : Type 1} → statement M
 known-index-spec =

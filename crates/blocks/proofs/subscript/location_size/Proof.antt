@@ -1,9 +1,11 @@
+use Rattle.blocks.specs.Location.{saidLocated}
 use Rattle.blocks.proofs.Laws.Subscript.{size-none, size-offset}
 use borrow.Author.Needs.{needs}
 use Rattle.blocks.proofs.subscript.location_size.Statement.{statement}
 use Rattle.blocks.proofs.subscript.location_size.Tie as tie
 
 returns : tie.Need-returns
+unfolding saidLocated
 returns c = size-none _ _ (c .if1 .taken)
 
 returns-2 : tie.Need-returns-2

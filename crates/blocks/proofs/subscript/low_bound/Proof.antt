@@ -1,22 +1,24 @@
-use Rattle.blocks.specs.declared.subscript.Index.the-variants.{Refused}
-use Rattle.numbers.proofs.Laws.Value.{reads-short}
-use Rattle.numbers.proofs.Laws.Read.{says32, short32}
-use Rattle.blocks.proofs.Laws.Subscript.{low-zero, low-other}
-use Rattle.blocks.specs.Subscript.{lowBound}
+use Rattle.format.specs.Said.{refusal, _>>=_}
+use Rattle.format.proofs.Laws.Said.{goes-on, must-passed, must-failed}
+use Rattle.blocks.proofs.Laws.Number.{said32, number32}
+use Rattle.blocks.specs.Inside.Subscript.{saidIndex, lowBound}
+use borrow.Author.Tests.{eq-eqb, ne-eqb}
+use mathlib.Core.Path.{refl, ap}
 use borrow.Author.Needs.{needs}
-use mathlib.Core.Path.{sym, ap, _∙_}
 use Rattle.blocks.proofs.subscript.low_bound.Statement.{statement}
 use Rattle.blocks.proofs.subscript.low_bound.Tie as tie
 
 returns : tie.Need-returns
-returns c = low-zero _ _ _ (says32 _ _ _ _ (sym (c .before .before .before .before .u32-at .ensures) ∙ c .before .before .low .given .1)) (c .if1 .taken)
+unfolding lowBound saidIndex said32 _>>=_
+returns c = goes-on said32 (number32 _ _ _ _ (c .before .before .before .before .u32-at .ensures)) (c .before .before .low .given .1) _ (must-passed refl _ _ _ (eq-eqb _ _ (c .if1 .taken)) refl)
 
 returns-2 : tie.Need-returns-2
-returns-2 c = low-other _ _ _ (says32 _ _ _ _ (sym (c .before .before .before .before .before .u32-at .ensures) ∙ c .before .before .before .low .given .1)) (c .before .if1 .left) (c .refused-block .ensures)
+unfolding lowBound saidIndex said32 _>>=_
+returns-2 c = goes-on said32 (number32 _ _ _ _ (c .before .before .before .before .before .u32-at .ensures)) (c .before .before .before .low .given .1) _ (must-failed refl _ _ _ (ne-eqb _ _ (c .before .if1 .left)) (ap refusal (c .refused-block .ensures)))
 
 returns-3 : tie.Need-returns-3
-unfolding lowBound
-returns-3 c = ap Refused (c .refused-block2 .ensures) ∙ reads-short _ _ _ _ _ _ (short32 _ _ _ _ (sym (c .before .before .before .u32-at .ensures) ∙ c .before .enum-told .given .1))
+unfolding lowBound saidIndex said32 _>>=_
+returns-3 c = goes-on said32 (number32 _ _ _ _ (c .before .before .before .u32-at .ensures)) (c .before .enum-told .given .1) _ (ap refusal (c .refused-block2 .ensures))
 
 pub low-bound-spec : {M : Type 1} → statement M
 low-bound-spec =

@@ -1,6 +1,10 @@
-use Rattle.blocks.proofs.Laws.Subscript.{sized-there, sized-missing}
+use Rattle.format.specs.Said.{refusal}
+use Rattle.format.proofs.Laws.Said.{must-failed}
+use Rattle.blocks.proofs.Laws.Subscript.{sized-there}
+use Rattle.blocks.specs.Subscript.{saidSubscript}
+use Rattle.blocks.specs.Inside.Subscript.{sizedBy}
+use mathlib.Core.Path.{sym, ap, _∙_}
 use borrow.Author.Needs.{needs}
-use mathlib.Core.Path.{sym, _∙_}
 use Rattle.blocks.proofs.subscript.sized_by.Statement.{statement}
 use Rattle.blocks.proofs.subscript.sized_by.Tie as tie
 
@@ -8,7 +12,8 @@ returns : tie.Need-returns
 returns c = sized-there _ _ _ _ (sym (c .before .before .before .bytes-there .ensures) ∙ c .before .before .if1 .taken) (c .before .part .ensures) (c .sized-dimension .ensures)
 
 returns-2 : tie.Need-returns-2
-returns-2 c = sized-missing _ _ _ _ (sym (c .before .before .bytes-there .ensures) ∙ c .before .if1 .left) (c .refused-block .ensures)
+unfolding sizedBy saidSubscript
+returns-2 c = must-failed (c .before .before .bytes-there .ensures) _ _ _ (c .before .if1 .left) (ap refusal (c .refused-block .ensures))
 
 pub sized-by-spec : {M : Type 1} → statement M
 sized-by-spec =

@@ -1,19 +1,19 @@
-use Rattle.blocks.specs.declared.types.Typed.the-variants.{Refused}
-use Rattle.numbers.proofs.Laws.Value.{reads-short}
-use Rattle.numbers.proofs.Laws.Read.{says16, short16, goes-on}
-use Rattle.blocks.specs.Types.{fundType}
+use Rattle.format.specs.Said.{refusal, _>>=_}
+use Rattle.format.proofs.Laws.Said.{goes-on}
+use Rattle.blocks.proofs.Laws.Number.{said16, number16}
+use Rattle.blocks.specs.Types.{saidTyped, fundType}
 use borrow.Author.Needs.{needs}
-use mathlib.Core.Path.{sym, ap, _∙_}
+use mathlib.Core.Path.{ap}
 use Rattle.blocks.proofs.types.fund_type.Statement.{statement}
 use Rattle.blocks.proofs.types.fund_type.Tie as tie
 
 returns : tie.Need-returns
-unfolding fundType
-returns c = c .fundamental .ensures ∙ goes-on _ _ (says16 _ _ _ _ (sym (c .before .before .before .before .before .data2 .ensures) ∙ c .before .before .before .number .given .1))
+unfolding fundType said16 _>>=_
+returns c = goes-on said16 (number16 _ _ _ _ (c .before .before .before .before .before .data2 .ensures)) (c .before .before .before .number .given .1) _ (c .fundamental .ensures)
 
 returns-2 : tie.Need-returns-2
-unfolding fundType
-returns-2 c = ap Refused (c .refused-block .ensures) ∙ reads-short _ _ _ _ _ _ (short16 _ _ _ _ (sym (c .before .before .before .data2 .ensures) ∙ c .before .enum-told .given .1))
+unfolding fundType saidTyped said16 _>>=_
+returns-2 c = goes-on said16 (number16 _ _ _ _ (c .before .before .before .data2 .ensures)) (c .before .enum-told .given .1) _ (ap refusal (c .refused-block .ensures))
 
 pub fund-type-spec : {M : Type 1} → statement M
 fund-type-spec =

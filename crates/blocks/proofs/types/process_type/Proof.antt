@@ -1,12 +1,14 @@
+use Rattle.format.specs.Said.{refusal}
 use Rattle.blocks.proofs.Laws.Types.{type-of, no-type, past-end}
-use Rattle.blocks.specs.Types.{processType, modFundType, modUDType}
+use Rattle.blocks.specs.Types.{saidTyped, processType, modFundType, modUDType}
 use borrow.Author.Needs.{needs}
 use mathlib.Core.Path.{ap, _∙_}
 use Rattle.blocks.proofs.types.process_type.Statement.{statement}
 use Rattle.blocks.proofs.types.process_type.Tie as tie
 
 returns : tie.Need-returns
-returns c = past-end _ _ _ _ (c .before .if1 .taken) (c .refused-block .ensures)
+unfolding saidTyped
+returns c = past-end _ _ _ _ (c .before .if1 .taken) (ap refusal (c .refused-block .ensures))
 
 returns-2 : tie.Need-returns-2
 unfolding processType
@@ -25,7 +27,8 @@ unfolding processType
 returns-5 c = type-of _ _ _ (c .before .before .match .keys4) (c .mod-u-d-type .ensures ∙ ap (modUDType _ _) (c .before .block22 .ensures))
 
 returns-6 : tie.Need-returns-6
-returns-6 c = no-type _ _ _ _ (c .before .match .rest .0 .0 .0 .1) (c .before .match .rest .0 .0 .1) (c .before .match .rest .0 .1) (c .before .match .rest .1) (c .refused-block2 .ensures)
+unfolding saidTyped
+returns-6 c = no-type _ _ _ _ (c .before .match .rest .0 .0 .0 .1) (c .before .match .rest .0 .0 .1) (c .before .match .rest .0 .1) (c .before .match .rest .1) (ap refusal (c .refused-block2 .ensures))
 
 pub process-type-spec : {M : Type 1} → statement M
 process-type-spec =
