@@ -10,23 +10,20 @@ use Rattle.numbers.specs.declared.Endian.{Endian}
 use Rattle.numbers.specs.declared.Endian.the-variants.{Big, Little}
 use Rattle.format.specs.Known.{known}
 use Rattle.format.specs.TagKind as tag
-use Rattle.format.specs.declared.refusal.Reason.{Reason}
+use Rattle.format.specs.Said.{Said, gives, refuse, _>>=_, placed}
 use Rattle.format.specs.declared.refusal.Reason.the-variants as reason
 use Rattle.tables.specs.declared.row.Row.{Row}
 use Rattle.tables.specs.declared.row.Attr.{Attr}
 use Rattle.entries.specs.Head.{headAt}
-use Rattle.entries.specs.Run.{Run, ran, failed, readRun}
-use Rattle.entries.specs.declared.entry.Look.{Look}
-use Rattle.entries.specs.declared.entry.Look.the-variants.{Is, Short}
+use Rattle.entries.specs.Run.{Run, readRun}
 use Rattle.entries.specs.declared.head.Head.{Head}
 use Rattle.entries.specs.declared.head.Head.the-variants.{Null, Skipped, Root, Ordinary, Refused}
 
 -- what reading an entry comes to: its row (none for padding that is stepped over), its attributes, where reading stopped; of an erased root also the
--- data endianness inside it and where it ends; or a refusal
+-- data endianness inside it and where it ends. A refusal's place is the entry's key
 pub data Entry : Type 0 where
   next : List Row → List Attr → ℕ → Entry
   inside : Row → List Attr → ℕ → Endian → ℕ → Entry
-  stop : Reason → Entry
 
 -- the other endianness
 unfoldable pub flip : Endian → Endian
@@ -50,44 +47,37 @@ flagsOf isErased root e = flagOf isErased 1 + flagOf root 2 + littleFlag e
 abbrev pub row : Bool → Bool → Endian → ℕ → ℕ → ℕ → List Attr → Row
 row isErased root e at kind a xs = record { key = at; kind = kind; flags = flagsOf isErased root e; first = a; count = length xs }
 
--- an entry's own kind; of an erased root a subroutine if a HighPc was read, else a local variable
-unfoldable pub kindOf : Bool → ℕ → Bool → ℕ
-kindOf root kind high = cond root (cond high tag.Subroutine tag.LocalVariable) kind
-
--- an ordinary entry
-unfoldable pub ordinary : Bool → Endian → ℕ → ℕ → ℕ → Run → Entry
-ordinary isErased e at kind a (ran xs high place) = next (row isErased false e at (kindOf false kind high) a xs ∷ []) xs place
-ordinary isErased e at kind a (failed why) = stop why
-
--- an erased root that ends at `end`
-unfoldable pub rooted : Endian → ℕ → ℕ → ℕ → Run → Entry
-rooted e at end a (ran xs high place) = inside (row true true e at (kindOf true tag.Padding high) a xs) xs place e end
-rooted e at end a (failed why) = stop why
+-- an erased root's kind: a subroutine if a HighPc was read, else a local variable
+unfoldable pub rootKind : Bool → ℕ
+rootKind high = cond high tag.Subroutine tag.LocalVariable
 
 -- the data endianness of a root at `at`: outside erased data two bytes are looked at, and if they are no known attribute number it flips
-unfoldable pub rootEndian : List ℕ → List ℕ → Bool → Endian → ℕ → Look
-rootEndian vendors s true e at = Is e
-rootEndian vendors s false e at = readAt (λ n. Is (cond (known vendors n) e (flip e))) Short e 2 s (at + 6)
+unfoldable pub rootEndian : List ℕ → List ℕ → Bool → Endian → ℕ → Said Endian
+rootEndian vendors s true e at = gives e
+rootEndian vendors s false e at = readAt (λ n. gives (cond (known vendors n) e (flip e))) (refuse reason.Short at) e 2 s (at + 6)
 
 module _ (r : Source) where
   -- the attributes of the entry at `at`: they begin after size and tag
-  unfoldable pub attributes : Endian → Bool → ℕ → ℕ → Run
-  attributes e root end at = readRun r e root end (suc (length (r .section))) false (at + 6)
-
-  -- an erased root, once its data endianness is known
-  unfoldable pub rootIn : ℕ → ℕ → ℕ → Look → Entry
-  rootIn at end a (Is e) = rooted e at end a (attributes e true end at)
-  rootIn at end a Short = stop reason.Short
+  unfoldable pub attributes : Endian → Bool → ℕ → ℕ → Said Run
+  attributes e root end at = placed at (readRun r e root end (suc (length (r .section))) false (at + 6))
 
   -- by what it begins with; a root wants one more level
-  unfoldable pub entryFrom : ℕ → Mode → ℕ → ℕ → Head → Entry
-  entryFrom levels m at a (Null place) = next (row (m .erased) false (m .endian) at tag.Padding a [] ∷ []) [] place
-  entryFrom levels m at a (Skipped place) = next [] [] place
+  unfoldable pub entryFrom : ℕ → Mode → ℕ → ℕ → Head → Said Entry
+  entryFrom levels m at a (Null place) = gives (next (row (m .erased) false (m .endian) at tag.Padding a [] ∷ []) [] place)
+  entryFrom levels m at a (Skipped place) = gives (next [] [] place)
   entryFrom levels m at a (Root end) =
-      elim levels [ zero ↦ stop reason.Nested | suc l ↦ rootIn at end a (rootEndian (r .vendors) (r .section) (m .erased) (m .endian) at) ]
-  entryFrom levels m at a (Ordinary kind end) = ordinary (m .erased) (m .endian) at kind a (attributes (m .endian) false end at)
-  entryFrom levels m at a (Refused why) = stop why
+      elim levels [
+        | zero ↦ refuse reason.Nested at
+        | suc l ↦ do
+          e ← rootEndian (r .vendors) (r .section) (m .erased) (m .endian) at
+          run ← attributes e true end at
+          gives (inside (row true true e at (rootKind (run .high)) a (run .attrs)) (run .attrs) (run .stopped) e end)
+      ]
+  entryFrom levels m at a (Ordinary kind end) = do
+    run ← attributes (m .endian) false end at
+    gives (next (row (m .erased) false (m .endian) at kind a (run .attrs) ∷ []) (run .attrs) (run .stopped))
+  entryFrom levels m at a (Refused why) = refuse why at
 
   -- the entry at `at`, whose attributes begin with number a of the table
-  unfoldable pub readEntry : Bool → ℕ → Mode → ℕ → ℕ → Entry
+  unfoldable pub readEntry : Bool → ℕ → Mode → ℕ → ℕ → Said Entry
   readEntry erased levels m at a = entryFrom levels m at a (headAt erased (r .section) (m .endian) at)

@@ -6,15 +6,15 @@ use mathlib.Core.List.{List, [], _∷_}
 use lib.ListN.{length}
 use lib.Seq.{sets}
 use Rattle.lent.specs.Outcome.{Outcomes}
+use Rattle.format.specs.Said.{Said, gives}
 use Rattle.format.specs.declared.settings.Settings.{Settings}
 use Rattle.tables.specs.Row.{rowsWords, attrsWords, rowsFrom, attrsFrom}
 use Rattle.tables.specs.Holds.{fitting}
 use Rattle.tables.specs.declared.row.Row.{Row}
 use Rattle.tables.specs.declared.row.Attr.{Attr}
 use Rattle.tables.specs.declared.row.Counts.{Counts}
-use Rattle.entries.specs.Walk.{entriesRead}
+use Rattle.entries.specs.Walk.{entries}
 use Rattle.entries.specs.Section.{wholeWalk, counts}
-use Rattle.entries.specs.declared.section.Section.{Section}
 
 -- ---- keys
 
@@ -26,11 +26,11 @@ KeysRise top least (r ∷ rs) = (least ≤ r .key) × (r .key + 4 ≤ top) × Ke
 -- ---- the answer
 
 -- the tables were filled with what the walk gave: it is counted, stored from the first word on, and read back
-pub record TableFilled (settings : Settings) (vendors s rows attrs : List ℕ) (c : Counts) (o : Outcomes Section ℕ ℕ) : Type 0 where
+pub record TableFilled (settings : Settings) (vendors s rows attrs : List ℕ) (c : Counts) (o : Outcomes (Said Counts) ℕ ℕ) : Type 0 where
   pub rs : List Row
   pub xs : List Attr
   pub place : ℕ
-  pub whole : wholeWalk settings vendors s ≡ entriesRead rs xs place
+  pub whole : wholeWalk settings vendors s ≡ gives (entries rs xs place)
   pub counted : c ≡ counts (length rs) (length xs)
   pub fits : fitting c (length rows) (length attrs) ≡ true
   pub rows-stored : o .first ≡ sets rows 0 (rowsWords rs)

@@ -8,46 +8,48 @@ use Rattle.format.specs.Settings.{plays}
 use Rattle.numbers.specs.Value.{readAt}
 use Rattle.numbers.specs.declared.Endian.{Endian}
 use Rattle.format.specs.AttributeKind as number
-use Rattle.format.specs.declared.refusal.Reason.{Reason}
+use Rattle.format.specs.Said.{Said, gives, refuse, _>>=_}
 use Rattle.format.specs.declared.refusal.Reason.the-variants as reason
 use Rattle.attributes.specs.Read.{readAttribute}
 use Rattle.attributes.specs.declared.read.Attribute.{Attribute}
 use Rattle.attributes.specs.declared.read.Attribute.the-variants.{Read, Short, Unknown}
 use Rattle.tables.specs.declared.row.Attr.{Attr}
 
--- what reading attributes comes to: the attributes, whether a HighPc was among them, and where reading stopped; or a refusal
-pub data Run : Type 0 where
-  ran : List Attr → Bool → ℕ → Run
-  failed : Reason → Run
+-- what reading attributes comes to: the attributes, whether a HighPc was among them, and where reading stopped. A refusal's place is the field's
+pub record Run : Type 0 where
+  pub attrs : List Attr
+  pub high : Bool
+  pub stopped : ℕ
+
+-- the same, in short
+abbrev pub ran : List Attr → Bool → ℕ → Run
+ran attrs high stopped = record { attrs = attrs; high = high; stopped = stopped }
 
 -- an attribute: its number and the place of its value
 abbrev pub attr : ℕ → ℕ → Attr
 attr n value = record { number = n; value = value }
-
--- one attribute more, before the others
-unfoldable pub first : Attr → Run → Run
-first a (ran xs high at) = ran (a ∷ xs) high at
-first a (failed why) = failed why
 
 -- after a HighPc an erased root's attributes end at the first number that is not MwGlobalRef; where no number is there, reading goes on and is short
 unfoldable pub runEnds : ℕ → List ℕ → Endian → Bool → ℕ → Bool
 runEnds global s e high at = high && not (readAt (plays global) true e 2 s at)
 
 -- what was read, and then what follows it
-unfoldable pub readOn : Attribute → (ℕ → ℕ → Run) → Run
-readOn (Read n value next) k = first (attr n value) (k n next)
-readOn (Short field) k = failed reason.Short
-readOn (Unknown field) k = failed reason.Attribute
+unfoldable pub readOn : Attribute → (ℕ → ℕ → Said Run) → Said Run
+readOn (Read n value next) follow = do
+  later ← follow n next
+  gives (ran (attr n value ∷ later .attrs) (later .high) (later .stopped))
+readOn (Short field) follow = refuse reason.Short field
+readOn (Unknown field) follow = refuse reason.Attribute field
 
 -- the attributes from `at` up to `end`; at most as many as the first number, which is never reached. Only an erased root looks for a HighPc
-unfoldable pub readRun : Source → Endian → Bool → ℕ → ℕ → Bool → ℕ → Run
-readRun r e root end zero high at = ran [] high at
+unfoldable pub readRun : Source → Endian → Bool → ℕ → ℕ → Bool → ℕ → Said Run
+readRun r e root end zero high at = gives (ran [] high at)
 readRun r e root end (suc f) high at =
     elim (ltb at end) [
       | true ↦ elim (runEnds (r .global) (r .section) e high at) [
-        | true ↦ ran [] high at
+        | true ↦ gives (ran [] high at)
         | false ↦ readOn (readAttribute (r .vendors) e (r .section) at)
             (λ n next. readRun r e root end f (high || (root && eqb n number.HighPc)) next)
       ]
-      | false ↦ ran [] high at
+      | false ↦ gives (ran [] high at)
     ]

@@ -7,44 +7,47 @@ use lib.Dec.{ltb}
 use Rattle.entries.specs.declared.entry.Mode.{Mode}
 use Rattle.entries.specs.Source.{Source, mode}
 use Rattle.numbers.specs.declared.Endian.{Endian}
-use Rattle.format.specs.declared.refusal.Reason.{Reason}
+use Rattle.format.specs.Said.{Said, gives, refuse, _>>=_}
 use Rattle.format.specs.declared.refusal.Reason.the-variants as reason
 use Rattle.tables.specs.declared.row.Row.{Row}
 use Rattle.tables.specs.declared.row.Attr.{Attr}
-use Rattle.entries.specs.Entry.{Entry, next, inside, stop, readEntry}
+use Rattle.entries.specs.Entry.{Entry, next, inside, readEntry}
 
--- what reading entries comes to: rows and attributes, and where reading stopped; or a refusal and its place, the innermost entry's key
-pub data Entries : Type 0 where
-  entriesRead : List Row → List Attr → ℕ → Entries
-  entriesRefused : Reason → ℕ → Entries
+-- what reading entries comes to: rows and attributes, and where reading stopped. A refusal's place is the innermost entry's key
+pub record Entries : Type 0 where
+  pub rows : List Row
+  pub attrs : List Attr
+  pub stopped : ℕ
 
--- rows and attributes that were read before
-unfoldable pub join : List Row → List Attr → Entries → Entries
-join rs xs (entriesRead rs′ xs′ at) = entriesRead (rs ++ rs′) (xs ++ xs′) at
-join rs xs (entriesRefused why at) = entriesRefused why at
+-- the same, in short
+abbrev pub entries : List Row → List Attr → ℕ → Entries
+entries rows attrs stopped = record { rows = rows; attrs = attrs; stopped = stopped }
 
--- what follows, given how many attributes there are then, and the place
-unfoldable pub entriesThen : ℕ → Entries → (ℕ → ℕ → Entries) → Entries
-entriesThen a (entriesRead rs xs at) k = join rs xs (k (a + length xs) at)
-entriesThen a (entriesRefused why at) k = entriesRefused why at
+-- what was read, and behind it what follows, given how many attributes there are then, and the place; a is their number before
+unfoldable pub entriesThen : ℕ → Entries → (ℕ → ℕ → Said Entries) → Said Entries
+entriesThen a front follow = do
+  back ← follow (a + length (front .attrs)) (front .stopped)
+  gives (entries (front .rows ++ back .rows) (front .attrs ++ back .attrs) (back .stopped))
 
--- an entry, what stands inside it, and what follows; a is the number of attributes before it
-unfoldable pub onward : (Endian → ℕ → ℕ → ℕ → Entries) → ℕ → ℕ → Entry → (ℕ → ℕ → Entries) → Entries
-onward within at a (next rs xs place) k = entriesThen a (entriesRead rs xs place) k
-onward within at a (inside r xs place e end) k = entriesThen a (entriesRead (r ∷ []) xs place) (λ b at′. entriesThen b (within e end b at′) k)
-onward within at a (stop why) k = entriesRefused why at
+-- an entry, and what stands inside it
+unfoldable pub wholeEntry : (Endian → ℕ → ℕ → ℕ → Said Entries) → ℕ → Entry → Said Entries
+wholeEntry within a (next rs xs place) = gives (entries rs xs place)
+wholeEntry within a (inside r xs place e end) = entriesThen a (entries (r ∷ []) xs place) (within e end)
 
 module _ (r : Source) (erased : Bool) where
   -- the entries from `at` up to `end`; `within` reads what stands inside a root. At most as many as the first number, which is never reached
-  unfoldable pub entriesFrom : (Endian → ℕ → ℕ → ℕ → Entries) → ℕ → Mode → ℕ → ℕ → ℕ → ℕ → Entries
-  entriesFrom within levels m end zero a at = entriesRead [] [] at
+  unfoldable pub entriesFrom : (Endian → ℕ → ℕ → ℕ → Said Entries) → ℕ → Mode → ℕ → ℕ → ℕ → ℕ → Said Entries
+  entriesFrom within levels m end zero a at = gives (entries [] [] at)
   entriesFrom within levels m end (suc f) a at =
       elim (ltb at end) [
-        | true ↦ onward within at a (readEntry r erased levels m at a) (λ b at′. entriesFrom within levels m end f b at′)
-        | false ↦ entriesRead [] [] at
+        | true ↦ do
+          entry ← readEntry r erased levels m at a
+          front ← wholeEntry within a entry
+          entriesThen a front (entriesFrom within levels m end f)
+        | false ↦ gives (entries [] [] at)
       ]
 
   -- with so many levels still allowed; inside a root one fewer is, and entries are read as erased
-  unfoldable pub readTags : ℕ → Mode → ℕ → ℕ → ℕ → Entries
-  readTags zero m end a at = entriesFrom (λ e′ end′ b at′. entriesRefused reason.Nested at′) zero m end (suc (length (r .section))) a at
+  unfoldable pub readTags : ℕ → Mode → ℕ → ℕ → ℕ → Said Entries
+  readTags zero m end a at = entriesFrom (λ e′ end′ b at′. refuse reason.Nested at′) zero m end (suc (length (r .section))) a at
   readTags (suc l) m end a at = entriesFrom (λ e′ end′ b at′. readTags l (mode true e′) end′ b at′) (suc l) m end (suc (length (r .section))) a at

@@ -16,10 +16,9 @@ use tables::store::put_row;
 ghost use mathlib.Core.Path.{_≡_};
 ghost use Prim.Native.Nat.{_+_, _≤_};
 ghost use lib.ListN.{length};
-ghost use mathlib.Core.Bool.{false};
 ghost use Rattle.entries.specs.Source.{source};
-ghost use Rattle.entries.specs.Entry.{flip, littleFlag, flagOf, flagsOf, kindOf, ordinary, attributes, rootEndian, entryFrom, readEntry};
-ghost use Rattle.entries.specs.Inside.Promise.{Ready, farthest, NullReady, NullRead, BodyReady, BodyRead, EntryRead};
+ghost use Rattle.entries.specs.Entry.{flip, littleFlag, flagOf, flagsOf, attributes, rootEndian, entryFrom, readEntry};
+ghost use Rattle.entries.specs.Inside.Promise.{Ready, farthest, NullReady, NullRead, kindOf, BodyReady, BodyRead, saidLook, EntryRead};
 
 // Where reading stands: the place, and how many rows and attributes were read.
 pub struct State {
@@ -157,7 +156,7 @@ pub enum Look {
 
 fn root_endian(s: &[u8], vendors: &[u16], mode: Mode, at: usize) -> Look
     requires { ⌜ at + 6 ≤ length (now s) ⌝ }
-    ensures { λ r. ⌜ r ≡ rootEndian (now (vendors .entry)) (now (s .entry)) (mode .erased) (mode .endian) at ⌝ }
+    ensures { λ r. ⌜ saidLook at r ≡ rootEndian (now (vendors .entry)) (now (s .entry)) (mode .erased) (mode .endian) at ⌝ }
 {
     let e = mode.endian;
     if mode.erased {
@@ -249,9 +248,8 @@ fn read_ordinary(
 ) -> Entry
     requires { ⌜ BodyReady (now s) from ⌝ }
     ensures { λ r. ⌜
-        EntryRead (now (s .entry)) from (ordinary (mode .erased) (mode .endian) (from .at) kind (from .attrs)
-        (attributes (source (now (vendors .entry)) global (now (s .entry))) (mode .endian) false end (from .at))) r (now (rows .entry))
-        (now (rows .exit)) (now (attrs .entry)) (now (attrs .exit))
+        EntryRead (now (s .entry)) from (entryFrom (source (now (vendors .entry)) global (now (s .entry))) 0 mode (from .at)
+        (from .attrs) (Head.Ordinary kind end)) r (now (rows .entry)) (now (rows .exit)) (now (attrs .entry)) (now (attrs .exit))
         ⌝ }
 {
     let e = mode.endian;

@@ -20,9 +20,9 @@ ghost use Prim.Native.Nat.{_<_};
 ghost use lib.ListN.{length};
 ghost use Rattle.lent.specs.Outcome.{BothGiven};
 ghost use Rattle.format.specs.Limits.{sectionLimit};
-ghost use Rattle.entries.specs.Inside.Promise.{start, walkAnswer, WalkRead};
+ghost use Rattle.entries.specs.Inside.Promise.{start, saidWalk, walked, WalkRead};
 ghost use Rattle.tables.specs.Holds.{fitting};
-ghost use Rattle.entries.specs.Section.{wholeWalk, countDebugSection, readDebugSection};
+ghost use Rattle.entries.specs.Section.{saidCount, saidSection, wholeWalk, countDebugSection, readDebugSection};
 
 // What counting answers.
 pub enum Count {
@@ -83,7 +83,7 @@ fn read_whole(
 // The same into empty tables: it counts.
 fn count_whole(s: &[u8], settings: Settings, vendors: &[u16]) -> Walk
     requires { ⌜ length (now s) < sectionLimit ⌝ }
-    ensures { λ r. ⌜ r ≡ walkAnswer start (wholeWalk settings (now (vendors .entry)) (now (s .entry))) ⌝ }
+    ensures { λ r. ⌜ saidWalk r ≡ walked start (wholeWalk settings (now (vendors .entry)) (now (s .entry))) ⌝ }
 {
     let mut rows = [0u32; 0];
     let mut attrs = [0u32; 0];
@@ -98,7 +98,7 @@ fn refused(reason: Reason, place: u64) -> Count
 
 // How many rows and attributes the section has, whatever the limits; or refusal 1, 2, or one of 4 to 7.
 pub fn count_debug_section(s: &[u8], settings: Settings, vendors: &[u16], sizes: &[u32]) -> Count
-    ensures { λ r. ⌜ r ≡ countDebugSection settings (now (vendors .entry)) (now (sizes .entry)) (now (s .entry)) ⌝ }
+    ensures { λ r. ⌜ saidCount r ≡ countDebugSection settings (now (vendors .entry)) (now (sizes .entry)) (now (s .entry)) ⌝ }
 {
     if !settings_hold(settings, vendors, sizes) {
         return refused(Reason::Settings, 0);
@@ -141,8 +141,8 @@ pub fn read_debug_section(
     attrs: &mut [u32],
 ) -> Section
     ensures { λ r. ⌜
-        BothGiven (readDebugSection settings (now (vendors .entry)) (now (sizes .entry)) (now (s .entry)) (now (rows .entry)) (now (attrs .entry))) r
-        (now (rows .exit)) (now (attrs .exit))
+        BothGiven (readDebugSection settings (now (vendors .entry)) (now (sizes .entry)) (now (s .entry)) (now (rows .entry)) (now (attrs .entry)))
+        (saidSection r) (now (rows .exit)) (now (attrs .exit))
         ⌝ }
 {
     match count_debug_section(s, settings, vendors, sizes) {

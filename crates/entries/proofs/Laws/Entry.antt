@@ -12,14 +12,16 @@ use Rattle.numbers.specs.declared.Endian.{Endian}
 use Rattle.numbers.specs.declared.Endian.the-variants.{Big, Little}
 use Rattle.format.specs.Known.{known}
 use Rattle.format.specs.TagKind as tag
+use Rattle.format.specs.Said.{Said, gives, refuses, refuse, _>>=_, placed}
+use Rattle.format.proofs.Laws.Said.{case-said}
 use Rattle.format.specs.declared.refusal.Reason.{Reason}
 use Rattle.format.specs.declared.refusal.Reason.the-variants as reason
 use Rattle.tables.specs.Row.{rowWords, rowsWords, attrsWords, putRow}
 use Rattle.tables.specs.declared.row.Attr.{Attr}
 use Rattle.entries.specs.Head.{headAt}
-use Rattle.entries.specs.Run.{Run, ran, failed}
-use Rattle.entries.specs.Entry.{Entry, stop, flip, littleFlag, flagOf, flagsOf, kindOf, ordinary, rooted, attributes, rootEndian, rootIn, entryFrom, readEntry}
-use Rattle.entries.specs.Inside.Promise.{HeadBounds, HeadRead, RunRead, RunStored, RunStores, runAnswer, farthest, Ready, advanced, NullRead, BodyReady, bodyAnswer, BodyStores, BodyRead, entryAnswer, EntryStores, EntryRead}
+use Rattle.entries.specs.Run.{Run, ran}
+use Rattle.entries.specs.Entry.{Entry, flip, littleFlag, flagOf, flagsOf, attributes, rootEndian, entryFrom, readEntry}
+use Rattle.entries.specs.Inside.Promise.{kindOf, ordinary, rooted, HeadBounds, HeadRead, RunRead, RunStored, RunStores, saidRun, runAnswer, farthest, Ready, advanced, NullRead, BodyReady, saidBody, bodyAnswer, BodyStores, BodyRead, saidLook, saidEntry, entryAnswer, EntryStores, EntryRead}
 use Rattle.entries.specs.declared.head.Head.{Head}
 use Rattle.entries.specs.declared.head.Head.the-variants as head
 use Rattle.entries.specs.declared.run.Run.the-variants as run
@@ -44,32 +46,44 @@ little-small Little = omega arith
 -- ---- the attributes, then the row
 
 -- a run that was read told what it is
-told-ran : (what : Run) (attrs : ℕ) {r : run.the-data} {place n : ℕ} {high : Bool} → r ≡ runAnswer attrs what → r ≡ run.Ran place n high
-    → (xs : List Attr) × (what ≡ ran xs high place) × (n ≡ attrs + length xs)
-unfolding runAnswer
-told-ran (ran xs h p) attrs {place = place} {n} {high} a t =
-    let same : run.Ran p (attrs + length xs) h ≡ run.Ran place n high = sym a ∙ t in
-    (xs, cc, cc)
-told-ran (failed why) attrs a t = let z : _≡_ {A = ℕ} 0 1 = cc in absurd (omega arith)
+told-ran : (what : Said Run) (attrs : ℕ) {r : run.the-data} {place n : ℕ} {high : Bool} → ((key : ℕ) → saidRun key r ≡ runAnswer attrs (placed key what))
+    → r ≡ run.Ran place n high → (xs : List Attr) × (what ≡ gives (ran xs high place)) × (n ≡ attrs + length xs)
+unfolding saidRun placed _>>=_
+told-ran (gives x) attrs {place = place} {n} {high} a t =
+    let same : gives (run.Ran place n high) ≡ gives (run.Ran (x .stopped) (attrs + length (x .attrs)) (x .high)) = case-said (saidRun 0) (a 0) t in
+    let stopped : x .stopped ≡ place = cc in
+    let seen : x .high ≡ high = cc in
+    (x .attrs, ap₂ (λ (h : Bool) (p : ℕ). gives (ran (x .attrs) h p)) seen stopped, cc)
+told-ran (refuses number field counts) attrs {place = place} {n} {high} a t =
+    let same : gives (run.Ran place n high) ≡ refuses number 0 counts = case-said (saidRun 0) (a 0) t in
+    let z : _≡_ {A = ℕ} 0 1 = cc in
+    absurd (omega arith)
 
-told-failed : (what : Run) (attrs : ℕ) {r : run.the-data} {why : Reason} → r ≡ runAnswer attrs what → r ≡ run.Refused why → what ≡ failed why
-unfolding runAnswer
-told-failed (ran xs h p) attrs a t = let z : _≡_ {A = ℕ} 0 1 = cc in absurd (omega arith)
-told-failed (failed why′) attrs {why = why} a t = let same : run.Refused why′ ≡ run.Refused why = sym a ∙ t in cc
+-- and one that was refused is told at any place
+told-failed : (what : Said Run) (attrs : ℕ) {r : run.the-data} {why : Reason} → ((key : ℕ) → saidRun key r ≡ runAnswer attrs (placed key what))
+    → r ≡ run.Refused why → (key : ℕ) → placed key what ≡ refuse why key
+unfolding saidRun placed _>>=_
+told-failed (gives x) attrs {why = why} a t key =
+    let same : refuse why 0 ≡ gives (run.Ran (x .stopped) (attrs + length (x .attrs)) (x .high)) = case-said (saidRun 0) (a 0) t in
+    let z : _≡_ {A = ℕ} 0 1 = cc in
+    absurd (omega arith)
+told-failed (refuses number field counts) attrs {why = why} a t key =
+    let same : _≡_ {A = Said run.the-data} (refuse why key) (refuses number key counts) = case-said (saidRun key) (a key) t in
+    cc
 
-module _ (s : List ℕ) (from : State) (ready : BodyReady s from) (shape : Shape) (what : Run) {rows₀ rows₁ attrs₀ attrs₁ : List ℕ} where
+module _ (s : List ℕ) (from : State) (ready : BodyReady s from) (shape : Shape) (what : Said Run) {rows₀ rows₁ attrs₀ attrs₁ : List ℕ} where
   pub body-read : {r : run.the-data} {place n flags kind : ℕ} {high : Bool} → RunRead s (from .at + 6) (from .attrs) what r attrs₀ attrs₁ → r ≡ run.Ran place n high
       → kind ≡ kindOf (shape .root) (shape .kind) high → flags ≡ flagsOf (shape .erased) (shape .root) (shape .endian)
       → rows₁ ≡ putRow rows₀ (from .rows) (record { key = from .at; kind = kind; flags = flags; first = from .attrs; count = n - from .attrs })
-      → BodyRead s from shape what (body.Read (record { at = place; rows = from .rows + 1; attrs = n })) rows₀ rows₁ attrs₀ attrs₁
-  unfolding bodyAnswer rowsWords rowWords
+      → BodyRead s from shape (placed (from .at) what) (body.Read (record { at = place; rows = from .rows + 1; attrs = n })) rows₀ rows₁ attrs₀ attrs₁
+  unfolding saidBody placed _>>=_ rowsWords rowWords
   body-read {r} {place} {n} {flags} {kind} {high} q t k f w =
       let told = told-ran what (from .attrs) (q .answer) t in
       let xs : List Attr = told .0 in
-      let is : what ≡ ran xs high place = told .1 in
+      let is : placed (from .at) what ≡ gives (ran xs high place) = ap (placed (from .at)) (told .1) in
       let count : n ≡ from .attrs + length xs = told .2 in
       let stored : RunStored s (from .at + 6) (from .attrs) xs place attrs₀ attrs₁ =
-      subst (λ (u : Run). RunStores s (from .at + 6) (from .attrs) u attrs₀ attrs₁) is (q .stores)
+      subst (λ (u : Said Run). RunStores s (from .at + 6) (from .attrs) u attrs₀ attrs₁) (told .1) (q .stores)
       in
       let same-count : n - from .attrs ≡ length xs = omega arith in
       let put : ℕ → ℕ → ℕ → List ℕ =
@@ -80,9 +94,9 @@ module _ (s : List ℕ) (from : State) (ready : BodyReady s from) (shape : Shape
       let here : place ≤ length s = stored .here in
       let ahead : from .at + 6 ≤ place = stored .forward in
       record {
-        answer = ap (λ (m : ℕ). body.Read (record { at = place; rows = from .rows + 1; attrs = m })) count ∙ ap (bodyAnswer from) (sym is);
+        answer = ap (λ (m : ℕ). gives (record { at = place; rows = from .rows + 1; attrs = m })) count ∙ ap (λ (w : Said Run). bodyAnswer from w) (sym is);
         stores =
-            subst (λ (u : Run). BodyStores s from shape u rows₀ rows₁ attrs₀ attrs₁) (sym is) (
+            subst (λ (u : Said Run). BodyStores s from shape u rows₀ rows₁ attrs₀ attrs₁) (sym is) (
               record {
                 row-words =
                     w
@@ -100,20 +114,23 @@ module _ (s : List ℕ) (from : State) (ready : BodyReady s from) (shape : Shape
       }
 
   pub body-refused : {r : run.the-data} {why : Reason} → RunRead s (from .at + 6) (from .attrs) what r attrs₀ attrs₁ → r ≡ run.Refused why
-      → BodyRead s from shape what (body.Refused why) rows₀ rows₁ attrs₀ attrs₁
-  unfolding bodyAnswer
+      → BodyRead s from shape (placed (from .at) what) (body.Refused why) rows₀ rows₁ attrs₀ attrs₁
+  unfolding saidBody _>>=_
   body-refused q t =
-      let is = told-failed what (from .attrs) (q .answer) t in
-      record { answer = ap (bodyAnswer from) (sym is); stores = subst (λ (u : Run). BodyStores s from shape u rows₀ rows₁ attrs₀ attrs₁) (sym is) tt }
+      let is = told-failed what (from .attrs) (q .answer) t (from .at) in
+      record {
+        answer = ap (λ (w : Said Run). bodyAnswer from w) (sym is);
+        stores = subst (λ (u : Said Run). BodyStores s from shape u rows₀ rows₁ attrs₀ attrs₁) (sym is) tt;
+      }
 
 -- a count of attributes fits: it is at most the place
-pub run-few : (s : List ℕ) (at attrs : ℕ) (what : Run) {r : run.the-data} {place n : ℕ} {high : Bool} {table₀ table₁ : List ℕ} → length s < 2 ^ 32
+pub run-few : (s : List ℕ) (at attrs : ℕ) (what : Said Run) {r : run.the-data} {place n : ℕ} {high : Bool} {table₀ table₁ : List ℕ} → length s < 2 ^ 32
     → RunRead s at attrs what r table₀ table₁ → r ≡ run.Ran place n high → (attrs ≤ n) × (n < 2 ^ 32)
 run-few s at attrs what {place = place} {n} {high} {table₀} {table₁} small q t =
     let told = told-ran what attrs (q .answer) t in
     let xs : List Attr = told .0 in
     let count : n ≡ attrs + length xs = told .2 in
-    let stored : RunStored s at attrs xs place table₀ table₁ = subst (λ (u : Run). RunStores s at attrs u table₀ table₁) (told .1) (q .stores) in
+    let stored : RunStored s at attrs xs place table₀ table₁ = subst (λ (u : Said Run). RunStores s at attrs u table₀ table₁) (told .1) (q .stores) in
     (omega arith, omega (arith, stored .few, stored .here))
 
 -- ---- an ordinary entry and an erased root
@@ -125,109 +142,101 @@ abbrev pub rootShape : Endian → ℕ → Shape
 rootShape e end = record { erased = true; root = true; endian = e; kind = tag.Padding; end = end }
 
 module _ (s : List ℕ) (from : State) {rows₀ rows₁ attrs₀ attrs₁ : List ℕ} where
-  pub ordinary-read : (isErased : Bool) (e : Endian) (kind end : ℕ) (what : Run) {b : body.the-data} {to : State}
+  pub ordinary-read : (isErased : Bool) (e : Endian) (kind end : ℕ) (what : Said Run) {b : body.the-data} {to : State}
       → BodyRead s from (ordinaryShape isErased e kind end) what b rows₀ rows₁ attrs₀ attrs₁ → b ≡ body.Read to
-      → EntryRead s from (ordinary isErased e (from .at) kind (from .attrs) what) (entry.Next to) rows₀ rows₁ attrs₀ attrs₁
-  unfolding bodyAnswer ordinary entryAnswer
-  ordinary-read isErased e kind end (ran xs high place) {b} {to} q t =
-      let same : body.Read to ≡ body.Read (advanced from 1 (length xs) place) = sym t ∙ q .answer in
-      let is : to ≡ advanced from 1 (length xs) place = cc in
-      record { answer = ap entry.Next is; stores = q .stores }
-  ordinary-read isErased e kind end (failed why) {b} {to} q t =
-      let same : body.Read to ≡ body.Refused why = sym t ∙ q .answer in
+      → EntryRead s from (what >>= (λ run. gives (ordinary isErased e (from .at) kind (from .attrs) run))) (entry.Next to) rows₀ rows₁ attrs₀ attrs₁
+  unfolding saidBody kindOf saidEntry entryAnswer _>>=_
+  ordinary-read isErased e kind end (gives x) {b} {to} q t =
+      let same : gives to ≡ gives (advanced from 1 (length (x .attrs)) (x .stopped)) = case-said (saidBody (from .at)) (q .answer) t in
+      let is : to ≡ advanced from 1 (length (x .attrs)) (x .stopped) = cc in
+      record { answer = ap (λ (state : State). gives (entry.Next state)) is; stores = q .stores }
+  ordinary-read isErased e kind end (refuses number place counts) {b} {to} q t =
+      let same : gives to ≡ refuses number place counts = case-said (saidBody (from .at)) (q .answer) t in
       let z : _≡_ {A = ℕ} 0 1 = cc in
       absurd (omega arith)
 
-  pub ordinary-refused : (isErased : Bool) (e : Endian) (kind end : ℕ) (what : Run) {b : body.the-data} {why : Reason}
-      → BodyRead s from (ordinaryShape isErased e kind end) what b rows₀ rows₁ attrs₀ attrs₁ → b ≡ body.Refused why
-      → EntryRead s from (ordinary isErased e (from .at) kind (from .attrs) what) (entry.Refused why) rows₀ rows₁ attrs₀ attrs₁
-  unfolding bodyAnswer ordinary entryAnswer
-  ordinary-refused isErased e kind end (ran xs high place) {b} {why} q t =
-      let same : body.Refused why ≡ body.Read (advanced from 1 (length xs) place) = sym t ∙ q .answer in
-      let z : _≡_ {A = ℕ} 0 1 = cc in
-      absurd (omega arith)
-  ordinary-refused isErased e kind end (failed why′) {b} {why} q t =
-      let same : body.Refused why ≡ body.Refused why′ = sym t ∙ q .answer in
-      let is : why ≡ why′ = cc in
-      record { answer = ap entry.Refused is; stores = tt }
-
-  pub rooted-read : (e : Endian) (end : ℕ) (what : Run) {b : body.the-data} {to : State} → end ≤ farthest
+  pub rooted-read : (e : Endian) (end : ℕ) (what : Said Run) {b : body.the-data} {to : State} → end ≤ farthest
       → BodyRead s from (rootShape e end) what b rows₀ rows₁ attrs₀ attrs₁ → b ≡ body.Read to
-      → EntryRead s from (rooted e (from .at) end (from .attrs) what) (entry.Inside to e end) rows₀ rows₁ attrs₀ attrs₁
-  unfolding bodyAnswer rooted entryAnswer
-  rooted-read e end (ran xs high place) {b} {to} near q t =
-      let same : body.Read to ≡ body.Read (advanced from 1 (length xs) place) = sym t ∙ q .answer in
-      let is : to ≡ advanced from 1 (length xs) place = cc in
-      record { answer = ap (λ (x : State). entry.Inside x e end) is; stores = (q .stores .0, q .stores .1, near) }
-  rooted-read e end (failed why) {b} {to} near q t =
-      let same : body.Read to ≡ body.Refused why = sym t ∙ q .answer in
+      → EntryRead s from (what >>= (λ run. gives (rooted e (from .at) end (from .attrs) run))) (entry.Inside to e end) rows₀ rows₁ attrs₀ attrs₁
+  unfolding saidBody kindOf saidEntry entryAnswer _>>=_
+  rooted-read e end (gives x) {b} {to} near q t =
+      let same : gives to ≡ gives (advanced from 1 (length (x .attrs)) (x .stopped)) = case-said (saidBody (from .at)) (q .answer) t in
+      let is : to ≡ advanced from 1 (length (x .attrs)) (x .stopped) = cc in
+      record { answer = ap (λ (state : State). gives (entry.Inside state e end)) is; stores = (q .stores .0, q .stores .1, near) }
+  rooted-read e end (refuses number place counts) {b} {to} near q t =
+      let same : gives to ≡ refuses number place counts = case-said (saidBody (from .at)) (q .answer) t in
       let z : _≡_ {A = ℕ} 0 1 = cc in
       absurd (omega arith)
 
-  pub rooted-refused : (e : Endian) (end : ℕ) (what : Run) {b : body.the-data} {why : Reason}
-      → BodyRead s from (rootShape e end) what b rows₀ rows₁ attrs₀ attrs₁ → b ≡ body.Refused why
-      → EntryRead s from (rooted e (from .at) end (from .attrs) what) (entry.Refused why) rows₀ rows₁ attrs₀ attrs₁
-  unfolding bodyAnswer rooted entryAnswer
-  rooted-refused e end (ran xs high place) {b} {why} q t =
-      let same : body.Refused why ≡ body.Read (advanced from 1 (length xs) place) = sym t ∙ q .answer in
+  -- what refuses the attributes refuses the entry
+  pub body-stops : (shape : Shape) (entryOf : Run → Entry) (what : Said Run) {b : body.the-data} {why : Reason}
+      → BodyRead s from shape what b rows₀ rows₁ attrs₀ attrs₁ → b ≡ body.Refused why
+      → EntryRead s from (what >>= (λ run. gives (entryOf run))) (entry.Refused why) rows₀ rows₁ attrs₀ attrs₁
+  unfolding saidBody saidEntry _>>=_
+  body-stops shape entryOf (gives x) {b} {why} q t =
+      let same : refuse why (from .at) ≡ gives (advanced from 1 (length (x .attrs)) (x .stopped)) = case-said (saidBody (from .at)) (q .answer) t in
       let z : _≡_ {A = ℕ} 0 1 = cc in
       absurd (omega arith)
-  rooted-refused e end (failed why′) {b} {why} q t =
-      let same : body.Refused why ≡ body.Refused why′ = sym t ∙ q .answer in
-      let is : why ≡ why′ = cc in
-      record { answer = ap entry.Refused is; stores = tt }
+  body-stops shape entryOf (refuses number place counts) {b} {why} q t =
+      let same : _≡_ {A = Said State} (refuse why (from .at)) (refuses number place counts) = case-said (saidBody (from .at)) (q .answer) t in
+      record { answer = cc; stores = tt }
 
   -- a refusal that the entry is by its definition
-  pub stopped : {what : Entry} (why : Reason) → what ≡ stop why → EntryRead s from what (entry.Refused why) rows₀ rows₁ attrs₀ attrs₁
-  unfolding entryAnswer
+  pub stopped : {what : Said Entry} (why : Reason) → what ≡ refuse why (from .at) → EntryRead s from what (entry.Refused why) rows₀ rows₁ attrs₀ attrs₁
+  unfolding saidEntry _>>=_
   stopped why p =
-      record { answer = ap (entryAnswer from) (sym p); stores = subst (λ (w : Entry). EntryStores s from w rows₀ rows₁ attrs₀ attrs₁) (sym p) tt }
+      record {
+        answer = ap (λ (w : Said Entry). w >>= (λ x. gives (entryAnswer from x))) (sym p);
+        stores = subst (λ (w : Said Entry). EntryStores s from w rows₀ rows₁ attrs₀ attrs₁) (sym p) tt;
+      }
 
   -- the same entry under another name
-  pub renamed : {what what′ : Entry} {r : entry.the-data} → what ≡ what′ → EntryRead s from what′ r rows₀ rows₁ attrs₀ attrs₁
+  pub renamed : {what what′ : Said Entry} {r : entry.the-data} → what ≡ what′ → EntryRead s from what′ r rows₀ rows₁ attrs₀ attrs₁
       → EntryRead s from what r rows₀ rows₁ attrs₀ attrs₁
-  renamed {r = r} p q = subst (λ (w : Entry). EntryRead s from w r rows₀ rows₁ attrs₀ attrs₁) (sym p) q
+  renamed {r = r} p q = subst (λ (w : Said Entry). EntryRead s from w r rows₀ rows₁ attrs₀ attrs₁) (sym p) q
 
 -- ---- by head
 
 module _ (vendors : List ℕ) (global : ℕ) (s : List ℕ) (isErased : Bool) (e : Endian) (at a end : ℕ) where
-  pub nested : (levels : ℕ) → levels ≡ 0 → entryFrom (source vendors global s) levels (mode isErased e) at a (head.Root end) ≡ stop reason.Nested
+  pub nested : (levels : ℕ) → levels ≡ 0 → entryFrom (source vendors global s) levels (mode isErased e) at a (head.Root end) ≡ refuse reason.Nested at
   unfolding entryFrom
   nested levels h = rw h
 
-  pub root-is : (levels : ℕ) {inner : Endian} → (levels ≡ 0 → ⊥) → rootEndian vendors s isErased e at ≡ look.Is inner
-      → entryFrom (source vendors global s) levels (mode isErased e) at a (head.Root end) ≡ rooted inner at end a (attributes (source vendors global s) inner true end at)
-  unfolding entryFrom rootIn
-  root-is zero h p = absurd (h refl)
-  root-is (suc l) h p = rw p
+  pub root-is : (levels : ℕ) {r : look.the-data} {inner : Endian} → (levels ≡ 0 → ⊥) → saidLook at r ≡ rootEndian vendors s isErased e at → r ≡ look.Is inner
+      → entryFrom (source vendors global s) levels (mode isErased e) at a (head.Root end)
+      ≡ (attributes (source vendors global s) inner true end at >>= (λ run. gives (rooted inner at end a run)))
+  unfolding entryFrom saidLook _>>=_
+  root-is zero h is t = absurd (h refl)
+  root-is (suc l) h is t = rw (← case-said (saidLook at) is t)
 
-  pub root-short : (levels : ℕ) → (levels ≡ 0 → ⊥) → rootEndian vendors s isErased e at ≡ look.Short
-      → entryFrom (source vendors global s) levels (mode isErased e) at a (head.Root end) ≡ stop reason.Short
-  unfolding entryFrom rootIn
-  root-short zero h p = absurd (h refl)
-  root-short (suc l) h p = rw p
+  pub root-short : (levels : ℕ) {r : look.the-data} → (levels ≡ 0 → ⊥) → saidLook at r ≡ rootEndian vendors s isErased e at → r ≡ look.Short
+      → entryFrom (source vendors global s) levels (mode isErased e) at a (head.Root end) ≡ refuse reason.Short at
+  unfolding entryFrom saidLook _>>=_
+  root-short zero h is t = absurd (h refl)
+  root-short (suc l) h is t = rw (← case-said (saidLook at) is t)
 
 -- the data endianness of a root
 module _ (vendors s : List ℕ) (e : Endian) (at : ℕ) where
-  pub endian-inside : {isErased : Bool} → isErased ≡ true → look.Is e ≡ rootEndian vendors s isErased e at
-  unfolding rootEndian
+  pub endian-inside : {isErased : Bool} → isErased ≡ true → saidLook at (look.Is e) ≡ rootEndian vendors s isErased e at
+  unfolding rootEndian saidLook
   endian-inside h = rw h
 
   pub endian-known : {isErased : Bool} (n : ℕ) → isErased ≡ false → known vendors n ≡ true
-      → look.Is (cond (known vendors n) e (flip e)) ≡ readAt (λ k. look.Is (cond (known vendors k) e (flip e))) look.Short e 2 s (at + 6)
-      → look.Is e ≡ rootEndian vendors s isErased e at
-  unfolding rootEndian
-  endian-known n h k p = rw h (ap (λ (b : Bool). look.Is (cond b e (flip e))) (sym k) ∙ p)
+      → gives (cond (known vendors n) e (flip e)) ≡ readAt (λ k. gives (cond (known vendors k) e (flip e))) (refuse reason.Short at) e 2 s (at + 6)
+      → saidLook at (look.Is e) ≡ rootEndian vendors s isErased e at
+  unfolding rootEndian saidLook
+  endian-known n h k p = rw h (ap (λ (b : Bool). gives (cond b e (flip e))) (sym k) ∙ p)
 
   pub endian-flipped : {isErased : Bool} (n : ℕ) {other : Endian} → isErased ≡ false → known vendors n ≡ false → other ≡ flip e
-      → look.Is (cond (known vendors n) e (flip e)) ≡ readAt (λ k. look.Is (cond (known vendors k) e (flip e))) look.Short e 2 s (at + 6)
-      → look.Is other ≡ rootEndian vendors s isErased e at
-  unfolding rootEndian
-  endian-flipped n h k f p = rw h (ap look.Is f ∙ ap (λ (b : Bool). look.Is (cond b e (flip e))) (sym k) ∙ p)
+      → gives (cond (known vendors n) e (flip e)) ≡ readAt (λ k. gives (cond (known vendors k) e (flip e))) (refuse reason.Short at) e 2 s (at + 6)
+      → saidLook at (look.Is other) ≡ rootEndian vendors s isErased e at
+  unfolding rootEndian saidLook
+  endian-flipped n h k f p = rw h (ap gives f ∙ ap (λ (b : Bool). gives (cond b e (flip e))) (sym k) ∙ p)
 
   pub endian-short : {isErased : Bool} → isErased ≡ false
-      → look.Short ≡ readAt (λ k. look.Is (cond (known vendors k) e (flip e))) look.Short e 2 s (at + 6) → look.Short ≡ rootEndian vendors s isErased e at
-  unfolding rootEndian
+      → refuse reason.Short at ≡ readAt (λ k. gives (cond (known vendors k) e (flip e))) (refuse reason.Short at) e 2 s (at + 6)
+      → saidLook at look.Short ≡ rootEndian vendors s isErased e at
+  unfolding rootEndian saidLook
   endian-short h p = rw h p
 
 -- ---- a null entry, and padding that is stepped over
@@ -246,10 +255,10 @@ null-read from isErased e place {rows₀ = rows₀} f w =
 module _ (vendors : List ℕ) (global : ℕ) (s : List ℕ) (levels : ℕ) (isErased : Bool) (e : Endian) (from : State) (ready : Ready s from) (place : ℕ) where
   pub entry-null : {r : entry.the-data} {rows₀ rows₁ attrs₀ : List ℕ} → HeadBounds s (from .at) (head.Null place) → NullRead from isErased e place r rows₀ rows₁
       → EntryRead s from (entryFrom (source vendors global s) levels (mode isErased e) (from .at) (from .attrs) (head.Null place)) r rows₀ rows₁ attrs₀ attrs₀
-  unfolding entryFrom entryAnswer attrsWords
+  unfolding entryFrom saidEntry entryAnswer _>>=_ attrsWords
   entry-null b q =
       record {
-        answer = q .answer;
+        answer = ap (saidEntry (from .at)) (q .answer);
         stores = (
           record {
             row-words = q .words;
@@ -266,11 +275,11 @@ module _ (vendors : List ℕ) (global : ℕ) (s : List ℕ) (levels : ℕ) (isEr
   pub entry-skipped : {rows₀ attrs₀ : List ℕ} → HeadBounds s (from .at) (head.Skipped place)
       → EntryRead s from (entryFrom (source vendors global s) levels (mode isErased e) (from .at) (from .attrs) (head.Skipped place))
       (entry.Next (record { at = place; rows = from .rows; attrs = from .attrs })) rows₀ rows₀ attrs₀ attrs₀
-  unfolding entryFrom entryAnswer attrsWords rowsWords
+  unfolding entryFrom saidEntry entryAnswer _>>=_ attrsWords rowsWords
   entry-skipped b =
       record {
         answer =
-            ap₂ (λ (n m : ℕ). entry.Next (record { at = place; rows = n; attrs = m })) (sym (add-zero (from .rows))) (sym (add-zero (from .attrs)));
+            ap₂ (λ (n m : ℕ). gives (entry.Next (record { at = place; rows = n; attrs = m }))) (sym (add-zero (from .rows))) (sym (add-zero (from .attrs)));
         stores = (
           record {
             row-words = refl;

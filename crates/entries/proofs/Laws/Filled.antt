@@ -1,5 +1,6 @@
 -- A table that reading filled: it holds the rows and attributes that the walk gave, no more rows than the section has groups of four bytes, and it passes
 -- the table test with the same section and vendor list.
+use Rattle.format.proofs.Laws.Said.{rooms-gave, fills-gave}
 use Prim.Native.Nat.{ℕ, suc, _+_, _*_, _≤_}
 use native.Mathlib.Nat.{add-zero}
 use native.Mathlib.Omega.{arith}
@@ -8,32 +9,27 @@ use mathlib.Core.Bool.{Bool, true, false}
 use mathlib.Core.List.{List, [], _∷_, _++_}
 use lib.ListN.{length, length-append}
 use lib.Seq.{length-sets}
-use lib.Dec.{ltb}
 use borrow.Author.Tests.{eq-eqb}
 use Rattle.entries.specs.Source.{source, mode}
-use Rattle.lent.specs.Outcome.{Outcomes, outcomes}
-use Rattle.numbers.proofs.Laws.Tests.{cond-all}
+use Rattle.lent.specs.Outcome.{Outcomes}
 use Rattle.numbers.specs.declared.Endian.{Endian}
-use Rattle.format.specs.Limits.{sectionLimit, erasedLimit}
-use Rattle.format.specs.Settings.{settingsHold}
+use Rattle.format.specs.Limits.{erasedLimit}
+use Rattle.format.specs.Said.{Said, gives}
 use Rattle.format.specs.declared.settings.Settings.{Settings}
-use Rattle.format.specs.declared.refusal.Reason.{Reason}
-use Rattle.format.specs.declared.refusal.Reason.the-variants as reason
 use Rattle.tables.specs.Row.{rowsWords, attrsWords, rowAt, attrAt, rowsFrom, attrsFrom, endianOf}
 use Rattle.tables.proofs.Laws.Row.{rows-back, attrs-back}
-use Rattle.tables.specs.Holds.{fitting, runHolds, rowHolds, rowsHold, tableHolds}
+use Rattle.tables.specs.Holds.{runHolds, rowHolds, rowsHold, tableHolds}
 use Rattle.tables.proofs.Laws.Holds.{row-passes, table-rows, Fits, fits-all}
 use Rattle.tables.proofs.Laws.Held.{attr-passes}
 use Rattle.tables.specs.declared.row.Row.{Row}
 use Rattle.tables.specs.declared.row.Attr.{Attr}
 use Rattle.tables.specs.declared.row.Counts.{Counts}
-use Rattle.entries.specs.Walk.{Entries, entriesRead, entriesRefused, readTags}
-use Rattle.entries.specs.Section.{wholeWalk, refusal, counts, intoTables, readDebugSection}
+use Rattle.entries.specs.Walk.{entries, readTags}
+use Rattle.entries.specs.Section.{wholeWalk, countsOf, sectionEntries, readDebugSection}
+use Rattle.entries.proofs.Laws.Section.{section-gave, read-stored}
 use Rattle.entries.proofs.Laws.KnownRun.{AllKnown, none-known, more-known}
 use Rattle.entries.proofs.Laws.RowsRead.{RowRead, RowsRead, no-rows, more-rows, WalkRows, walk-rows}
-use Rattle.entries.specs.declared.section.Section.the-variants.{Read, Room}
 use Rattle.entries.specs.Filled.{KeysRise, TableFilled}
-use Rattle.entries.specs.declared.section.Section.{Section}
 
 -- ---- keys
 
@@ -51,11 +47,11 @@ rise-few top least (r ∷ rs) h rise =
 
 -- they so rise in the rows that a walk gives, from the place where it began
 pub keys-rise : (vendors : List ℕ) (global : ℕ) (erased : Bool) (s : List ℕ) (levels : ℕ) (isErased : Bool) (e : Endian) (end a at : ℕ) {rs : List Row}
-    {xs : List Attr} {place : ℕ} → readTags (source vendors global s) erased levels (mode isErased e) end a at ≡ entriesRead rs xs place → KeysRise (length s) at rs
+    {xs : List Attr} {place : ℕ} → readTags (source vendors global s) erased levels (mode isErased e) end a at ≡ gives (entries rs xs place) → KeysRise (length s) at rs
 keys-rise vendors global erased s levels isErased e end a at whole =
     rows-rise (subst (WalkRows s vendors at a) whole (walk-rows s vendors global erased levels isErased e end a at))
 
-module _ (settings : Settings) (vendors s : List ℕ) {rs : List Row} {xs : List Attr} {place : ℕ} (whole : wholeWalk settings vendors s ≡ entriesRead rs xs place) where
+module _ (settings : Settings) (vendors s : List ℕ) {rs : List Row} {xs : List Attr} {place : ℕ} (whole : wholeWalk settings vendors s ≡ gives (entries rs xs place)) where
   -- the rows of the whole walk
   pub whole-rows : RowsRead s vendors 0 0 rs xs place
   unfolding wholeWalk
@@ -118,46 +114,9 @@ module _ (s vendors rows attrs : List ℕ) where
       let room : run + length own ≤ total = omega arith in
       rw (here, held-row-passes h known (parts .0) room, known .run-long) (held-rows-pass total (suc i) later others (parts .1) (omega arith))
 
--- ---- the answer
-
-module _ (settings : Settings) (vendors s rows attrs : List ℕ) (c : Counts) where
-  -- an outcome that answers with these counts filled the tables
-  abbrev Fills : Outcomes Section ℕ ℕ → Type 0
-  Fills o = o .answer ≡ Read c → TableFilled settings vendors s rows attrs c o
-
-  -- a refusal answers no counts, nor does 8
-  refused-fills : (why : Reason) (at : ℕ) → Fills (outcomes (refusal why at) rows attrs)
-  refused-fills why at p = let z : _≡_ {A = ℕ} 0 1 = cc in absurd (omega arith)
-
-  room-fills : (n m : ℕ) → Fills (outcomes (Room (counts n m)) rows attrs)
-  room-fills n m p = let z : _≡_ {A = ℕ} 0 1 = cc in absurd (omega arith)
-
-  -- what the walk gave, where it fits
-  stored-fills : (w : Entries) → wholeWalk settings vendors s ≡ w → Fills (intoTables w rows attrs)
-  unfolding intoTables
-  stored-fills (entriesRead rs xs place) whole =
-      let d : Counts = counts (length rs) (length xs) in
-      cond-all Fills (fitting d (length rows) (length attrs))
-      (λ t p. (let same : d ≡ c = cc in
-      let room : Fits d (length rows) (length attrs) = fits-all d (length rows) (length attrs) t in
-      record {
-        rs = rs;
-        xs = xs;
-        place = place;
-        whole = whole;
-        counted = sym same;
-        fits = rw (← same) t;
-        rows-stored = refl;
-        attrs-stored = refl;
-        rows-held = rows-back rows rs (room .rows-lent);
-        attrs-held = attrs-back attrs xs (room .attrs-lent);
-      }))
-      (λ t. room-fills (length rs) (length xs))
-  stored-fills (entriesRefused why at) whole = refused-fills why at
-
 -- ---- the theorems
 
-module _ {settings : Settings} {vendors s rows attrs : List ℕ} {c : Counts} {o : Outcomes Section ℕ ℕ} (filled : TableFilled settings vendors s rows attrs c o) where
+module _ {settings : Settings} {vendors s rows attrs : List ℕ} {c : Counts} {o : Outcomes (Said Counts) ℕ ℕ} (filled : TableFilled settings vendors s rows attrs c o) where
   filled-few : c .rows * 4 ≤ length s
   filled-few =
       let few : 0 + length (filled .rs) * 4 ≤ length s =
@@ -177,15 +136,30 @@ module _ {settings : Settings} {vendors s rows attrs : List ℕ} {c : Counts} {o
       ∙ rw rows-counted
       (held-rows-pass s vendors (o .first) (o .second) (c .attrs) 0 (whole-rows settings vendors s (filled .whole)) (filled .rows-held) (filled .attrs-held) (omega arith))
 
-module _ (settings : Settings) (vendors sizes s rows attrs : List ℕ) (c : Counts) (answers : readDebugSection settings vendors sizes s rows attrs .answer ≡ Read c) where
+module _ (settings : Settings) (vendors sizes s rows attrs : List ℕ) (c : Counts) (answers : readDebugSection settings vendors sizes s rows attrs .answer ≡ gives c) where
   -- an answer of counts filled the tables
   pub answer-read : TableFilled settings vendors s rows attrs c (readDebugSection settings vendors sizes s rows attrs)
   unfolding readDebugSection
   answer-read =
-      let P : Outcomes Section ℕ ℕ → Type 0 = Fills settings vendors s rows attrs c in
-      cond-all P (settingsHold settings vendors sizes)
-      (λ t. cond-all P (ltb (length s) sectionLimit) (λ u. stored-fills settings vendors s rows attrs c (wholeWalk settings vendors s) refl)
-      (λ u. refused-fills settings vendors s rows attrs c reason.Long 0)) (λ t. refused-fills settings vendors s rows attrs c reason.Settings 0) answers
+      let read = rooms-gave rows attrs (sectionEntries settings vendors sizes s) _ answers in
+      let stored = fills-gave _ _ _ _ _ rows attrs (read .2) in
+      let same : countsOf (read .0) ≡ c = stored .1 in
+      let room : Fits (countsOf (read .0)) (length rows) (length attrs) = fits-all (countsOf (read .0)) (length rows) (length attrs) (stored .0) in
+      let is = read-stored settings vendors sizes s rows attrs (read .1) (stored .0) in
+      let rows-are = ap (λ (o : Outcomes (Said Counts) ℕ ℕ). o .first) is in
+      let attrs-are = ap (λ (o : Outcomes (Said Counts) ℕ ℕ). o .second) is in
+      record {
+        rs = read .0 .rows;
+        xs = read .0 .attrs;
+        place = read .0 .stopped;
+        whole = section-gave settings vendors sizes s (read .1) .2;
+        counted = sym same;
+        fits = rw (← same) (stored .0);
+        rows-stored = rows-are;
+        attrs-stored = attrs-are;
+        rows-held = rw rows-are (rows-back rows (read .0 .rows) (room .rows-lent));
+        attrs-held = rw attrs-are (attrs-back attrs (read .0 .attrs) (room .attrs-lent));
+      }
 
   -- there are no more rows than a quarter of the bytes
   pub rows-at-most-quarter : c .rows * 4 ≤ length s

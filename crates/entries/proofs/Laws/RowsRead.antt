@@ -17,17 +17,19 @@ use Rattle.numbers.specs.declared.Endian.the-variants.{Big, Little}
 use Rattle.format.specs.Lookup.{isOn}
 use Rattle.format.specs.TagKind.{tags}
 use Rattle.format.specs.TagKind as tag
+use Rattle.format.specs.Said.{Said, gives, refuses, refuse, _>>=_}
 use Rattle.format.specs.declared.refusal.Reason.the-variants as reason
 use Rattle.tables.specs.Row.{endianOf}
 use Rattle.tables.specs.declared.row.Row.{Row}
 use Rattle.tables.specs.declared.row.Attr.{Attr}
 use Rattle.entries.specs.Head.{nullEnd, tagHead, sizeHead, headAt}
-use Rattle.entries.specs.Run.{Run, ran, failed}
-use Rattle.entries.specs.Entry.{Entry, next, inside, stop, row, flagOf, flagsOf, littleFlag, kindOf, ordinary, rooted, attributes, rootIn, entryFrom, readEntry}
-use Rattle.entries.specs.Walk.{Entries, entriesRead, entriesRefused, join, entriesThen, onward, entriesFrom, readTags}
+use Rattle.entries.specs.Run.{Run}
+use Rattle.entries.specs.Entry.{Entry, next, inside, row, flagOf, flagsOf, littleFlag, rootKind, attributes, entryFrom, readEntry}
+use Rattle.entries.specs.Inside.Promise.{ordinary, rooted}
+use Rattle.entries.specs.Walk.{Entries, entries, entriesThen, wholeEntry, entriesFrom, readTags}
+use Rattle.entries.proofs.Laws.Walk.{join}
 use Rattle.entries.proofs.Laws.KnownRun.{AllKnown, none-known, RunKnown, by-test, run-known}
-use Rattle.entries.specs.declared.entry.Look.{Look}
-use Rattle.entries.specs.declared.entry.Look.the-variants.{Is, Short}
+use Rattle.format.proofs.Laws.Said.{placed-keeps}
 use Rattle.entries.specs.declared.head.Head.{Head}
 use Rattle.entries.specs.declared.head.Head.the-variants.{Null, Root, Refused}
 
@@ -89,10 +91,10 @@ unfolding flagsOf
 flags-few isErased root e = omega (arith, flag-few isErased 1, flag-few root 2, little-few e)
 
 -- an entry's rows, from its place on
-abbrev pub EntryRows : List ℕ → List ℕ → ℕ → ℕ → Entry → Type 0
-EntryRows s vendors at a (next rs xs place) = RowsRead s vendors at a rs xs place
-EntryRows s vendors at a (inside r xs place e end) = RowsRead s vendors at a (r ∷ []) xs place
-EntryRows s vendors at a (stop why) = Unit
+abbrev pub EntryRows : List ℕ → List ℕ → ℕ → ℕ → Said Entry → Type 0
+EntryRows s vendors at a (gives (next rs xs place)) = RowsRead s vendors at a rs xs place
+EntryRows s vendors at a (gives (inside r xs place e end)) = RowsRead s vendors at a (r ∷ []) xs place
+EntryRows s vendors at a (refuses number place counts) = Unit
 
 module _ (s vendors : List ℕ) (at a : ℕ) where
   -- the one row of an entry whose first four bytes are there
@@ -112,24 +114,37 @@ module _ (s vendors : List ℕ) (at a : ℕ) where
       in
       subst (λ (own : List Attr). RowsRead s vendors at a (r ∷ []) own place) (append-nil xs) (more-rows (le-refl at) whole (no-rows forward))
 
-  ordinary-rows : (isErased : Bool) (e : Endian) (kind : ℕ) (r : Run) → at + 4 ≤ length s → isOn kind tags ≡ true → RunKnown s vendors e (at + 6) r
-      → EntryRows s vendors at a (ordinary isErased e at kind a r)
-  unfolding ordinary kindOf
-  ordinary-rows isErased e kind (ran xs high place) room k known = one-row isErased false e kind xs room k (known .0) (omega arith)
-  ordinary-rows isErased e kind (failed why) room k known = tt
+  ordinary-rows : (isErased : Bool) (e : Endian) (kind : ℕ) (r : Said Run) → at + 4 ≤ length s → isOn kind tags ≡ true → RunKnown s vendors e (at + 6) r
+      → EntryRows s vendors at a (r >>= (λ run. gives (ordinary isErased e at kind a run)))
+  unfolding _>>=_
+  ordinary-rows isErased e kind (gives x) room k known = one-row isErased false e kind (x .attrs) room k (known .0) (omega (arith, known .1))
+  ordinary-rows isErased e kind (refuses number place counts) room k known = tt
 
-  rooted-rows : (e : Endian) (end : ℕ) (r : Run) → at + 4 ≤ length s → RunKnown s vendors e (at + 6) r → EntryRows s vendors at a (rooted e at end a r)
-  unfolding rooted kindOf tags isOn
-  rooted-rows e end (ran xs true place) room known = one-row true true e tag.Subroutine xs room refl (known .0) (omega arith)
-  rooted-rows e end (ran xs false place) room known = one-row true true e tag.LocalVariable xs room refl (known .0) (omega arith)
-  rooted-rows e end (failed why) room known = tt
+  -- either kind of a root is a tag
+  root-tag : (high : Bool) → isOn (rootKind high) tags ≡ true
+  unfolding rootKind tags isOn
+  root-tag true = refl
+  root-tag false = refl
+
+  rooted-rows : (e : Endian) (end : ℕ) (r : Said Run) → at + 4 ≤ length s → RunKnown s vendors e (at + 6) r
+      → EntryRows s vendors at a (r >>= (λ run. gives (rooted e at end a run)))
+  unfolding _>>=_
+  rooted-rows e end (gives x) room known =
+      one-row true true e (rootKind (x .high)) (x .attrs) room (root-tag (x .high)) (known .0) (omega (arith, known .1))
+  rooted-rows e end (refuses number place counts) room known = tt
 
   module _ (global : ℕ) where
-    root-rows : (end : ℕ) (found : Look) → at + 4 ≤ length s → EntryRows s vendors at a (rootIn (source vendors global s) at end a found)
-    unfolding rootIn attributes
-    root-rows end (Is e) room =
-        rooted-rows e end (attributes (source vendors global s) e true end at) room (run-known s vendors e global true end (suc (length s)) false (at + 6))
-    root-rows end Short room = tt
+    -- the attributes of an entry are known
+    attributes-known : (e : Endian) (root : Bool) (end : ℕ) → RunKnown s vendors e (at + 6) (attributes (source vendors global s) e root end at)
+    unfolding attributes
+    attributes-known e root end =
+        placed-keeps (RunKnown s vendors e (at + 6)) at _ (run-known s vendors e global root end (suc (length s)) false (at + 6)) (λ number counts. tt)
+
+    root-rows : (end : ℕ) (found : Said Endian) → at + 4 ≤ length s
+        → EntryRows s vendors at a (found >>= (λ e. attributes (source vendors global s) e true end at >>= (λ run. gives (rooted e at end a run))))
+    unfolding _>>=_
+    root-rows end (gives e) room = rooted-rows e end (attributes (source vendors global s) e true end at) room (attributes-known e true end)
+    root-rows end (refuses number place counts) room = tt
 
     -- an erased root, where one more level is allowed
     root-begins : (levels : ℕ) (isErased : Bool) (e : Endian) (end : ℕ) → at + 4 ≤ length s
@@ -144,13 +159,12 @@ module _ (s vendors : List ℕ) (at a : ℕ) where
       HeadRows h = EntryRows s vendors at a (entryFrom (source vendors global s) levels (mode isErased e) at a h)
 
       tag-rows : (erased : Bool) (size kind : ℕ) → 8 ≤ size → at + 4 ≤ length s → HeadRows (tagHead erased (at + size) kind)
-      unfolding entryFrom tagHead attributes
+      unfolding entryFrom tagHead
       tag-rows erased size kind some room =
           cond-all HeadRows (isOn kind tags)
           (λ k. cond-all HeadRows (eqb kind tag.Padding)
           (λ p. cond-all HeadRows erased (λ on. root-begins levels isErased e (at + size) room) (λ off. no-rows (omega arith)))
-          (λ p. ordinary-rows isErased e kind (attributes (source vendors global s) e false (at + size) at) room k
-          (run-known s vendors e global false (at + size) (suc (length s)) false (at + 6))))
+          (λ p. ordinary-rows isErased e kind (attributes (source vendors global s) e false (at + size) at) room k (attributes-known e false (at + size))))
           (λ k. tt)
 
       null-rows : (size : ℕ) → at + 4 ≤ length s → HeadRows (Null (nullEnd at size))
@@ -176,46 +190,50 @@ module _ (s vendors : List ℕ) (at a : ℕ) where
 -- ---- a walk
 
 -- a walk's rows, from its place on
-abbrev pub WalkRows : List ℕ → List ℕ → ℕ → ℕ → Entries → Type 0
-WalkRows s vendors at a (entriesRead rs xs place) = RowsRead s vendors at a rs xs place
-WalkRows s vendors at a (entriesRefused why place) = Unit
+abbrev pub WalkRows : List ℕ → List ℕ → ℕ → ℕ → Said Entries → Type 0
+WalkRows s vendors at a (gives all) = RowsRead s vendors at a (all .rows) (all .attrs) (all .stopped)
+WalkRows s vendors at a (refuses number place counts) = Unit
 
 module _ (s vendors : List ℕ) where
   -- rows read before, and a walk after them
-  join-rows : {at a place : ℕ} {rs : List Row} {xs : List Attr} (w : Entries) → RowsRead s vendors at a rs xs place → WalkRows s vendors place (a + length xs) w
-      → WalkRows s vendors at a (join rs xs w)
-  unfolding join
-  join-rows (entriesRead rs′ xs′ last) before after = rows-then before after
-  join-rows (entriesRefused why last) before after = tt
+  join-rows : {at a place : ℕ} {rs : List Row} {xs : List Attr} (w : Said Entries) → RowsRead s vendors at a rs xs place
+      → WalkRows s vendors place (a + length xs) w → WalkRows s vendors at a (join rs xs w)
+  unfolding join _>>=_
+  join-rows (gives all) before after = rows-then before after
+  join-rows (refuses number place counts) before after = tt
 
   -- what follows is such from wherever it begins
-  abbrev Follows : (ℕ → ℕ → Entries) → Type 0
+  abbrev Follows : (ℕ → ℕ → Said Entries) → Type 0
   Follows k = (b at : ℕ) → WalkRows s vendors at b (k b at)
 
-  then-rows : (at a : ℕ) (w : Entries) (k : ℕ → ℕ → Entries) → WalkRows s vendors at a w → Follows k → WalkRows s vendors at a (entriesThen a w k)
-  unfolding entriesThen
-  then-rows at a (entriesRead rs xs place) k before after = join-rows (k (a + length xs) place) before (after (a + length xs) place)
-  then-rows at a (entriesRefused why place) k before after = tt
+  then-rows : (at a : ℕ) (w : Said Entries) (k : ℕ → ℕ → Said Entries) → WalkRows s vendors at a w → Follows k
+      → WalkRows s vendors at a (w >>= (λ front. entriesThen a front k))
+  unfolding entriesThen join _>>=_
+  then-rows at a (gives front) k before after =
+      join-rows (k (a + length (front .attrs)) (front .stopped)) before (after (a + length (front .attrs)) (front .stopped))
+  then-rows at a (refuses number place counts) k before after = tt
 
-  onward-rows : (within : Endian → ℕ → ℕ → ℕ → Entries) → ((e : Endian) (end : ℕ) → Follows (within e end)) → (at a : ℕ) (x : Entry) (k : ℕ → ℕ → Entries)
-      → EntryRows s vendors at a x → Follows k → WalkRows s vendors at a (onward within at a x k)
-  unfolding onward
-  onward-rows within deeper at a (next rs xs place) k here after = then-rows at a (entriesRead rs xs place) k here after
-  onward-rows within deeper at a (inside r xs place e end) k here after =
-      then-rows at a (entriesRead (r ∷ []) xs place) (λ b at′. entriesThen b (within e end b at′) k) here
-      (λ b at′. then-rows at′ b (within e end b at′) k (deeper e end b at′) after)
-  onward-rows within deeper at a (stop why) k here after = tt
+  onward-rows : (within : Endian → ℕ → ℕ → ℕ → Said Entries) → ((e : Endian) (end : ℕ) → Follows (within e end)) → (at a : ℕ) (x : Said Entry)
+      (k : ℕ → ℕ → Said Entries) → EntryRows s vendors at a x → Follows k
+      → WalkRows s vendors at a (x >>= (λ entry. wholeEntry within a entry >>= (λ front. entriesThen a front k)))
+  unfolding wholeEntry _>>=_
+  onward-rows within deeper at a (gives (next rs xs place)) k here after = then-rows at a (gives (entries rs xs place)) k here after
+  onward-rows within deeper at a (gives (inside r xs place e end)) k here after =
+      then-rows at a (entriesThen a (entries (r ∷ []) xs place) (within e end)) k
+      (then-rows at a (gives (entries (r ∷ []) xs place)) (within e end) here (deeper e end)) after
+  onward-rows within deeper at a (refuses number place counts) k here after = tt
 
   module _ (global : ℕ) (erased : Bool) where
     -- entries one after the other, given that what stands inside roots is such
-    from-rows : (within : Endian → ℕ → ℕ → ℕ → Entries) → ((e : Endian) (end : ℕ) → Follows (within e end)) → (levels : ℕ) (isErased : Bool) (e : Endian)
+    from-rows : (within : Endian → ℕ → ℕ → ℕ → Said Entries) → ((e : Endian) (end : ℕ) → Follows (within e end)) → (levels : ℕ) (isErased : Bool) (e : Endian)
         (end f : ℕ) → Follows (entriesFrom (source vendors global s) erased within levels (mode isErased e) end f)
     unfolding entriesFrom
     from-rows within deeper levels isErased e end zero a at = no-rows (le-refl at)
     from-rows within deeper levels isErased e end (suc f) a at =
         by-test (ltb at end)
         (λ t. rw (t, entriesFrom)
-        (onward-rows within deeper at a (readEntry (source vendors global s) erased levels (mode isErased e) at a) (entriesFrom (source vendors global s) erased within levels (mode isErased e) end f)
+        (onward-rows within deeper at a (readEntry (source vendors global s) erased levels (mode isErased e) at a)
+        (λ b at′. entriesFrom (source vendors global s) erased within levels (mode isErased e) end f b at′)
         (entry-rows s vendors at a global levels isErased e erased) (from-rows within deeper levels isErased e end f)))
         (λ t. rw (t, entriesFrom) (no-rows (le-refl at)))
 
@@ -223,7 +241,7 @@ module _ (s vendors : List ℕ) where
     pub walk-rows : (levels : ℕ) (isErased : Bool) (e : Endian) (end : ℕ) → Follows (readTags (source vendors global s) erased levels (mode isErased e) end)
     unfolding readTags
     walk-rows zero isErased e end a at =
-        from-rows (λ e′ end′ b at′. entriesRefused reason.Nested at′) (λ e′ end′ b at′. tt) zero isErased e end (suc (length s)) a at
+        from-rows (λ e′ end′ b at′. refuse reason.Nested at′) (λ e′ end′ b at′. tt) zero isErased e end (suc (length s)) a at
     walk-rows (suc l) isErased e end a at =
         from-rows (λ e′ end′ b at′. readTags (source vendors global s) erased l (mode true e′) end′ b at′) (λ e′ end′. walk-rows l true e′ end′) (suc l) isErased e end
         (suc (length s)) a at

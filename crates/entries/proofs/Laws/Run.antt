@@ -12,6 +12,7 @@ use Rattle.entries.specs.Source.{source}
 use Rattle.numbers.specs.Value.{readAt}
 use Rattle.numbers.specs.declared.Endian.{Endian}
 use Rattle.format.specs.AttributeKind as number
+use Rattle.format.specs.Said.{Said, gives, refuses, refuse, _>>=_, placed}
 use Rattle.format.specs.declared.refusal.Reason.{Reason}
 use Rattle.format.specs.declared.refusal.Reason.the-variants as reason
 use Rattle.attributes.specs.Read.{readAttribute}
@@ -22,8 +23,8 @@ use Rattle.tables.specs.Row.{attrWidth, attrWords, attrsWords, putAttr}
 use Rattle.tables.proofs.Laws.Row.{attrs-append}
 use Rattle.tables.specs.declared.row.Attr.{Attr}
 use Rattle.format.specs.Settings.{plays}
-use Rattle.entries.specs.Run.{Run, ran, failed, attr, first, runEnds, readOn, readRun}
-use Rattle.entries.specs.Inside.Promise.{RunReady, RunStores, RunRead, runAnswer}
+use Rattle.entries.specs.Run.{Run, ran, attr, runEnds, readOn, readRun}
+use Rattle.entries.specs.Inside.Promise.{RunReady, RunStores, RunRead, saidRun, runAnswer}
 use Rattle.entries.specs.declared.run.Run.the-variants as run
 
 -- ---- does the run end here?
@@ -44,29 +45,28 @@ module _ (global : ℕ) (s : List ℕ) (e : Endian) (at : ℕ) where
 
 -- ---- attributes read before others
 
-unfoldable pub before : List Attr → Run → Run
-before xs (ran ys high at) = ran (xs ++ ys) high at
-before xs (failed why) = failed why
+unfoldable pub before : List Attr → Said Run → Said Run
+before xs r = r >>= (λ later. gives (ran (xs ++ later .attrs) (later .high) (later .stopped)))
 
-before-none : (r : Run) → before [] r ≡ r
-unfolding before
-before-none (ran ys high at) = refl
-before-none (failed why) = refl
+before-none : (r : Said Run) → before [] r ≡ r
+unfolding before _>>=_
+before-none (gives later) = refl
+before-none (refuses number place counts) = refl
 
-before-one : (xs : List Attr) (a : Attr) (r : Run) → before (xs ++ (a ∷ [])) r ≡ before xs (first a r)
-unfolding before first
-before-one xs a (ran ys high at) = ap (λ (l : List Attr). ran l high at) (append-assoc xs (a ∷ []) ys)
-before-one xs a (failed why) = refl
+before-one : (xs : List Attr) (a : Attr) (r : Said Run) → before (xs ++ (a ∷ [])) r ≡ before xs (before (a ∷ []) r)
+unfolding before _>>=_
+before-one xs a (gives later) = ap (λ (l : List Attr). gives (ran l (later .high) (later .stopped))) (append-assoc xs (a ∷ []) (later .attrs))
+before-one xs a (refuses number place counts) = refl
 
-before-last : (xs : List Attr) (high : Bool) (at : ℕ) → before xs (ran [] high at) ≡ ran xs high at
-unfolding before
-before-last xs high at = ap (λ (l : List Attr). ran l high at) (append-nil xs)
+before-last : (xs : List Attr) (high : Bool) (at : ℕ) → before xs (gives (ran [] high at)) ≡ gives (ran xs high at)
+unfolding before _>>=_
+before-last xs high at = ap (λ (l : List Attr). gives (ran l high at)) (append-nil xs)
 
 -- ---- the loop
 
 module _ (vendors : List ℕ) (global : ℕ) (s : List ℕ) (e : Endian) (root : Bool) (end : ℕ) where
   -- the whole, from `at` on
-  abbrev pub whole : ℕ → Run
+  abbrev pub whole : ℕ → Said Run
   whole at = readRun (source vendors global s) e root end (suc (length s)) false at
 
   -- xs were read and stored, f turns are left at least, and what is left comes to the whole
@@ -102,31 +102,31 @@ module _ (vendors : List ℕ) (global : ℕ) (s : List ℕ) (e : Endian) (root :
   turn-read : (f : ℕ) (high : Bool) (place : ℕ) {m v next : ℕ} → place < end → runEnds global s e high place ≡ false
       → readAttribute vendors e s place ≡ Read m v next
       → readRun (source vendors global s) e root end (suc f) high place
-      ≡ first (attr m v) (readRun (source vendors global s) e root end f (high || (root && eqb m number.HighPc)) next)
-  unfolding readRun readOn
+      ≡ before (attr m v ∷ []) (readRun (source vendors global s) e root end f (high || (root && eqb m number.HighPc)) next)
+  unfolding readRun readOn before
   turn-read f high place h k p = rw (lt-ltb place end h, k, p, readRun)
 
   turn-failed : (f : ℕ) (high : Bool) (place field : ℕ) → place < end → runEnds global s e high place ≡ false
-      → readAttribute vendors e s place ≡ Short field → readRun (source vendors global s) e root end (suc f) high place ≡ failed reason.Short
+      → readAttribute vendors e s place ≡ Short field → readRun (source vendors global s) e root end (suc f) high place ≡ refuse reason.Short field
   unfolding readRun readOn
   turn-failed f high place field h k p = rw (lt-ltb place end h, k, p, readRun)
 
   turn-unknown : (f : ℕ) (high : Bool) (place field : ℕ) → place < end → runEnds global s e high place ≡ false
-      → readAttribute vendors e s place ≡ Unknown field → readRun (source vendors global s) e root end (suc f) high place ≡ failed reason.Attribute
+      → readAttribute vendors e s place ≡ Unknown field → readRun (source vendors global s) e root end (suc f) high place ≡ refuse reason.Attribute field
   unfolding readRun readOn
   turn-unknown f high place field h k p = rw (lt-ltb place end h, k, p, readRun)
 
   -- where nothing is read any more, whatever turns are left
-  turn-ends : (t : ℕ) (high : Bool) (place : ℕ) → runEnds global s e high place ≡ true → readRun (source vendors global s) e root end t high place ≡ ran [] high place
+  turn-ends : (t : ℕ) (high : Bool) (place : ℕ) → runEnds global s e high place ≡ true → readRun (source vendors global s) e root end t high place ≡ gives (ran [] high place)
   unfolding readRun
   turn-ends zero high place k = refl
   turn-ends (suc f) high place k = go (ltb place end) refl
     where
-      go : (b : Bool) → ltb place end ≡ b → readRun (source vendors global s) e root end (suc f) high place ≡ ran [] high place
+      go : (b : Bool) → ltb place end ≡ b → readRun (source vendors global s) e root end (suc f) high place ≡ gives (ran [] high place)
       go true p = rw (p, k, readRun)
       go false p = rw (p, readRun)
 
-  turn-past : (t : ℕ) (high : Bool) (place : ℕ) → end ≤ place → readRun (source vendors global s) e root end t high place ≡ ran [] high place
+  turn-past : (t : ℕ) (high : Bool) (place : ℕ) → end ≤ place → readRun (source vendors global s) e root end t high place ≡ gives (ran [] high place)
   unfolding readRun
   turn-past zero high place h = refl
   turn-past (suc f) high place h = rw (le-ltb place end h, readRun)
@@ -171,17 +171,17 @@ module _ (vendors : List ℕ) (global : ℕ) (s : List ℕ) (e : Endian) (root :
         }
 
     -- how the whole comes out, where what is left comes to r
-    comes-to : {r : Run} → readRun (source vendors global s) e root end (l .turns) high place ≡ r → before (l .xs) r ≡ whole at
+    comes-to : {r : Said Run} → readRun (source vendors global s) e root end (l .turns) high place ≡ r → before (l .xs) r ≡ whole at
     comes-to p = ap (before (l .xs)) (sym p) ∙ l .rest
 
-    stopped : readRun (source vendors global s) e root end (l .turns) high place ≡ ran [] high place → RunRead s at attrs (whole at) (run.Ran place n high) table₀ table
-    unfolding runAnswer
+    stopped : readRun (source vendors global s) e root end (l .turns) high place ≡ gives (ran [] high place) → RunRead s at attrs (whole at) (run.Ran place n high) table₀ table
+    unfolding saidRun placed _>>=_
     stopped p =
-        let all : ran (l .xs) high place ≡ whole at = sym (before-last (l .xs) high place) ∙ comes-to p in
+        let all : gives (ran (l .xs) high place) ≡ whole at = sym (before-last (l .xs) high place) ∙ comes-to p in
         record {
-          answer = ap (λ (k : ℕ). run.Ran place k high) (l .count) ∙ ap (runAnswer attrs) all;
+          answer = λ key. ap (λ (k : ℕ). gives (run.Ran place k high)) (l .count) ∙ ap (λ (w : Said Run). runAnswer attrs (placed key w)) all;
           stores =
-              subst (λ (r : Run). RunStores s at attrs r table₀ table) all
+              subst (λ (r : Said Run). RunStores s at attrs r table₀ table) all
               (record { words = l .words; few = omega (arith, l .count, l .few); forward = l .forward; here = l .here });
         }
 
@@ -192,25 +192,28 @@ module _ (vendors : List ℕ) (global : ℕ) (s : List ℕ) (e : Endian) (root :
     pub ends : runEnds global s e high place ≡ true → RunRead s at attrs (whole at) (run.Ran place n high) table₀ table
     ends k = stopped (turn-ends (l .turns) high place k)
 
-    refused : (why : Reason) → readRun (source vendors global s) e root end (l .turns) high place ≡ failed why
+    refused : (why : Reason) (field : ℕ) → readRun (source vendors global s) e root end (l .turns) high place ≡ refuse why field
         → RunRead s at attrs (whole at) (run.Refused why) table₀ table
-    unfolding runAnswer before
-    refused why p =
-        let all : failed why ≡ whole at = comes-to p in
-        record { answer = ap (runAnswer attrs) all; stores = subst (λ (r : Run). RunStores s at attrs r table₀ table) all tt }
+    unfolding saidRun placed before _>>=_
+    refused why field p =
+        let all : refuse why field ≡ whole at = comes-to p in
+        record {
+          answer = λ key. ap (λ (w : Said Run). runAnswer attrs (placed key w)) all;
+          stores = subst (λ (r : Said Run). RunStores s at attrs r table₀ table) all tt;
+        }
 
     pub short : {field : ℕ} → place < end → runEnds global s e high place ≡ false → readAttribute vendors e s place ≡ Short field
         → RunRead s at attrs (whole at) (run.Refused reason.Short) table₀ table
     short {field} h k p =
         let left = one-left (l .turns) (l .fuel) in
-        refused reason.Short
+        refused reason.Short field
         (ap (λ (t : ℕ). readRun (source vendors global s) e root end t high place) (left .1) ∙ turn-failed (left .0) high place field h k p)
 
     pub unknown : {field : ℕ} → place < end → runEnds global s e high place ≡ false → readAttribute vendors e s place ≡ Unknown field
         → RunRead s at attrs (whole at) (run.Refused reason.Attribute) table₀ table
     unknown {field} h k p =
         let left = one-left (l .turns) (l .fuel) in
-        refused reason.Attribute
+        refused reason.Attribute field
         (ap (λ (t : ℕ). readRun (source vendors global s) e root end t high place) (left .1) ∙ turn-unknown (left .0) high place field h k p)
 
     -- the table keeps its length, and every turn goes forward

@@ -3,33 +3,32 @@ use Prim.Native.Nat.{ℕ, _*_, _≤_, _<_}
 use native.Mathlib.Nat.{zero-add}
 use native.Mathlib.Omega.{arith}
 use mathlib.Core.Path.{_≡_, refl, sym, ap, ap₂, _∙_, subst}
-use mathlib.Core.Bool.{Bool, true, false, cond}
-use mathlib.Core.List.{List}
+use mathlib.Core.Bool.{Bool, true, false}
+use mathlib.Core.List.{List, [], _∷_}
 use lib.ListN.{length}
+use lib.Seq.{sets}
 use lib.Dec.{leb, ltb}
 use borrow.Author.Tests.{le-leb, lt-leb, lt-ltb, le-ltb, ltb-true}
 use Rattle.lent.specs.Outcome.{Outcomes, BothGiven, outcomes}
 use Rattle.format.specs.Limits.{sectionLimit, entryLimit, attributeLimit}
 use Rattle.format.specs.Settings.{settingsHold}
+use Rattle.format.specs.Said.{Said, gives, refuses, refuse, refusal, wanting, must, _>>=_, _>>_, inRooms, fillsRooms}
+use Rattle.format.proofs.Laws.Said.{case-said, must-gave, step-gave}
 use Rattle.format.specs.declared.settings.Settings.{Settings}
 use Rattle.format.specs.declared.refusal.Reason.{Reason}
 use Rattle.format.specs.declared.refusal.Reason.the-variants as reason
 use Rattle.format.specs.declared.refusal.Refusal.{Refusal}
-use Rattle.tables.specs.Row.{rowWidth, attrWidth}
-use Rattle.tables.specs.declared.row.Row.{Row}
-use Rattle.tables.specs.declared.row.Attr.{Attr}
+use Rattle.tables.specs.Row.{rowWidth, attrWidth, rowsWords, attrsWords}
 use Rattle.tables.specs.declared.row.Counts.{Counts}
-use Rattle.entries.specs.Walk.{Entries, entriesRead, entriesRefused}
-use Rattle.entries.specs.Inside.Promise.{start, Stored, walkAnswer, WalkStores, WalkRead}
+use Rattle.entries.specs.Walk.{Entries}
+use Rattle.entries.specs.Inside.Promise.{start, Stored, saidWalk, walked, WalkStores, WalkRead}
 use Rattle.entries.proofs.Laws.Walk.{told-walked, told-refused}
 use Rattle.tables.specs.Holds.{fitting}
-use Rattle.entries.specs.Section.{wholeWalk, counts, refusal, intoTables, readDebugSection, uncounted, counted, countDebugSection}
+use Rattle.entries.specs.Section.{saidCount, wholeWalk, counts, countsOf, sectionEntries, readDebugSection, countDebugSection}
 use Rattle.entries.specs.declared.entry.State.{State}
 use Rattle.entries.specs.declared.walk.Walk.the-variants as walk
 use Rattle.entries.specs.declared.section.Count.{Count}
 use Rattle.entries.specs.declared.section.Count.the-variants as count
-use Rattle.entries.specs.declared.section.Section.{Section}
-use Rattle.entries.specs.declared.section.Section.the-variants.{Read, Refused, Room}
 
 -- ---- do the counts fit?
 
@@ -51,135 +50,117 @@ module _ (c : Counts) (lentRows lentAttrs : ℕ) where
   unfolding fitting
   attrs-decide h k l = rw (le-leb (c .rows) entryLimit h, le-leb (c .rows * rowWidth) lentRows k, le-leb (c .attrs) attributeLimit l)
 
--- ---- counting
+-- ---- what a section gave
 
 module _ (settings : Settings) (vendors sizes s : List ℕ) where
-  pub count-settings : {r : Count} → settingsHold settings vendors sizes ≡ false → r ≡ uncounted reason.Settings 0 → r ≡ countDebugSection settings vendors sizes s
-  unfolding countDebugSection
-  count-settings h p = rw h p
+  -- it passed both tests
+  pub section-gave : {all : Entries} → sectionEntries settings vendors sizes s ≡ gives all
+      → (settingsHold settings vendors sizes ≡ true) × (ltb (length s) sectionLimit ≡ true) × (wholeWalk settings vendors s ≡ gives all)
+  unfolding sectionEntries
+  section-gave p =
+      let held = must-gave (settingsHold settings vendors sizes) reason.Settings 0 _ p in
+      let short = must-gave (ltb (length s) sectionLimit) reason.Long 0 _ (held .1) in
+      (held .0, short .0, short .1)
+
+  -- ---- counting
+
+  pub count-settings : {r : Count} → settingsHold settings vendors sizes ≡ false → r ≡ count.Refused (record { reason = reason.Settings; place = 0 })
+      → saidCount r ≡ countDebugSection settings vendors sizes s
+  unfolding saidCount countDebugSection sectionEntries must _>>_ _>>=_
+  count-settings h p = rw h (ap saidCount p)
 
   module _ (h : settingsHold settings vendors sizes ≡ true) where
-    pub count-long : {r : Count} → sectionLimit ≤ length s → r ≡ uncounted reason.Long 0 → r ≡ countDebugSection settings vendors sizes s
-    unfolding countDebugSection
-    count-long k p = rw (h, le-ltb (length s) sectionLimit k) p
+    pub count-long : {r : Count} → sectionLimit ≤ length s → r ≡ count.Refused (record { reason = reason.Long; place = 0 })
+        → saidCount r ≡ countDebugSection settings vendors sizes s
+    unfolding saidCount countDebugSection sectionEntries must _>>_ _>>=_
+    count-long k p = rw (h, le-ltb (length s) sectionLimit k) (ap saidCount p)
 
-    module _ (k : length s < sectionLimit) {r : walk.the-data} (w : r ≡ walkAnswer start (wholeWalk settings vendors s)) where
-      count-as : {v : Entries} → wholeWalk settings vendors s ≡ v → counted v ≡ countDebugSection settings vendors sizes s
-      unfolding countDebugSection
-      count-as is = rw (h, lt-ltb (length s) sectionLimit k) (ap counted (sym is))
+    count-as : length s < sectionLimit → {v : Said Entries} → wholeWalk settings vendors s ≡ v
+        → (v >>= (λ all. gives (countsOf all))) ≡ countDebugSection settings vendors sizes s
+    unfolding countDebugSection sectionEntries must _>>_
+    count-as k is = rw (h, lt-ltb (length s) sectionLimit k) (ap (λ (v : Said Entries). v >>= (λ all. gives (countsOf all))) (sym is))
 
-      pub count-read : {to : State} → r ≡ walk.Walked to → count.Counted (counts (to .rows) (to .attrs)) ≡ countDebugSection settings vendors sizes s
-      unfolding counted
+    module _ (k : length s < sectionLimit) {r : walk.the-data} (w : saidWalk r ≡ walked start (wholeWalk settings vendors s)) where
+      pub count-read : {to : State} → r ≡ walk.Walked to → saidCount (count.Counted (counts (to .rows) (to .attrs))) ≡ countDebugSection settings vendors sizes s
+      unfolding saidCount _>>=_
       count-read {to} t =
           let told = told-walked start (wholeWalk settings vendors s) w t in
-          let n : to .rows ≡ length (told .0) = ap (λ (x : State). x .rows) (told .4) ∙ zero-add (length (told .0)) in
-          let m : to .attrs ≡ length (told .1) = ap (λ (x : State). x .attrs) (told .4) ∙ zero-add (length (told .1)) in
-          ap₂ (λ (i j : ℕ). count.Counted (counts i j)) n m ∙ count-as (told .3)
+          let n : to .rows ≡ length (told .0 .rows) = ap (λ (x : State). x .rows) (told .2) ∙ zero-add (length (told .0 .rows)) in
+          let m : to .attrs ≡ length (told .0 .attrs) = ap (λ (x : State). x .attrs) (told .2) ∙ zero-add (length (told .0 .attrs)) in
+          ap₂ (λ (i j : ℕ). gives (counts i j)) n m ∙ count-as k (told .1)
 
-      pub count-refused : {c : Count} {why : Reason} {at : ℕ} → r ≡ walk.Refused why at → c ≡ uncounted why at → c ≡ countDebugSection settings vendors sizes s
-      unfolding counted
-      count-refused t p = p ∙ count-as (told-refused start (wholeWalk settings vendors s) w t)
+      pub count-refused : {c : Count} {why : Reason} {at : ℕ} → r ≡ walk.Refused why at → c ≡ count.Refused (record { reason = why; place = at })
+          → saidCount c ≡ countDebugSection settings vendors sizes s
+      unfolding saidCount _>>=_
+      count-refused t p = ap saidCount p ∙ count-as k (told-refused start (wholeWalk settings vendors s) w t)
 
   -- ---- what counting tells
 
   pub record Countable (c : Counts) : Type 0 where
-    pub holds : settingsHold settings vendors sizes ≡ true
-    pub short : length s < sectionLimit
-    pub rs : List Row
-    pub xs : List Attr
-    pub place : ℕ
-    pub is : wholeWalk settings vendors s ≡ entriesRead rs xs place
-    pub counts-are : c ≡ counts (length rs) (length xs)
+    pub all : Entries
+    pub is : sectionEntries settings vendors sizes s ≡ gives all
+    pub counts-are : countsOf all ≡ c
 
-  pub countable : {c : Counts} → countDebugSection settings vendors sizes s ≡ count.Counted c → Countable c
-  unfolding countDebugSection counted
-  countable {c} p = by-settings (settingsHold settings vendors sizes) refl p
-    where
-      by-walk : (v : Entries) → wholeWalk settings vendors s ≡ v → settingsHold settings vendors sizes ≡ true → length s < sectionLimit → counted v ≡ count.Counted c
-          → Countable c
-      by-walk (entriesRead rs xs at) is h k q =
-          record { holds = h; short = k; rs = rs; xs = xs; place = at; is = is; counts-are = cc }
-      by-walk (entriesRefused why at) is h k q = let z : _≡_ {A = ℕ} 0 1 = cc in absurd (omega arith)
+  pub countable : {r : Count} {c : Counts} → saidCount r ≡ countDebugSection settings vendors sizes s → r ≡ count.Counted c → Countable c
+  unfolding saidCount countDebugSection
+  countable p t =
+      let told = step-gave (sectionEntries settings vendors sizes s) _ (sym (case-said saidCount p t)) in
+      record { all = told .0; is = told .1; counts-are = cc (told .2) }
 
-      by-length : (b : Bool) → ltb (length s) sectionLimit ≡ b → settingsHold settings vendors sizes ≡ true
-          → cond b (counted (wholeWalk settings vendors s)) (uncounted reason.Long 0) ≡ count.Counted c → Countable c
-      by-length true k h q = by-walk (wholeWalk settings vendors s) refl h (ltb-true (length s) sectionLimit k) q
-      by-length false k h q = let z : _≡_ {A = ℕ} 0 1 = cc in absurd (omega arith)
-
-      by-settings : (b : Bool) → settingsHold settings vendors sizes ≡ b
-          → cond b (cond (ltb (length s) sectionLimit) (counted (wholeWalk settings vendors s)) (uncounted reason.Long 0)) (uncounted reason.Settings 0)
-          ≡ count.Counted c → Countable c
-      by-settings true h q = by-length (ltb (length s) sectionLimit) refl h q
-      by-settings false h q = let z : _≡_ {A = ℕ} 0 1 = cc in absurd (omega arith)
+  pub countable-short : {c : Counts} → Countable c → length s < sectionLimit
+  countable-short told = ltb-true (length s) sectionLimit (section-gave (told .is) .1)
 
   -- ---- reading
 
   module _ (rows attrs : List ℕ) where
+    -- what was read, by whether it fits
+    read-filled : {all : Entries} {fits : Bool} → sectionEntries settings vendors sizes s ≡ gives all → fitting (countsOf all) (length rows) (length attrs) ≡ fits
+        → readDebugSection settings vendors sizes s rows attrs
+        ≡ fillsRooms fits (countsOf all) (length (all .rows) ∷ length (all .attrs) ∷ []) (rowsWords (all .rows)) (attrsWords (all .attrs)) rows attrs
+    unfolding readDebugSection inRooms
+    read-filled p f = rw (p, f)
+
+    pub read-stored : {all : Entries} → sectionEntries settings vendors sizes s ≡ gives all → fitting (countsOf all) (length rows) (length attrs) ≡ true
+        → readDebugSection settings vendors sizes s rows attrs
+        ≡ outcomes (gives (countsOf all)) (sets rows 0 (rowsWords (all .rows))) (sets attrs 0 (attrsWords (all .attrs)))
+    unfolding fillsRooms
+    read-stored p f = read-filled p f
+
     -- an outcome that is known
-    outcome : {o : Outcomes Section ℕ ℕ} {r : Section} {rows₁ attrs₁ : List ℕ} → readDebugSection settings vendors sizes s rows attrs ≡ o → BothGiven o r rows₁ attrs₁
-        → BothGiven (readDebugSection settings vendors sizes s rows attrs) r rows₁ attrs₁
-    outcome {r = r} {rows₁} {attrs₁} p q = subst (λ (o : Outcomes Section ℕ ℕ). BothGiven o r rows₁ attrs₁) (sym p) q
+    outcome : {o : Outcomes (Said Counts) ℕ ℕ} {r : Said Counts} {rows₁ attrs₁ : List ℕ} → readDebugSection settings vendors sizes s rows attrs ≡ o
+        → BothGiven o r rows₁ attrs₁ → BothGiven (readDebugSection settings vendors sizes s rows attrs) r rows₁ attrs₁
+    outcome {r = r} {rows₁} {attrs₁} p q = subst (λ (o : Outcomes (Said Counts) ℕ ℕ). BothGiven o r rows₁ attrs₁) (sym p) q
 
-    walked-outcome : {c : Counts} (told : Countable c)
-        → readDebugSection settings vendors sizes s rows attrs ≡ intoTables (entriesRead (told .rs) (told .xs) (told .place)) rows attrs
-    unfolding readDebugSection
-    walked-outcome told =
-        rw (told .holds, lt-ltb (length s) sectionLimit (told .short)) (ap (λ (v : Entries). intoTables v rows attrs) (told .is))
+    module _ {c : Counts} (told : Countable c) where
+      fits-as : {b : Bool} → fitting c (length rows) (length attrs) ≡ b → fitting (countsOf (told .all)) (length rows) (length attrs) ≡ b
+      fits-as f = ap (λ (x : Counts). fitting x (length rows) (length attrs)) (told .counts-are) ∙ f
 
-    pub read-done : {c : Counts} {r : walk.the-data} {rows₁ attrs₁ : List ℕ} → countDebugSection settings vendors sizes s ≡ count.Counted c
-        → fitting c (length rows) (length attrs) ≡ true → WalkRead start (wholeWalk settings vendors s) r rows rows₁ attrs attrs₁
-        → BothGiven (readDebugSection settings vendors sizes s rows attrs) (Read c) rows₁ attrs₁
-    unfolding intoTables
-    read-done {c} {r} {rows₁} {attrs₁} p f w =
-        let told = countable p in
-        let fit : fitting (counts (length (told .rs)) (length (told .xs))) (length rows) (length attrs) ≡ true =
-        ap (λ (x : Counts). fitting x (length rows) (length attrs)) (sym (told .counts-are)) ∙ f
-        in
-        let all : Stored start (told .rs) (told .xs) (told .place) rows rows₁ attrs attrs₁ =
-        subst (λ (v : Entries). WalkStores start v rows rows₁ attrs attrs₁) (told .is) (w .stores)
-        in
-        outcome (walked-outcome told ∙ rw fit)
-        (record { answer-is = ap Read (told .counts-are); first-is = all .row-words; second-is = all .attr-words })
+      pub read-done : {r : walk.the-data} {rows₁ attrs₁ : List ℕ} → fitting c (length rows) (length attrs) ≡ true
+          → WalkRead start (wholeWalk settings vendors s) r rows rows₁ attrs attrs₁
+          → BothGiven (readDebugSection settings vendors sizes s rows attrs) (gives c) rows₁ attrs₁
+      read-done {r} {rows₁} {attrs₁} f w =
+          let all : Stored start (told .all .rows) (told .all .attrs) (told .all .stopped) rows rows₁ attrs attrs₁ =
+          subst (λ (v : Said Entries). WalkStores start v rows rows₁ attrs attrs₁) (section-gave (told .is) .2) (w .stores)
+          in
+          outcome (read-stored (told .is) (fits-as f))
+          (record { answer-is = ap gives (sym (told .counts-are)); first-is = all .row-words; second-is = all .attr-words })
 
-    pub read-room : {c : Counts} → countDebugSection settings vendors sizes s ≡ count.Counted c → fitting c (length rows) (length attrs) ≡ false
-        → BothGiven (readDebugSection settings vendors sizes s rows attrs) (Room c) rows attrs
-    unfolding intoTables
-    read-room {c} p f =
-        let told = countable p in
-        let fit : fitting (counts (length (told .rs)) (length (told .xs))) (length rows) (length attrs) ≡ false =
-        ap (λ (x : Counts). fitting x (length rows) (length attrs)) (sym (told .counts-are)) ∙ f
-        in
-        outcome (walked-outcome told ∙ rw fit) (record { answer-is = ap Room (told .counts-are); first-is = refl; second-is = refl })
+      pub read-room : fitting c (length rows) (length attrs) ≡ false
+          → BothGiven (readDebugSection settings vendors sizes s rows attrs) (wanting (c .rows ∷ c .attrs ∷ [])) rows attrs
+      unfolding fillsRooms
+      read-room f =
+          outcome (read-filled (told .is) (fits-as f))
+          (record { answer-is = ap (λ (x : Counts). wanting (x .rows ∷ x .attrs ∷ [])) (sym (told .counts-are)); first-is = refl; second-is = refl })
 
-    refused-as : (why : Refusal) → countDebugSection settings vendors sizes s ≡ count.Refused why
-        → readDebugSection settings vendors sizes s rows attrs ≡ outcomes (Refused why) rows attrs
-    unfolding countDebugSection counted readDebugSection intoTables
-    refused-as why p = by-settings (settingsHold settings vendors sizes) p
-      where
-        by-walk : (v : Entries) → counted v ≡ count.Refused why → intoTables v rows attrs ≡ outcomes (Refused why) rows attrs
-        by-walk (entriesRead rs xs at) q = let z : _≡_ {A = ℕ} 0 1 = cc in absurd (omega arith)
-        by-walk (entriesRefused reason at) q =
-            let same : record { reason = reason; place = at } ≡ why = cc in
-            ap (λ (x : Refusal). outcomes (Refused x) rows attrs) same
+    -- what refuses counting refuses reading
+    refused-as : (d : Said Entries) (next : Entries → Outcomes (Said Counts) ℕ ℕ) (why : Refusal) → refusal why ≡ (d >>= (λ all. gives (countsOf all)))
+        → inRooms rows attrs d next ≡ outcomes (refusal why) rows attrs
+    unfolding inRooms _>>=_
+    refused-as (gives all) next why p = let z : _≡_ {A = ℕ} 0 1 = cc in absurd (omega arith)
+    refused-as (refuses number place wanted) next why p = ap (λ (x : Said Counts). outcomes x rows attrs) (sym p)
 
-        by-length : (b : Bool) → cond b (counted (wholeWalk settings vendors s)) (uncounted reason.Long 0) ≡ count.Refused why
-            → cond b (intoTables (wholeWalk settings vendors s) rows attrs) (outcomes (refusal reason.Long 0) rows attrs) ≡ outcomes (Refused why) rows attrs
-        by-length true q = by-walk (wholeWalk settings vendors s) q
-        by-length false q =
-            let same : record { reason = reason.Long; place = 0 } ≡ why = cc in
-            ap (λ (x : Refusal). outcomes (Refused x) rows attrs) same
-
-        by-settings : (b : Bool)
-            → cond b (cond (ltb (length s) sectionLimit) (counted (wholeWalk settings vendors s)) (uncounted reason.Long 0)) (uncounted reason.Settings 0)
-            ≡ count.Refused why
-            → cond b (cond (ltb (length s) sectionLimit) (intoTables (wholeWalk settings vendors s) rows attrs) (outcomes (refusal reason.Long 0) rows attrs))
-            (outcomes (refusal reason.Settings 0) rows attrs)
-            ≡ outcomes (Refused why) rows attrs
-        by-settings true q = by-length (ltb (length s) sectionLimit) q
-        by-settings false q =
-            let same : record { reason = reason.Settings; place = 0 } ≡ why = cc in
-            ap (λ (x : Refusal). outcomes (Refused x) rows attrs) same
-
-    pub read-refused : {why : Refusal} → countDebugSection settings vendors sizes s ≡ count.Refused why
-        → BothGiven (readDebugSection settings vendors sizes s rows attrs) (Refused why) rows attrs
-    read-refused {why} p = outcome (refused-as why p) (record { answer-is = refl; first-is = refl; second-is = refl })
+    pub read-refused : {r : Count} {why : Refusal} → saidCount r ≡ countDebugSection settings vendors sizes s → r ≡ count.Refused why
+        → BothGiven (readDebugSection settings vendors sizes s rows attrs) (refusal why) rows attrs
+    unfolding saidCount countDebugSection readDebugSection
+    read-refused {why = why} p t =
+        outcome (refused-as (sectionEntries settings vendors sizes s) _ why (case-said saidCount p t)) (record { answer-is = refl; first-is = refl; second-is = refl })

@@ -11,14 +11,15 @@ use borrow.Author.Tests.{lt-ltb, le-ltb, leb-true, ne-eqb}
 use Rattle.entries.specs.Source.{source, mode}
 use Rattle.numbers.proofs.Laws.Tests.{cond-all}
 use Rattle.numbers.specs.declared.Endian.{Endian}
+use Rattle.format.specs.Said.{gives, _>>=_, placed}
 use Rattle.format.specs.Lookup.{isOn}
 use Rattle.format.proofs.Laws.Computed.{allBelow, beyond}
 use Rattle.format.specs.TagKind.{tags}
 use Rattle.format.specs.TagKind as tag
 use Rattle.format.specs.declared.refusal.Reason.the-variants as reason
 use Rattle.entries.specs.Head.{nullEnd, tagHead, sizeHead, headAt}
-use Rattle.entries.specs.Run.{ran}
-use Rattle.entries.specs.Entry.{next, kindOf, ordinary, attributes, entryFrom, readEntry}
+use Rattle.entries.specs.Run.{Run, ran, readRun}
+use Rattle.entries.specs.Entry.{next, attributes, entryFrom, readEntry}
 use Rattle.numbers.specs.Written.{bytesOf}
 use Rattle.entries.specs.Standard.{writtenAttributes, Die, null, padding, entry, writtenDie, writtenFrom, dieAttrs, dieRows}
 use Rattle.numbers.proofs.Laws.Stands.{Stands, front-stands}
@@ -79,9 +80,15 @@ die-long vendors e (entry kind k p b rest few) =
     rw (tagged-length e (length body + 6) kind body) (omega arith)
 
 module _ (vendors : List ℕ) (global : ℕ) (e : Endian) (s : List ℕ) (levels at a : ℕ) where
+  -- attributes that were read are the entry's
+  attributes-read : (end : ℕ) {x : Run} → readRun (source vendors global s) e false end (suc (length s)) false (at + 6) ≡ gives x
+      → attributes (source vendors global s) e false end at ≡ gives x
+  unfolding attributes placed
+  attributes-read end p = rw p
+
   pub die-read : (d : Die vendors e) → Stands s at (writtenDie vendors e d)
-      → readEntry (source vendors global s) false levels (mode false e) at a ≡ next (dieRows vendors e at a d) (dieAttrs vendors e at d) (at + length (writtenDie vendors e d))
-  unfolding writtenDie dieRows dieAttrs readEntry entryFrom ordinary kindOf attributes
+      → readEntry (source vendors global s) false levels (mode false e) at a ≡ gives (next (dieRows vendors e at a d) (dieAttrs vendors e at d) (at + length (writtenDie vendors e d)))
+  unfolding writtenDie dieRows dieAttrs readEntry entryFrom _>>=_
   die-read (null fill few small) q =
       let size : ℕ = length fill + 4 in
       let four : length (bytesOf e 4 size) ≡ 4 = bytes-length e 4 size in
@@ -100,7 +107,7 @@ module _ (vendors : List ℕ) (global : ℕ) (e : Endian) (s : List ℕ) (levels
       let head : headAt false s e at ≡ Ordinary kind (at + size) =
       tagged-head e s at size (omega arith) few (tag-small kind k) t ∙ ordinary-tag (at + size) kind k p
       in
-      let run : attributes (source vendors global s) e false (at + size) at ≡ ran (writtenFrom vendors e (at + 6) (b ∷ rest)) false (at + size) =
-      run-read vendors global e s (b ∷ rest) (suc (length s)) (at + size) (at + 6) (t .body-stands) (omega arith) (omega arith)
+      let run : attributes (source vendors global s) e false (at + size) at ≡ gives (ran (writtenFrom vendors e (at + 6) (b ∷ rest)) false (at + size)) =
+      attributes-read (at + size) (run-read vendors global e s (b ∷ rest) (suc (length s)) (at + size) (at + 6) (t .body-stands) (omega arith) (omega arith))
       in
       rw (head, tagged-length e size kind body, run)

@@ -8,7 +8,8 @@ use lib.ListN.{length, length-append}
 use borrow.Author.Tests.{lt-ltb, le-ltb}
 use Rattle.entries.specs.Source.{source}
 use Rattle.numbers.specs.declared.Endian.{Endian}
-use Rattle.entries.specs.Run.{ran, first, readOn, runEnds, readRun}
+use Rattle.format.specs.Said.{gives, _>>=_}
+use Rattle.entries.specs.Run.{ran, readOn, runEnds, readRun}
 use Rattle.numbers.specs.Written.{bytesOf}
 use Rattle.entries.specs.Standard.{Attribute, writtenAttribute, writtenAttributes, writtenFrom}
 use Rattle.numbers.proofs.Laws.Stands.{Stands, front-stands, back-stands}
@@ -29,18 +30,18 @@ module _ (vendors : List ℕ) (e : Endian) where
 
 module _ (vendors : List ℕ) (global : ℕ) (e : Endian) (s : List ℕ) where
   pub run-read : (xs : List (Attribute vendors e)) (f end at : ℕ) → Stands s at (writtenAttributes vendors e xs) → length s < at + f
-      → at + length (writtenAttributes vendors e xs) ≡ end → readRun (source vendors global s) e false end f false at ≡ ran (writtenFrom vendors e at xs) false end
-  unfolding writtenAttributes readRun writtenFrom readOn first runEnds
+      → at + length (writtenAttributes vendors e xs) ≡ end → readRun (source vendors global s) e false end f false at ≡ gives (ran (writtenFrom vendors e at xs) false end)
+  unfolding writtenAttributes readRun writtenFrom readOn runEnds _>>=_
   run-read xs zero end at q h p = let inside = q .fits in absurd (omega arith)
   run-read [] (suc f) end at q h p =
       let here : at ≡ end = omega arith in
-      rw (le-ltb at end (omega arith), readRun) (ap (ran [] false) here)
+      rw (le-ltb at end (omega arith), readRun) (ap (λ (stopped : ℕ). gives (ran [] false stopped)) here)
   run-read (x ∷ xs) (suc f) end at q h p =
       let front : List ℕ = writtenAttribute vendors e x in
       let back : List ℕ = writtenAttributes vendors e xs in
       let whole : length (front ++ back) ≡ length front + length back = length-append front back in
       let long : 2 ≤ length front = attribute-long vendors e x in
-      let others : readRun (source vendors global s) e false end f false (at + length front) ≡ ran (writtenFrom vendors e (at + length front) xs) false end =
+      let others : readRun (source vendors global s) e false end f false (at + length front) ≡ gives (ran (writtenFrom vendors e (at + length front) xs) false end) =
       run-read xs f end (at + length front) (back-stands s at front back q) (omega arith) (omega arith)
       in
       rw (lt-ltb at end (omega arith), attribute-read vendors e s at x (front-stands s at front back q), others, readRun)

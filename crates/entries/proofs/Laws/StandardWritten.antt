@@ -2,7 +2,7 @@
 -- written form of what was read.
 use Prim.Native.Nat.{ℕ, _+_}
 use native.Mathlib.Omega.{arith}
-use mathlib.Core.Path.{_≡_, refl, subst}
+use mathlib.Core.Path.{_≡_, refl, ap, subst}
 use mathlib.Core.Bool.{false}
 use mathlib.Core.List.{List, [], _∷_, _++_}
 use lib.ListN.{length, length-append}
@@ -11,9 +11,10 @@ use Rattle.numbers.specs.Value.{valueOf}
 use Rattle.numbers.specs.declared.Endian.{Endian}
 use Rattle.tables.specs.declared.row.Row.{Row}
 use Rattle.tables.specs.declared.row.Attr.{Attr}
-use Rattle.entries.specs.Walk.{entriesRead, readTags}
+use Rattle.format.specs.Said.{gives}
+use Rattle.entries.specs.Walk.{Entries, entries, readTags}
 use Rattle.numbers.specs.Written.{Bytes}
-use Rattle.entries.specs.Standard.{Die, writtenDie, writtenDies}
+use Rattle.entries.specs.Standard.{Die, writtenDie, writtenDies, rowsOf, attrsOf}
 use Rattle.entries.specs.Exact.{Exact, at-end, one-more}
 use Rattle.numbers.proofs.Laws.Stands.{Stands, none-stands, both-stand, stands-all}
 use Rattle.entries.proofs.Laws.WrittenEntry.{DieFound, EntryFound, entry-written}
@@ -47,9 +48,10 @@ module _ (vendors : List ℕ) (global : ℕ) (e : Endian) where
 
   -- the theorem
   pub standard-written : (levels : ℕ) (s : List ℕ) → Bytes s → {rs : List Row} {xs : List Attr} {place : ℕ}
-      → readTags (source vendors global s) false levels (mode false e) (length s) 0 0 ≡ entriesRead rs xs place → Exact vendors global e s 0 0 → WrittenAs vendors e s rs xs
+      → readTags (source vendors global s) false levels (mode false e) (length s) 0 0 ≡ gives (entries rs xs place) → Exact vendors global e s 0 0 → WrittenAs vendors e s rs xs
   standard-written levels s small {rs} {xs} {place} p exact =
       let d : DiesFound vendors e s 0 = exact-dies s small exact in
       let same : writtenDies vendors e (d .found) ≡ s = stands-all (d .stands) (omega arith) in
       let read = rw same at (standard-read vendors global e levels (d .found)) in
-      record { dies = d .found; written = same; rows = cc; attributes = cc }
+      let all : entries (rowsOf vendors e 0 0 (d .found)) (attrsOf vendors e 0 (d .found)) (length s) ≡ entries rs xs place = cc in
+      record { dies = d .found; written = same; rows = ap (λ (w : Entries). w .rows) all; attributes = ap (λ (w : Entries). w .attrs) all }

@@ -1,4 +1,5 @@
 -- With erased entries left out, no row that was read is erased.
+use Rattle.format.proofs.Laws.Said.{rooms-gave}
 use Prim.Native.Nat.{ℕ, zero, suc, _+_, _<_}
 use native.Mathlib.Omega.{arith}
 use mathlib.Core.Path.{_≡_, refl, ap, subst, _∙_}
@@ -7,7 +8,6 @@ use mathlib.Core.List.{List, [], _∷_, _++_}
 use lib.ListN.{length}
 use lib.Dec.{ltb, eqb}
 use Rattle.entries.specs.Source.{source, mode}
-use Rattle.lent.specs.Outcome.{Outcomes, outcomes}
 use Rattle.numbers.proofs.Laws.Tests.{cond-all}
 use Rattle.numbers.specs.Value.{valueOf}
 use Rattle.numbers.proofs.Laws.Value.{read-all}
@@ -18,7 +18,7 @@ use Rattle.format.specs.TagKind.{tags}
 use Rattle.format.specs.TagKind as tag
 use Rattle.format.specs.Limits.{erasedLimit, sectionLimit}
 use Rattle.format.specs.Settings.{settingsHold}
-use Rattle.format.specs.declared.refusal.Reason.{Reason}
+use Rattle.format.specs.Said.{Said, gives, refuses, refuse, _>>=_}
 use Rattle.format.specs.declared.settings.Settings.{Settings}
 use Rattle.format.specs.declared.refusal.Reason.the-variants as reason
 use Rattle.tables.specs.Row.{erasedRow, rowAt, rowsFrom}
@@ -26,16 +26,17 @@ use Rattle.tables.specs.declared.row.Row.{Row}
 use Rattle.tables.specs.declared.row.Attr.{Attr}
 use Rattle.tables.specs.declared.row.Counts.{Counts}
 use Rattle.entries.specs.Head.{tagHead, sizeHead, headAt}
-use Rattle.entries.specs.Run.{Run, ran, failed}
-use Rattle.entries.specs.Entry.{Entry, next, inside, stop, flagOf, flagsOf, littleFlag, ordinary, attributes, entryFrom, readEntry}
-use Rattle.entries.specs.Walk.{Entries, entriesRead, entriesRefused, join, entriesThen, onward, entriesFrom, readTags}
-use Rattle.entries.specs.Section.{wholeWalk, readDebugSection, refusal}
+use Rattle.entries.specs.Run.{Run}
+use Rattle.entries.specs.Entry.{Entry, next, inside, flagOf, flagsOf, littleFlag, attributes, entryFrom, readEntry}
+use Rattle.entries.specs.Inside.Promise.{ordinary}
+use Rattle.entries.specs.Walk.{Entries, entriesThen, wholeEntry, entriesFrom, readTags}
+use Rattle.entries.specs.Section.{wholeWalk, sectionEntries, readDebugSection}
+use Rattle.entries.proofs.Laws.Walk.{join}
+use Rattle.entries.proofs.Laws.Section.{section-gave}
 use Rattle.entries.proofs.Laws.Filled.{answer-read}
 use Rattle.entries.proofs.Laws.KnownRun.{by-test}
 use Rattle.entries.specs.declared.head.Head.{Head}
 use Rattle.entries.specs.declared.head.Head.the-variants.{Null, Skipped, Root, Ordinary, Refused}
-use Rattle.entries.specs.declared.section.Section.the-variants.{Read}
-use Rattle.entries.specs.declared.section.Section.{Section}
 
 -- none of the rows is erased
 abbrev Plain : List Row → Type 0
@@ -73,15 +74,15 @@ no-root s e at =
     (λ u. tt)))
     (λ t. tt)
 
-abbrev EntryPlain : Entry → Type 0
-EntryPlain (next rs xs place) = Plain rs
-EntryPlain (inside r xs place e end) = ⊥
-EntryPlain (stop why) = Unit
+abbrev EntryPlain : Said Entry → Type 0
+EntryPlain (gives (next rs xs place)) = Plain rs
+EntryPlain (gives (inside r xs place e end)) = ⊥
+EntryPlain (refuses number place counts) = Unit
 
-ordinary-plain : (e : Endian) (at kind a : ℕ) (r : Run) → EntryPlain (ordinary false e at kind a r)
-unfolding ordinary
-ordinary-plain e at kind a (ran xs high place) = (plain-flags e, tt)
-ordinary-plain e at kind a (failed why) = tt
+ordinary-plain : (e : Endian) (at kind a : ℕ) (r : Said Run) → EntryPlain (r >>= (λ run. gives (ordinary false e at kind a run)))
+unfolding _>>=_
+ordinary-plain e at kind a (gives run) = (plain-flags e, tt)
+ordinary-plain e at kind a (refuses number place counts) = tt
 
 entry-from-plain : (vendors : List ℕ) (global : ℕ) (s : List ℕ) (levels : ℕ) (e : Endian) (at a : ℕ) (h : Head) → NoRoot h
     → EntryPlain (entryFrom (source vendors global s) levels (mode false e) at a h)
@@ -98,37 +99,38 @@ entry-plain vendors global s levels e at a = entry-from-plain vendors global s l
 
 -- ---- a walk
 
-abbrev WalkPlain : Entries → Type 0
-WalkPlain (entriesRead rs xs place) = Plain rs
-WalkPlain (entriesRefused why place) = Unit
+abbrev WalkPlain : Said Entries → Type 0
+WalkPlain (gives all) = Plain (all .rows)
+WalkPlain (refuses number place counts) = Unit
 
-join-plain : (rs : List Row) (xs : List Attr) (w : Entries) → Plain rs → WalkPlain w → WalkPlain (join rs xs w)
-unfolding join
-join-plain rs xs (entriesRead rs′ xs′ last) p q = plain-then rs rs′ p q
-join-plain rs xs (entriesRefused why last) p q = tt
+join-plain : (rs : List Row) (xs : List Attr) (w : Said Entries) → Plain rs → WalkPlain w → WalkPlain (join rs xs w)
+unfolding join _>>=_
+join-plain rs xs (gives back) p q = plain-then rs (back .rows) p q
+join-plain rs xs (refuses number place counts) p q = tt
 
-onward-plain : (within : Endian → ℕ → ℕ → ℕ → Entries) (at a : ℕ) (x : Entry) (k : ℕ → ℕ → Entries) → EntryPlain x → ((b at′ : ℕ) → WalkPlain (k b at′))
-    → WalkPlain (onward within at a x k)
-unfolding onward entriesThen
-onward-plain within at a (next rs xs place) k p q = join-plain rs xs (k (a + length xs) place) p (q (a + length xs) place)
-onward-plain within at a (inside r xs place e end) k p q = absurd p
-onward-plain within at a (stop why) k p q = tt
+onward-plain : (within : Endian → ℕ → ℕ → ℕ → Said Entries) (a : ℕ) (x : Said Entry) (k : ℕ → ℕ → Said Entries) → EntryPlain x
+    → ((b at′ : ℕ) → WalkPlain (k b at′)) → WalkPlain (x >>= (λ entry. wholeEntry within a entry >>= (λ front. entriesThen a front k)))
+unfolding wholeEntry entriesThen join _>>=_
+onward-plain within a (gives (next rs xs place)) k p q = join-plain rs xs (k (a + length xs) place) p (q (a + length xs) place)
+onward-plain within a (gives (inside r xs place e end)) k p q = absurd p
+onward-plain within a (refuses number place counts) k p q = tt
 
-from-plain : (vendors : List ℕ) (global : ℕ) (s : List ℕ) (within : Endian → ℕ → ℕ → ℕ → Entries) (levels : ℕ) (e : Endian) (end f a at : ℕ)
+from-plain : (vendors : List ℕ) (global : ℕ) (s : List ℕ) (within : Endian → ℕ → ℕ → ℕ → Said Entries) (levels : ℕ) (e : Endian) (end f a at : ℕ)
     → WalkPlain (entriesFrom (source vendors global s) false within levels (mode false e) end f a at)
 unfolding entriesFrom
 from-plain vendors global s within levels e end zero a at = tt
 from-plain vendors global s within levels e end (suc f) a at =
     by-test (ltb at end)
     (λ t. rw (t, entriesFrom)
-    (onward-plain within at a (readEntry (source vendors global s) false levels (mode false e) at a) (λ b at′. entriesFrom (source vendors global s) false within levels (mode false e) end f b at′)
-    (entry-plain vendors global s levels e at a) (λ b at′. from-plain vendors global s within levels e end f b at′)))
+    (onward-plain within a (readEntry (source vendors global s) false levels (mode false e) at a)
+    (λ b at′. entriesFrom (source vendors global s) false within levels (mode false e) end f b at′) (entry-plain vendors global s levels e at a)
+    (λ b at′. from-plain vendors global s within levels e end f b at′)))
     (λ t. rw (t, entriesFrom) tt)
 
 walk-plain : (vendors : List ℕ) (global : ℕ) (s : List ℕ) (levels : ℕ) (e : Endian) (end a at : ℕ)
     → WalkPlain (readTags (source vendors global s) false levels (mode false e) end a at)
 unfolding readTags
-walk-plain vendors global s zero e end a at = from-plain vendors global s (λ e′ end′ b at′. entriesRefused reason.Nested at′) zero e end (suc (length s)) a at
+walk-plain vendors global s zero e end a at = from-plain vendors global s (λ e′ end′ b at′. refuse reason.Nested at′) zero e end (suc (length s)) a at
 walk-plain vendors global s (suc l) e end a at =
     from-plain vendors global s (λ e′ end′ b at′. readTags (source vendors global s) false l (mode true e′) end′ b at′) (suc l) e end (suc (length s)) a at
 
@@ -151,7 +153,7 @@ plain-row t i (r ∷ rs) p q (suc j) h =
 
 -- read with erased entries left out, no row of the table is erased
 pub none-erased : (settings : Settings) (vendors sizes s rows attrs : List ℕ) (c : Counts) → settings .erased ≡ false
-    → readDebugSection settings vendors sizes s rows attrs .answer ≡ Read c → (j : ℕ) → j < c .rows
+    → readDebugSection settings vendors sizes s rows attrs .answer ≡ gives c → (j : ℕ) → j < c .rows
     → erasedRow (rowAt (readDebugSection settings vendors sizes s rows attrs .first) j .flags) ≡ false
 none-erased settings vendors sizes s rows attrs c off answers j h =
     let filled = answer-read settings vendors sizes s rows attrs c answers in
@@ -163,16 +165,9 @@ none-erased settings vendors sizes s rows attrs c off answers j h =
 
 -- ---- an answer passed the tests of settings and length
 
-module _ (settings : Settings) (vendors sizes s rows attrs : List ℕ) (c : Counts) where
-  abbrev Passing : Outcomes Section ℕ ℕ → Type 0
-  Passing o = o .answer ≡ Read c → (settingsHold settings vendors sizes ≡ true) × (ltb (length s) sectionLimit ≡ true)
-
-  refused-passes : (why : Reason) (at : ℕ) → Passing (outcomes (refusal why at) rows attrs)
-  refused-passes why at p = let z : _≡_ {A = ℕ} 0 1 = cc in absurd (omega arith)
-
-  pub answer-tested : readDebugSection settings vendors sizes s rows attrs .answer ≡ Read c
-      → (settingsHold settings vendors sizes ≡ true) × (ltb (length s) sectionLimit ≡ true)
-  unfolding readDebugSection
-  answer-tested =
-      cond-all Passing (settingsHold settings vendors sizes)
-      (λ t. cond-all Passing (ltb (length s) sectionLimit) (λ u p. (t, u)) (λ u. refused-passes reason.Long 0)) (λ t. refused-passes reason.Settings 0)
+pub answer-tested : (settings : Settings) (vendors sizes s rows attrs : List ℕ) (c : Counts) → readDebugSection settings vendors sizes s rows attrs .answer ≡ gives c
+    → (settingsHold settings vendors sizes ≡ true) × (ltb (length s) sectionLimit ≡ true)
+unfolding readDebugSection
+answer-tested settings vendors sizes s rows attrs c answers =
+    let passed = section-gave settings vendors sizes s (rooms-gave rows attrs (sectionEntries settings vendors sizes s) _ answers .1) in
+    (passed .0, passed .1)

@@ -11,6 +11,8 @@ use lib.Seq.{sets, length-sets}
 use borrow.Author.Tests.{lt-ltb, le-ltb}
 use Rattle.entries.specs.Source.{source, mode}
 use Rattle.numbers.specs.declared.Endian.{Endian}
+use Rattle.format.specs.Said.{Said, gives, refuses, refuse, _>>=_}
+use Rattle.format.proofs.Laws.Said.{case-said}
 use Rattle.format.specs.declared.refusal.Reason.{Reason}
 use Rattle.format.specs.declared.refusal.Reason.the-variants as reason
 use Rattle.tables.specs.Row.{rowWidth, attrWidth, rowsWords, attrsWords}
@@ -18,10 +20,10 @@ use Rattle.tables.proofs.Laws.Row.{rows-append, attrs-append}
 use Rattle.tables.specs.declared.row.Row.{Row}
 use Rattle.tables.specs.declared.row.Attr.{Attr}
 use Rattle.entries.specs.Head.{headAt}
-use Rattle.entries.specs.Run.{Run, ran, failed}
-use Rattle.entries.specs.Entry.{Entry, next, inside, stop, ordinary, attributes, entryFrom, readEntry}
-use Rattle.entries.specs.Walk.{Entries, entriesRead, entriesRefused, join, entriesThen, onward, entriesFrom, readTags}
-use Rattle.entries.specs.Inside.Promise.{farthest, Ready, advanced, Stored, Taken, entryAnswer, EntryStores, EntryRead, walkAnswer, WalkStores, WalkRead}
+use Rattle.entries.specs.Run.{Run}
+use Rattle.entries.specs.Entry.{Entry, next, inside, attributes, entryFrom, readEntry}
+use Rattle.entries.specs.Walk.{Entries, entries, entriesThen, wholeEntry, entriesFrom, readTags}
+use Rattle.entries.specs.Inside.Promise.{ordinary, farthest, Ready, advanced, Stored, Taken, saidEntry, entryAnswer, EntryStores, EntryRead, saidWalk, walked, WalkStores, WalkRead}
 use Rattle.entries.specs.declared.head.Head.{Head}
 use Rattle.entries.specs.declared.head.Head.the-variants as head
 use Rattle.entries.specs.declared.entry.State.{State}
@@ -30,61 +32,92 @@ use Rattle.entries.specs.declared.walk.Walk.the-variants as walk
 
 -- ---- rows and attributes read before others
 
-join-none : (w : Entries) → join [] [] w ≡ w
-unfolding join
-join-none (entriesRead rs xs at) = refl
-join-none (entriesRefused why at) = refl
+unfoldable pub join : List Row → List Attr → Said Entries → Said Entries
+join rs xs w = w >>= (λ back. gives (entries (rs ++ back .rows) (xs ++ back .attrs) (back .stopped)))
 
-join-join : (rs : List Row) (xs : List Attr) (rs′ : List Row) (xs′ : List Attr) (w : Entries)
+join-none : (w : Said Entries) → join [] [] w ≡ w
+unfolding join _>>=_
+join-none (gives all) = refl
+join-none (refuses number place counts) = refl
+
+join-join : (rs : List Row) (xs : List Attr) (rs′ : List Row) (xs′ : List Attr) (w : Said Entries)
     → join (rs ++ rs′) (xs ++ xs′) w ≡ join rs xs (join rs′ xs′ w)
-unfolding join
-join-join rs xs rs′ xs′ (entriesRead rs″ xs″ at) =
-    ap₂ (λ (r : List Row) (x : List Attr). entriesRead r x at) (append-assoc rs rs′ rs″) (append-assoc xs xs′ xs″)
-join-join rs xs rs′ xs′ (entriesRefused why at) = refl
+unfolding join _>>=_
+join-join rs xs rs′ xs′ (gives all) =
+    ap₂ (λ (r : List Row) (x : List Attr). gives (entries r x (all .stopped))) (append-assoc rs rs′ (all .rows)) (append-assoc xs xs′ (all .attrs))
+join-join rs xs rs′ xs′ (refuses number place counts) = refl
 
-join-last : (rs : List Row) (xs : List Attr) (at : ℕ) → join rs xs (entriesRead [] [] at) ≡ entriesRead rs xs at
-unfolding join
-join-last rs xs at = ap₂ (λ (r : List Row) (x : List Attr). entriesRead r x at) (append-nil rs) (append-nil xs)
+join-last : (rs : List Row) (xs : List Attr) (at : ℕ) → join rs xs (gives (entries [] [] at)) ≡ gives (entries rs xs at)
+unfolding join _>>=_
+join-last rs xs at = ap₂ (λ (r : List Row) (x : List Attr). gives (entries r x at)) (append-nil rs) (append-nil xs)
 
 -- ---- what an answer tells
 
-told-next : (from : State) (what : Entry) {r : entry.the-data} {to : State} → r ≡ entryAnswer from what → r ≡ entry.Next to
-    → (rs : List Row) × (xs : List Attr) × (p : ℕ) × (what ≡ next rs xs p) × (to ≡ advanced from (length rs) (length xs) p)
-unfolding entryAnswer
-told-next from (next rs xs p) {to = to} a t =
-    let same : entry.Next to ≡ entry.Next (advanced from (length rs) (length xs) p) = sym t ∙ a in
-    (rs, xs, p, refl, cc)
-told-next from (inside r xs p e end) a t = let z : _≡_ {A = ℕ} 0 1 = cc in absurd (omega arith)
-told-next from (stop why) a t = let z : _≡_ {A = ℕ} 0 1 = cc in absurd (omega arith)
+-- what an entry's answer is by its definition
+abbrev Answers : State → Said Entry → entry.the-data → Type 0
+Answers from what r = saidEntry (from .at) r ≡ (what >>= (λ x. gives (entryAnswer from x)))
 
-told-inside : (from : State) (what : Entry) {r : entry.the-data} {to : State} {e : Endian} {end : ℕ} → r ≡ entryAnswer from what → r ≡ entry.Inside to e end
-    → (row : Row) × (xs : List Attr) × (p : ℕ) × (what ≡ inside row xs p e end) × (to ≡ advanced from 1 (length xs) p)
-unfolding entryAnswer
-told-inside from (next rs xs p) a t = let z : _≡_ {A = ℕ} 0 1 = cc in absurd (omega arith)
-told-inside from (inside row xs p e′ end′) {to = to} {e} {end} a t =
-    let same : entry.Inside to e end ≡ entry.Inside (advanced from 1 (length xs) p) e′ end′ = sym t ∙ a in
+told-next : (from : State) (what : Said Entry) {r : entry.the-data} {to : State} → Answers from what r → r ≡ entry.Next to
+    → (rs : List Row) × (xs : List Attr) × (p : ℕ) × (what ≡ gives (next rs xs p)) × (to ≡ advanced from (length rs) (length xs) p)
+unfolding saidEntry entryAnswer _>>=_
+told-next from (gives (next rs xs p)) {to = to} a t =
+    let same : gives (entry.Next to) ≡ gives (entry.Next (advanced from (length rs) (length xs) p)) = case-said (saidEntry (from .at)) a t in
+    (rs, xs, p, refl, cc)
+told-next from (gives (inside r xs p e end)) {to = to} a t =
+    let same : gives (entry.Next to) ≡ gives (entry.Inside (advanced from 1 (length xs) p) e end) = case-said (saidEntry (from .at)) a t in
+    let z : _≡_ {A = ℕ} 0 1 = cc in
+    absurd (omega arith)
+told-next from (refuses number place counts) {to = to} a t =
+    let same : gives (entry.Next to) ≡ refuses number place counts = case-said (saidEntry (from .at)) a t in
+    let z : _≡_ {A = ℕ} 0 1 = cc in
+    absurd (omega arith)
+
+told-inside : (from : State) (what : Said Entry) {r : entry.the-data} {to : State} {e : Endian} {end : ℕ} → Answers from what r → r ≡ entry.Inside to e end
+    → (row : Row) × (xs : List Attr) × (p : ℕ) × (what ≡ gives (inside row xs p e end)) × (to ≡ advanced from 1 (length xs) p)
+unfolding saidEntry entryAnswer _>>=_
+told-inside from (gives (next rs xs p)) {to = to} {e} {end} a t =
+    let same : gives (entry.Inside to e end) ≡ gives (entry.Next (advanced from (length rs) (length xs) p)) = case-said (saidEntry (from .at)) a t in
+    let z : _≡_ {A = ℕ} 0 1 = cc in
+    absurd (omega arith)
+told-inside from (gives (inside row xs p e′ end′)) {to = to} {e} {end} a t =
+    let same : gives (entry.Inside to e end) ≡ gives (entry.Inside (advanced from 1 (length xs) p) e′ end′) = case-said (saidEntry (from .at)) a t in
     (row, xs, p, cc, cc)
-told-inside from (stop why) a t = let z : _≡_ {A = ℕ} 0 1 = cc in absurd (omega arith)
+told-inside from (refuses number place counts) {to = to} {e} {end} a t =
+    let same : gives (entry.Inside to e end) ≡ refuses number place counts = case-said (saidEntry (from .at)) a t in
+    let z : _≡_ {A = ℕ} 0 1 = cc in
+    absurd (omega arith)
 
-told-stop : (from : State) (what : Entry) {r : entry.the-data} {why : Reason} → r ≡ entryAnswer from what → r ≡ entry.Refused why → what ≡ stop why
-unfolding entryAnswer
-told-stop from (next rs xs p) a t = let z : _≡_ {A = ℕ} 0 1 = cc in absurd (omega arith)
-told-stop from (inside row xs p e end) a t = let z : _≡_ {A = ℕ} 0 1 = cc in absurd (omega arith)
-told-stop from (stop why′) {why = why} a t = let same : entry.Refused why ≡ entry.Refused why′ = sym t ∙ a in cc
+told-stop : (from : State) (what : Said Entry) {r : entry.the-data} {why : Reason} → Answers from what r → r ≡ entry.Refused why → what ≡ refuse why (from .at)
+unfolding saidEntry entryAnswer _>>=_
+told-stop from (gives x) {why = why} a t =
+    let same : refuse why (from .at) ≡ gives (entryAnswer from x) = case-said (saidEntry (from .at)) a t in
+    let z : _≡_ {A = ℕ} 0 1 = cc in
+    absurd (omega arith)
+told-stop from (refuses number place counts) {why = why} a t =
+    let same : _≡_ {A = Said entry.the-data} (refuse why (from .at)) (refuses number place counts) = case-said (saidEntry (from .at)) a t in
+    cc
 
-pub told-walked : (from : State) (what : Entries) {r : walk.the-data} {to : State} → r ≡ walkAnswer from what → r ≡ walk.Walked to
-    → (rs : List Row) × (xs : List Attr) × (p : ℕ) × (what ≡ entriesRead rs xs p) × (to ≡ advanced from (length rs) (length xs) p)
-unfolding walkAnswer
-told-walked from (entriesRead rs xs p) {to = to} a t =
-    let same : walk.Walked to ≡ walk.Walked (advanced from (length rs) (length xs) p) = sym t ∙ a in
-    (rs, xs, p, refl, cc)
-told-walked from (entriesRefused why p) a t = let z : _≡_ {A = ℕ} 0 1 = cc in absurd (omega arith)
+pub told-walked : (from : State) (what : Said Entries) {r : walk.the-data} {to : State} → saidWalk r ≡ walked from what → r ≡ walk.Walked to
+    → (all : Entries) × (what ≡ gives all) × (to ≡ advanced from (length (all .rows)) (length (all .attrs)) (all .stopped))
+unfolding saidWalk walked _>>=_
+told-walked from (gives all) {to = to} a t =
+    let same : gives to ≡ gives (advanced from (length (all .rows)) (length (all .attrs)) (all .stopped)) = case-said saidWalk a t in
+    (all, refl, cc)
+told-walked from (refuses number place counts) {to = to} a t =
+    let same : gives to ≡ refuses number place counts = case-said saidWalk a t in
+    let z : _≡_ {A = ℕ} 0 1 = cc in
+    absurd (omega arith)
 
-pub told-refused : (from : State) (what : Entries) {r : walk.the-data} {why : Reason} {at : ℕ} → r ≡ walkAnswer from what → r ≡ walk.Refused why at
-    → what ≡ entriesRefused why at
-unfolding walkAnswer
-told-refused from (entriesRead rs xs p) a t = let z : _≡_ {A = ℕ} 0 1 = cc in absurd (omega arith)
-told-refused from (entriesRefused why′ p) {why = why} {at} a t = let same : walk.Refused why at ≡ walk.Refused why′ p = sym t ∙ a in cc
+pub told-refused : (from : State) (what : Said Entries) {r : walk.the-data} {why : Reason} {at : ℕ} → saidWalk r ≡ walked from what → r ≡ walk.Refused why at
+    → what ≡ refuse why at
+unfolding saidWalk walked _>>=_
+told-refused from (gives all) {why = why} {at} a t =
+    let same : refuse why at ≡ gives (advanced from (length (all .rows)) (length (all .attrs)) (all .stopped)) = case-said saidWalk a t in
+    let z : _≡_ {A = ℕ} 0 1 = cc in
+    absurd (omega arith)
+told-refused from (refuses number place counts) {why = why} {at} a t =
+    let same : _≡_ {A = Said State} (refuse why at) (refuses number place counts) = case-said saidWalk a t in
+    cc
 
 -- ---- stores one after the other
 
@@ -113,8 +146,8 @@ stored-then {from} {rs} {rs′} {xs} {xs′} {p} {q} {rows₀ = rows₀} {attrs�
 
 module _ (vendors : List ℕ) (global : ℕ) (erased : Bool) (s : List ℕ) where
   -- how the inside of a root is read, with so many levels still allowed outside it
-  unfoldable pub withinOf : ℕ → Endian → ℕ → ℕ → ℕ → Entries
-  withinOf zero e end b at = entriesRefused reason.Nested at
+  unfoldable pub withinOf : ℕ → Endian → ℕ → ℕ → ℕ → Said Entries
+  withinOf zero e end b at = refuse reason.Nested at
   withinOf (suc l) e end b at = readTags (source vendors global s) erased l (mode true e) end b at
 
   walk-levels : (levels : ℕ) (isErased : Bool) (e : Endian) (end a at : ℕ)
@@ -131,16 +164,17 @@ module _ (vendors : List ℕ) (global : ℕ) (erased : Bool) (s : List ℕ) wher
 
   -- a root is only read where a level is left
   inside-levels : (levels : ℕ) (isErased : Bool) (e : Endian) (at a : ℕ) {row : Row} {xs : List Attr} {p : ℕ} {e′ : Endian} {end′ : ℕ}
-      → readEntry (source vendors global s) erased levels (mode isErased e) at a ≡ inside row xs p e′ end′ → 0 < levels
-  unfolding readEntry entryFrom ordinary
+      → readEntry (source vendors global s) erased levels (mode isErased e) at a ≡ gives (inside row xs p e′ end′) → 0 < levels
+  unfolding readEntry entryFrom _>>=_
   inside-levels zero isErased e at a q = absurd (never (headAt erased s e at) q)
     where
-      no-run : (kind : ℕ) (r : Run) {row : Row} {xs : List Attr} {p : ℕ} {e′ : Endian} {end′ : ℕ} → ordinary isErased e at kind a r ≡ inside row xs p e′ end′ → ⊥
-      no-run kind (ran ys high place) t = let z : _≡_ {A = ℕ} 0 1 = cc in omega arith
-      no-run kind (failed why) t = let z : _≡_ {A = ℕ} 0 1 = cc in omega arith
+      no-run : (kind : ℕ) (r : Said Run) {row : Row} {xs : List Attr} {p : ℕ} {e′ : Endian} {end′ : ℕ}
+          → (r >>= (λ run. gives (ordinary isErased e at kind a run))) ≡ gives (inside row xs p e′ end′) → ⊥
+      no-run kind (gives run) t = let z : _≡_ {A = ℕ} 0 1 = cc in omega arith
+      no-run kind (refuses number place counts) t = let z : _≡_ {A = ℕ} 0 1 = cc in omega arith
 
       never : (h : Head) {row : Row} {xs : List Attr} {p : ℕ} {e′ : Endian} {end′ : ℕ}
-          → entryFrom (source vendors global s) zero (mode isErased e) at a h ≡ inside row xs p e′ end′ → ⊥
+          → entryFrom (source vendors global s) zero (mode isErased e) at a h ≡ gives (inside row xs p e′ end′) → ⊥
       never (head.Null place) t = let z : _≡_ {A = ℕ} 0 1 = cc in omega arith
       never (head.Skipped place) t = let z : _≡_ {A = ℕ} 0 1 = cc in omega arith
       never (head.Root end) t = let z : _≡_ {A = ℕ} 0 1 = cc in omega arith
@@ -151,15 +185,15 @@ module _ (vendors : List ℕ) (global : ℕ) (erased : Bool) (s : List ℕ) wher
   -- ---- the loop
 
   module _ (levels : ℕ) (isErased : Bool) (e : Endian) (end : ℕ) where
-    abbrev pub whole : ℕ → ℕ → Entries
+    abbrev pub whole : ℕ → ℕ → Said Entries
     whole a at = readTags (source vendors global s) erased levels (mode isErased e) end a at
 
     -- what is left with f turns
-    abbrev left : ℕ → ℕ → ℕ → Entries
+    abbrev left : ℕ → ℕ → ℕ → Said Entries
     left f a at = entriesFrom (source vendors global s) erased (withinOf levels) levels (mode isErased e) end f a at
 
     -- the entry at a place
-    abbrev entryHere : ℕ → ℕ → Entry
+    abbrev entryHere : ℕ → ℕ → Said Entry
     entryHere at a = readEntry (source vendors global s) erased levels (mode isErased e) at a
 
     -- rs and xs were read and stored, some turns are left, and what is left comes to the whole
@@ -196,11 +230,17 @@ module _ (vendors : List ℕ) (global : ℕ) (erased : Bool) (s : List ℕ) wher
         }
 
     -- one turn of the definition
-    turn : (f a at : ℕ) → at < end → left (suc f) a at ≡ onward (withinOf levels) at a (entryHere at a) (λ b at′. left f b at′)
+    abbrev behind : ℕ → ℕ → Said Entries → Said Entries
+    behind f a w = w >>= (λ front. entriesThen a front (λ b at′. left f b at′))
+
+    abbrev onward : ℕ → ℕ → Said Entry → Said Entries
+    onward f a x = x >>= (λ entry. behind f a (wholeEntry (withinOf levels) a entry))
+
+    turn : (f a at : ℕ) → at < end → left (suc f) a at ≡ onward f a (entryHere at a)
     unfolding entriesFrom
     turn f a at h = rw (lt-ltb at end h, entriesFrom)
 
-    past : (t a at : ℕ) → end ≤ at → left t a at ≡ entriesRead [] [] at
+    past : (t a at : ℕ) → end ≤ at → left t a at ≡ gives (entries [] [] at)
     unfolding entriesFrom
     past zero a at h = refl
     past (suc f) a at h = rw (le-ltb at end h, entriesFrom)
@@ -249,37 +289,37 @@ module _ (vendors : List ℕ) (global : ℕ) (erased : Bool) (s : List ℕ) wher
           }
 
       -- how the whole comes out, where what is left comes to w
-      comes-to : {w : Entries} → ((f : ℕ) → left (suc f) (now .attrs) (now .at) ≡ w) → join (l .rs) (l .xs) w ≡ whole (from .attrs) (from .at)
+      comes-to : {w : Said Entries} → ((f : ℕ) → left (suc f) (now .attrs) (now .at) ≡ w) → join (l .rs) (l .xs) w ≡ whole (from .attrs) (from .at)
       comes-to step =
           let at-least = one-left (l .turns) (l .some) in
           ap (join (l .rs) (l .xs)) (sym (step (at-least .0)))
           ∙ ap (λ (t : ℕ). join (l .rs) (l .xs) (left t (now .attrs) (now .at))) (sym (at-least .1))
           ∙ l .rest
 
-      stops : {why : Reason} {at : ℕ} {rows₁ attrs₁ : List ℕ} → ((f : ℕ) → left (suc f) (now .attrs) (now .at) ≡ entriesRefused why at)
+      stops : {why : Reason} {at : ℕ} {rows₁ attrs₁ : List ℕ} → ((f : ℕ) → left (suc f) (now .attrs) (now .at) ≡ refuse why at)
           → WalkRead from (whole (from .attrs) (from .at)) (walk.Refused why at) rows₀ rows₁ attrs₀ attrs₁
-      unfolding join walkAnswer
+      unfolding join saidWalk walked _>>=_
       stops {why} {at} {rows₁} {attrs₁} step =
-          let all : entriesRefused why at ≡ whole (from .attrs) (from .at) = comes-to step in
+          let all : refuse why at ≡ whole (from .attrs) (from .at) = comes-to step in
           record {
-            answer = ap (walkAnswer from) all;
-            stores = subst (λ (w : Entries). WalkStores from w rows₀ rows₁ attrs₀ attrs₁) all tt;
+            answer = ap (walked from) all;
+            stores = subst (λ (w : Said Entries). WalkStores from w rows₀ rows₁ attrs₀ attrs₁) all tt;
           }
 
       -- the end is reached
       pub done : end ≤ now .at → WalkRead from (whole (from .attrs) (from .at)) (walk.Walked now) rows₀ rows attrs₀ attrs
-      unfolding walkAnswer
+      unfolding saidWalk walked _>>=_
       done h =
-          let all : entriesRead (l .rs) (l .xs) (now .at) ≡ whole (from .attrs) (from .at) =
+          let all : gives (entries (l .rs) (l .xs) (now .at)) ≡ whole (from .attrs) (from .at) =
           sym (join-last (l .rs) (l .xs) (now .at)) ∙ comes-to (λ f. past (suc f) (now .attrs) (now .at) h)
           in
           let here : now ≡ advanced from (length (l .rs)) (length (l .xs)) (now .at) =
           ap₂ (λ (n m : ℕ). record { at = now .at; rows = n; attrs = m }) (l .row-count) (l .attr-count)
           in
           record {
-            answer = ap walk.Walked here ∙ ap (walkAnswer from) all;
+            answer = ap gives here ∙ ap (walked from) all;
             stores =
-                subst (λ (w : Entries). WalkStores from w rows₀ rows attrs₀ attrs) all
+                subst (λ (w : Said Entries). WalkStores from w rows₀ rows attrs₀ attrs) all
                 (record {
                   row-words = l .row-words;
                   attr-words = l .attr-words;
@@ -292,18 +332,18 @@ module _ (vendors : List ℕ) (global : ℕ) (erased : Bool) (s : List ℕ) wher
 
       module _ (h : now .at < end) {r : entry.the-data} {rows₁ attrs₁ : List ℕ}
           (q : EntryRead s now (entryHere (now .at) (now .attrs)) r rows rows₁ attrs attrs₁) where
-        stores-as : {what : Entry} → entryHere (now .at) (now .attrs) ≡ what → EntryStores s now what rows rows₁ attrs attrs₁
-        stores-as is = subst (λ (w : Entry). EntryStores s now w rows rows₁ attrs attrs₁) is (q .stores)
+        stores-as : {what : Said Entry} → entryHere (now .at) (now .attrs) ≡ what → EntryStores s now what rows rows₁ attrs attrs₁
+        stores-as is = subst (λ (w : Said Entry). EntryStores s now w rows rows₁ attrs attrs₁) is (q .stores)
 
         -- an entry with nothing inside it
         pub again : {to : State} → r ≡ entry.Next to → Loop from rows₀ rows₁ attrs₀ attrs₁ to
-        unfolding onward entriesThen
+        unfolding wholeEntry entriesThen join _>>=_
         again t =
             let told = told-next now (entryHere (now .at) (now .attrs)) (q .answer) t in
             let stored = stores-as (told .3) in
             subst (λ (to : State). Loop from rows₀ rows₁ attrs₀ attrs₁ to) (sym (told .4))
             (extend (stored .0) (stored .1)
-            (λ f. turn f (now .attrs) (now .at) h ∙ ap (λ (w : Entry). onward (withinOf levels) (now .at) (now .attrs) w (λ b at′. left f b at′)) (told .3)))
+            (λ f. turn f (now .attrs) (now .at) h ∙ ap (λ (w : Said Entry). onward f (now .attrs) w) (told .3)))
 
         pub falls : {to : State} → r ≡ entry.Next to → end - to .at < end - now .at
         falls {to} t =
@@ -312,14 +352,14 @@ module _ (vendors : List ℕ) (global : ℕ) (erased : Bool) (s : List ℕ) wher
             let place : to .at ≡ told .2 = ap (λ (x : State). x .at) (told .4) in
             omega arith
 
-        -- an entry that is entriesRefused
+        -- an entry that is refused
         pub refused-here : {why : Reason} → r ≡ entry.Refused why
             → WalkRead from (whole (from .attrs) (from .at)) (walk.Refused why (now .at)) rows₀ rows₁ attrs₀ attrs₁
-        unfolding onward
+        unfolding _>>=_
         refused-here t =
             let is = told-stop now (entryHere (now .at) (now .attrs)) (q .answer) t in
             stops
-            (λ f. turn f (now .attrs) (now .at) h ∙ ap (λ (w : Entry). onward (withinOf levels) (now .at) (now .attrs) w (λ b at′. left f b at′)) is)
+            (λ f. turn f (now .attrs) (now .at) h ∙ ap (λ (w : Said Entry). onward f (now .attrs) w) is)
 
         -- a root, of which the inside was read too
         module _ {to : State} {e′ : Endian} {end′ : ℕ} (t : r ≡ entry.Inside to e′ end′) where
@@ -341,74 +381,72 @@ module _ (vendors : List ℕ) (global : ℕ) (erased : Bool) (s : List ℕ) wher
           module _ {r′ : walk.the-data} {rows₂ attrs₂ : List ℕ}
               (w : WalkRead to (readTags (source vendors global s) erased (levels - 1) (mode true e′) end′ (to .attrs) (to .at)) r′ rows₁ rows₂ attrs₁ attrs₂) where
             -- what is left after the root itself, given what its inside comes to
-            turn-inside : (xs : List Attr) (p : ℕ) (row : Row) → entryHere (now .at) (now .attrs) ≡ inside row xs p e′ end′ → (v : Entries)
+            turn-inside : (xs : List Attr) (p : ℕ) (row : Row) → entryHere (now .at) (now .attrs) ≡ gives (inside row xs p e′ end′) → (v : Said Entries)
                 → readTags (source vendors global s) erased (levels - 1) (mode true e′) end′ (now .attrs + length xs) p ≡ v → (f : ℕ)
-                → left (suc f) (now .attrs) (now .at) ≡ join (row ∷ []) xs (entriesThen (now .attrs + length xs) v (λ b at′. left f b at′))
-            unfolding onward entriesThen
+                → left (suc f) (now .attrs) (now .at) ≡ behind f (now .attrs) (join (row ∷ []) xs v)
+            unfolding wholeEntry entriesThen join _>>=_
             turn-inside xs p row is v p′ f =
                 turn f (now .attrs) (now .at) h
-                ∙ ap (λ (x : Entry). onward (withinOf levels) (now .at) (now .attrs) x (λ b at′. left f b at′)) is
-                ∙ ap (λ (u : Entries). join (row ∷ []) xs (entriesThen (now .attrs + length xs) u (λ b at′. left f b at′)))
+                ∙ ap (λ (x : Said Entry). onward f (now .attrs) x) is
+                ∙ ap (λ (u : Said Entries). behind f (now .attrs) (join (row ∷ []) xs u))
                 (within-less levels e′ end′ (now .attrs + length xs) p level-left ∙ p′)
 
             pub again-inside : {after : State} → r′ ≡ walk.Walked after → Loop from rows₀ rows₂ attrs₀ attrs₂ after
-            unfolding entriesThen
+            unfolding entriesThen join _>>=_
             again-inside {after} t′ =
                 let told = told-inside now (entryHere (now .at) (now .attrs)) (q .answer) t in
                 let row : Row = told .0 in
                 let xs : List Attr = told .1 in
                 let p : ℕ = told .2 in
                 let mid : State = advanced now 1 (length xs) p in
-                let nested : ℕ → ℕ → Entries = λ b at′. readTags (source vendors global s) erased (levels - 1) (mode true e′) end′ b at′ in
+                let nested : ℕ → ℕ → Said Entries = λ b at′. readTags (source vendors global s) erased (levels - 1) (mode true e′) end′ b at′ in
                 let w′ : WalkRead mid (nested (now .attrs + length xs) p) r′ rows₁ rows₂ attrs₁ attrs₂ =
                 subst (λ (x : State). WalkRead x (nested (x .attrs) (x .at)) r′ rows₁ rows₂ attrs₁ attrs₂) (told .4) w
                 in
                 let told′ = told-walked mid (nested (now .attrs + length xs) p) (w′ .answer) t′ in
-                let rs′ : List Row = told′ .0 in
-                let xs′ : List Attr = told′ .1 in
-                let p′ : ℕ = told′ .2 in
+                let rs′ : List Row = told′ .0 .rows in
+                let xs′ : List Attr = told′ .0 .attrs in
+                let p′ : ℕ = told′ .0 .stopped in
                 let stored = stores-as (told .3) in
                 let stored′ : Stored mid rs′ xs′ p′ rows₁ rows₂ attrs₁ attrs₂ =
-                subst (λ (u : Entries). WalkStores mid u rows₁ rows₂ attrs₁ attrs₂) (told′ .3) (w′ .stores)
+                subst (λ (u : Said Entries). WalkStores mid u rows₁ rows₂ attrs₁ attrs₂) (told′ .1) (w′ .stores)
                 in
                 let attrs-sum : now .attrs + length xs + length xs′ ≡ now .attrs + length (xs ++ xs′) =
                 add-assoc (now .attrs) (length xs) (length xs′) ∙ ap (λ (k : ℕ). now .attrs + k) (sym (length-append xs xs′))
                 in
                 let rows-sum : now .rows + suc (length rs′) ≡ now .rows + 1 + length rs′ = omega arith in
                 let arrived : advanced now (suc (length rs′)) (length (xs ++ xs′)) p′ ≡ after =
-                ap₂ (λ (n m : ℕ). record { at = p′; rows = n; attrs = m }) rows-sum (sym attrs-sum) ∙ sym (told′ .4)
+                ap₂ (λ (n m : ℕ). record { at = p′; rows = n; attrs = m }) rows-sum (sym attrs-sum) ∙ sym (told′ .2)
                 in
                 subst (λ (x : State). Loop from rows₀ rows₂ attrs₀ attrs₂ x) arrived
                 (extend {rs = row ∷ rs′} {xs = xs ++ xs′} (stored-then (stored .0) stored′)
                 (record { there = stored .1 .there; forward = omega (arith, stored .1 .forward, stored′ .forward) })
-                (λ f. turn-inside xs p row (told .3) (entriesRead rs′ xs′ p′) (told′ .3) f
-                ∙ sym (join-join (row ∷ []) xs rs′ xs′ (left f (now .attrs + length xs + length xs′) p′))
-                ∙ ap (λ (k : ℕ). join (row ∷ rs′) (xs ++ xs′) (left f k p′)) attrs-sum))
+                (λ f. turn-inside xs p row (told .3) (gives (told′ .0)) (told′ .1) f))
 
             pub falls-inside : {after : State} → r′ ≡ walk.Walked after → end - after .at < end - now .at
             falls-inside {after} t′ =
                 let told = told-inside now (entryHere (now .at) (now .attrs)) (q .answer) t in
                 let forward : now .at + 4 ≤ told .2 = stores-as (told .3) .1 .forward in
                 let place : to .at ≡ told .2 = ap (λ (x : State). x .at) (told .4) in
-                let nested : Entries = readTags (source vendors global s) erased (levels - 1) (mode true e′) end′ (to .attrs) (to .at) in
+                let nested : Said Entries = readTags (source vendors global s) erased (levels - 1) (mode true e′) end′ (to .attrs) (to .at) in
                 let told′ = told-walked to nested (w .answer) t′ in
-                let stored′ : Stored to (told′ .0) (told′ .1) (told′ .2) rows₁ rows₂ attrs₁ attrs₂ =
-                subst (λ (u : Entries). WalkStores to u rows₁ rows₂ attrs₁ attrs₂) (told′ .3) (w .stores)
+                let stored′ : Stored to (told′ .0 .rows) (told′ .0 .attrs) (told′ .0 .stopped) rows₁ rows₂ attrs₁ attrs₂ =
+                subst (λ (u : Said Entries). WalkStores to u rows₁ rows₂ attrs₁ attrs₂) (told′ .1) (w .stores)
                 in
-                let forward′ : to .at ≤ told′ .2 = stored′ .forward in
-                let place′ : after .at ≡ told′ .2 = ap (λ (x : State). x .at) (told′ .4) in
+                let forward′ : to .at ≤ told′ .0 .stopped = stored′ .forward in
+                let place′ : after .at ≡ told′ .0 .stopped = ap (λ (x : State). x .at) (told′ .2) in
                 omega arith
 
             pub refused-inside : {why : Reason} {at : ℕ} → r′ ≡ walk.Refused why at
                 → WalkRead from (whole (from .attrs) (from .at)) (walk.Refused why at) rows₀ rows₂ attrs₀ attrs₂
-            unfolding entriesThen join
+            unfolding join _>>=_
             refused-inside {why} {at} t′ =
                 let told = told-inside now (entryHere (now .at) (now .attrs)) (q .answer) t in
                 let is = told-refused to (readTags (source vendors global s) erased (levels - 1) (mode true e′) end′ (to .attrs) (to .at)) (w .answer) t′ in
-                let place : readTags (source vendors global s) erased (levels - 1) (mode true e′) end′ (now .attrs + length (told .1)) (told .2) ≡ entriesRefused why at =
+                let place : readTags (source vendors global s) erased (levels - 1) (mode true e′) end′ (now .attrs + length (told .1)) (told .2) ≡ refuse why at =
                 ap (λ (x : State). readTags (source vendors global s) erased (levels - 1) (mode true e′) end′ (x .attrs) (x .at)) (sym (told .4)) ∙ is
                 in
-                stops (turn-inside (told .1) (told .2) (told .0) (told .3) (entriesRefused why at) place)
+                stops (turn-inside (told .1) (told .2) (told .0) (told .3) (refuse why at) place)
 
       -- every turn goes forward, and the tables keep their lengths
       pub rows-kept : length rows ≡ length rows₀

@@ -9,6 +9,7 @@ use lib.Dec.{leb, ltb, eqb}
 use borrow.Author.Tests.{ltb-true, ltb-false, leb-false, eqb-true, eqb-false}
 use Rattle.entries.specs.Source.{source, mode}
 use Rattle.numbers.proofs.Laws.Tests.{cond-all}
+use Rattle.format.specs.Said.{Said, gives, refuses, _>>=_}
 use Rattle.numbers.specs.Value.{valueOf}
 use Rattle.numbers.proofs.Laws.Value.{there-inside, read-all}
 use Rattle.numbers.specs.declared.Endian.{Endian}
@@ -17,8 +18,9 @@ use Rattle.format.specs.TagKind.{tags}
 use Rattle.format.specs.TagKind as tag
 use Rattle.format.specs.declared.refusal.Reason.the-variants as reason
 use Rattle.entries.specs.Head.{nullEnd, tagHead, sizeHead, headAt}
-use Rattle.entries.specs.Run.{Run, ran, failed}
-use Rattle.entries.specs.Entry.{Entry, next, inside, stop, ordinary, attributes, entryFrom, readEntry}
+use Rattle.entries.specs.Run.{Run}
+use Rattle.entries.specs.Entry.{Entry, next, inside, attributes, entryFrom, readEntry}
+use Rattle.entries.specs.Inside.Promise.{ordinary}
 use Rattle.numbers.specs.Written.{bytesOf, Bytes}
 use Rattle.entries.specs.Standard.{Attribute, writtenAttributes, Die, null, padding, entry, writtenDie}
 use Rattle.numbers.proofs.Laws.Stands.{Stands, both-stand, part-length, part-stands}
@@ -26,6 +28,7 @@ use Rattle.numbers.proofs.Laws.Written.{bytes-length, number-small, number-writ
 use Rattle.entries.proofs.Laws.Tagged.{Tagged, tagged-length, tagged-stands}
 use Rattle.entries.proofs.Laws.WrittenValue.{part-small}
 use Rattle.entries.proofs.Laws.WrittenRun.{AllFound, run-found}
+use Rattle.format.proofs.Laws.Said.{placed-keeps}
 use Rattle.entries.specs.declared.head.Head.{Head}
 use Rattle.entries.specs.declared.head.Head.the-variants.{Refused}
 
@@ -98,18 +101,18 @@ module _ (vendors : List ℕ) (e : Endian) (s : List ℕ) (small : Bytes s) (at 
       }
 
 -- an entry that was read, and ends inside where its size says, is such
-abbrev pub EntryFound : List ℕ → Endian → List ℕ → ℕ → Entry → Type 0
-EntryFound vendors e s at (next rs xs place) = place ≡ at + valueOf e 4 s at → place ≤ length s → DieFound vendors e s at (valueOf e 4 s at)
-EntryFound vendors e s at (inside r xs place e′ end) = Unit
-EntryFound vendors e s at (stop why) = Unit
+abbrev pub EntryFound : List ℕ → Endian → List ℕ → ℕ → Said Entry → Type 0
+EntryFound vendors e s at (gives (next rs xs place)) = place ≡ at + valueOf e 4 s at → place ≤ length s → DieFound vendors e s at (valueOf e 4 s at)
+EntryFound vendors e s at (gives (inside r xs place e′ end)) = Unit
+EntryFound vendors e s at (refuses number place counts) = Unit
 
 module _ (vendors : List ℕ) (e : Endian) (s : List ℕ) (small : Bytes s) (at : ℕ) where
-  ordinary-found : (kind a : ℕ) → 8 ≤ valueOf e 4 s at → valueOf e 2 s (at + 4) ≡ kind → isOn kind tags ≡ true → (kind ≡ tag.Padding → ⊥) → (r : Run)
-      → AllFound vendors e s (at + 6) r → EntryFound vendors e s at (ordinary false e at kind a r)
-  unfolding ordinary
-  ordinary-found kind a some p k no-padding (ran xs high place) r =
+  ordinary-found : (kind a : ℕ) → 8 ≤ valueOf e 4 s at → valueOf e 2 s (at + 4) ≡ kind → isOn kind tags ≡ true → (kind ≡ tag.Padding → ⊥) → (r : Said Run)
+      → AllFound vendors e s (at + 6) r → EntryFound vendors e s at (r >>= (λ run. gives (ordinary false e at kind a run)))
+  unfolding _>>=_
+  ordinary-found kind a some p k no-padding (gives run) r =
       λ h fits. entry-found vendors e s small at (valueOf e 4 s at) refl (omega arith) kind some p k no-padding (r .found) (r .stands) (r .ends ∙ h)
-  ordinary-found kind a some p k no-padding (failed why) r = tt
+  ordinary-found kind a some p k no-padding (refuses number place counts) r = tt
 
   module _ (global levels a : ℕ) where
     -- by what it begins with
@@ -125,7 +128,7 @@ module _ (vendors : List ℕ) (e : Endian) (s : List ℕ) (small : Bytes s) (at 
         (λ k. cond-all HeadFound (eqb kind tag.Padding)
         (λ p h fits. padding-found vendors e s small at size refl fits some (eqb-true kind tag.Padding p))
         (λ p. ordinary-found kind a some refl k (eqb-false kind tag.Padding p) (attributes (source vendors global s) e false (at + size) at)
-        (run-found vendors e s global small (at + size) (suc (length s)) (at + 6) room)))
+        (placed-keeps (AllFound vendors e s (at + 6)) at _ (run-found vendors e s global small (at + size) (suc (length s)) (at + 6) room) (λ number counts. tt))))
         (λ k. tt)
 
     -- the theorem of one entry

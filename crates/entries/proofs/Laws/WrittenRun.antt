@@ -9,10 +9,11 @@ use lib.ListN.{length, length-append}
 use borrow.Author.Tests.{lt-ltb, le-ltb}
 use Rattle.entries.specs.Source.{source}
 use Rattle.numbers.specs.declared.Endian.{Endian}
+use Rattle.format.specs.Said.{Said, gives, refuses, _>>=_}
 use Rattle.attributes.specs.Read.{readAttribute}
 use Rattle.attributes.specs.declared.read.Attribute as attribute
 use Rattle.tables.specs.declared.row.Attr.{Attr}
-use Rattle.entries.specs.Run.{Run, ran, failed, first, attr, readOn, runEnds, readRun}
+use Rattle.entries.specs.Run.{Run, ran, attr, readOn, runEnds, readRun}
 use Rattle.numbers.specs.Written.{Bytes}
 use Rattle.entries.specs.Standard.{Attribute, writtenAttribute, writtenAttributes}
 use Rattle.numbers.proofs.Laws.Stands.{Stands, none-stands, both-stand}
@@ -25,27 +26,28 @@ pub record RunFound (vendors : List ℕ) (e : Endian) (s : List ℕ) (at next : 
   pub ends : at + length (writtenAttributes vendors e found) ≡ next
 
 -- attributes that were read are such
-abbrev pub AllFound : List ℕ → Endian → List ℕ → ℕ → Run → Type 0
-AllFound vendors e s at (ran xs high next) = RunFound vendors e s at next
-AllFound vendors e s at (failed why) = Unit
+abbrev pub AllFound : List ℕ → Endian → List ℕ → ℕ → Said Run → Type 0
+AllFound vendors e s at (gives x) = RunFound vendors e s at (x .stopped)
+AllFound vendors e s at (refuses number place counts) = Unit
 
 module _ (vendors : List ℕ) (e : Endian) (s : List ℕ) where
   none-found : (at : ℕ) → at ≤ length s → RunFound vendors e s at at
   unfolding writtenAttributes
   none-found at h = record { found = []; stands = none-stands h; ends = omega arith }
 
-  first-found : (a : Attr) {at next : ℕ} (r : Run) → AttributeFound vendors e s at next → AllFound vendors e s next r → AllFound vendors e s at (first a r)
-  unfolding first writtenAttributes
-  first-found a {at} {next} (ran xs high place) x others =
+  first-found : (a : Attr) {at next : ℕ} (r : Said Run) → AttributeFound vendors e s at next → AllFound vendors e s next r
+      → AllFound vendors e s at (r >>= (λ later. gives (ran (a ∷ later .attrs) (later .high) (later .stopped))))
+  unfolding _>>=_ writtenAttributes
+  first-found a {at} {next} (gives later) x others =
       let front : List ℕ = writtenAttribute vendors e (x .found) in
       let back : List ℕ = writtenAttributes vendors e (others .found) in
       let whole : length (front ++ back) ≡ length front + length back = length-append front back in
       let here : at + length front ≡ next = x .ends in
-      let end : next + length back ≡ place = others .ends in
+      let end : next + length back ≡ later .stopped = others .ends in
       record { found = x .found ∷ others .found; stands = both-stand s at front back (x .stands) (rw here (others .stands)); ends = omega arith }
-  first-found a (failed why) x others = tt
+  first-found a (refuses number place counts) x others = tt
 
-  on-found : (at : ℕ) (x : attribute.Attribute) (k : ℕ → ℕ → Run) → Found vendors e s at x
+  on-found : (at : ℕ) (x : attribute.Attribute) (k : ℕ → ℕ → Said Run) → Found vendors e s at x
       → ((n next : ℕ) → next ≤ length s → AllFound vendors e s next (k n next)) → AllFound vendors e s at (readOn x k)
   unfolding readOn
   on-found at (attribute.the-variants.Read n value next) k x others =

@@ -2,24 +2,28 @@
 -- below 2 ^ 32 bytes and a place and counts to go on from.
 use Prim.Native.Nat.{ℕ, _+_, _*_, _^_, _≤_, _<_}
 use mathlib.Core.Path.{_≡_}
-use mathlib.Core.Bool.{Bool, false}
+use mathlib.Core.Bool.{Bool, true, false, cond}
 use mathlib.Core.List.{List, [], _∷_}
 use lib.ListN.{length}
 use lib.Seq.{sets}
 use Rattle.numbers.specs.declared.Endian.{Endian}
 use Rattle.format.specs.Limits.{sectionLimit}
+use Rattle.format.specs.Said.{Said, gives, refuses, refuse, _>>=_, placed}
 use Rattle.format.specs.TagKind as tag
+use Rattle.format.specs.declared.refusal.Reason.the-variants as reason
 use Rattle.tables.specs.Row.{rowWidth, attrWidth, rowsWords, attrsWords}
 use Rattle.tables.specs.declared.row.Row.{Row}
 use Rattle.tables.specs.declared.row.Attr.{Attr}
-use Rattle.entries.specs.Run.{Run, ran, failed}
-use Rattle.entries.specs.Entry.{Entry, next, inside, stop, row, kindOf}
-use Rattle.entries.specs.Walk.{Entries, entriesRead, entriesRefused}
+use Rattle.entries.specs.Run.{Run}
+use Rattle.entries.specs.Entry.{Entry, next, inside, row, rootKind}
+use Rattle.entries.specs.Walk.{Entries}
 use Rattle.entries.specs.declared.run.Run as run
 use Rattle.entries.specs.declared.entry.State.{State}
 use Rattle.entries.specs.declared.entry.Shape.{Shape}
 use Rattle.entries.specs.declared.entry.Body.{Body}
 use Rattle.entries.specs.declared.entry.Body.the-variants as body
+use Rattle.entries.specs.declared.entry.Look.{Look}
+use Rattle.entries.specs.declared.entry.Look.the-variants as look
 use Rattle.entries.specs.declared.entry.Entry as entry
 use Rattle.entries.specs.declared.head.Head.{Head}
 use Rattle.entries.specs.declared.head.Head.the-variants.{Null, Skipped, Root, Ordinary, Refused}
@@ -48,10 +52,14 @@ pub record RunReady (s : List ℕ) (at attrs : ℕ) : Type 0 where
   pub here : at ≤ length s
   pub few : attrs ≤ at
 
--- the code's answer: place and count go on, `attrs` being the count before
-unfoldable pub runAnswer : ℕ → Run → run.Run
-runAnswer attrs (ran xs high place) = run.the-variants.Ran place (attrs + length xs) high
-runAnswer attrs (failed why) = run.the-variants.Refused why
+-- what the code says, a refusal told at a place
+unfoldable pub saidRun : ℕ → run.Run → Said run.Run
+saidRun key (run.the-variants.Ran place n high) = gives (run.the-variants.Ran place n high)
+saidRun key (run.the-variants.Refused why) = refuse why key
+
+-- its answer: place and count go on, `attrs` being the count before
+abbrev pub runAnswer : ℕ → Said Run → Said run.Run
+runAnswer attrs what = what >>= (λ x. gives (run.the-variants.Ran (x .stopped) (attrs + length (x .attrs)) (x .high)))
 
 -- the attributes xs were stored, from number `attrs` on, and reading stopped at `place`
 pub record RunStored (s : List ℕ) (at attrs : ℕ) (xs : List Attr) (place : ℕ) (table₀ table₁ : List ℕ) : Type 0 where
@@ -61,13 +69,13 @@ pub record RunStored (s : List ℕ) (at attrs : ℕ) (xs : List Attr) (place : �
   pub here : place ≤ length s
 
 -- what is said of the table; of a refusal nothing: it comes while empty tables count
-abbrev pub RunStores : List ℕ → ℕ → ℕ → Run → List ℕ → List ℕ → Type 0
-RunStores s at attrs (ran xs high place) table₀ table₁ = RunStored s at attrs xs place table₀ table₁
-RunStores s at attrs (failed why) table₀ table₁ = Unit
+abbrev pub RunStores : List ℕ → ℕ → ℕ → Said Run → List ℕ → List ℕ → Type 0
+RunStores s at attrs (gives x) table₀ table₁ = RunStored s at attrs (x .attrs) (x .stopped) table₀ table₁
+RunStores s at attrs (refuses number place counts) table₀ table₁ = Unit
 
--- what reading attributes answers and stores
-pub record RunRead (s : List ℕ) (at attrs : ℕ) (what : Run) (r : run.Run) (table₀ table₁ : List ℕ) : Type 0 where
-  pub answer : r ≡ runAnswer attrs what
+-- what reading attributes answers and stores; it does not know the entry's key, at which a refusal is told
+pub record RunRead (s : List ℕ) (at attrs : ℕ) (what : Said Run) (r : run.Run) (table₀ table₁ : List ℕ) : Type 0 where
+  pub answer : (key : ℕ) → saidRun key r ≡ runAnswer attrs (placed key what)
   pub stores : RunStores s at attrs what table₀ table₁
 
 -- ---- one entry, and entries one after the other
@@ -116,54 +124,85 @@ pub record NullRead (from : State) (isErased : Bool) (e : Endian) (place : ℕ) 
   pub answer : r ≡ entry.the-variants.Next (advanced from 1 0 place)
   pub words : rows₁ ≡ sets rows₀ (from .rows * rowWidth) (rowsWords (row isErased false e (from .at) tag.Padding (from .attrs) [] ∷ []))
 
+-- an entry's own kind; a root has none
+unfoldable pub kindOf : Bool → ℕ → Bool → ℕ
+kindOf root kind high = cond root (rootKind high) kind
+
+-- an ordinary entry
+abbrev pub ordinary : Bool → Endian → ℕ → ℕ → ℕ → Run → Entry
+ordinary isErased e at kind a run = next (row isErased false e at kind a (run .attrs) ∷ []) (run .attrs) (run .stopped)
+
+-- an erased root that ends at `end`
+abbrev pub rooted : Endian → ℕ → ℕ → ℕ → Run → Entry
+rooted e at end a run = inside (row true true e at (rootKind (run .high)) a (run .attrs)) (run .attrs) (run .stopped) e end
+
 -- an entry's attributes, then its row
 pub record BodyReady (s : List ℕ) (from : State) : Type 0 where
   pub ready : Ready s from
   pub here : from .at + 6 ≤ length s
 
--- the code's answer: one row more, and the attributes
-unfoldable pub bodyAnswer : State → Run → Body
-bodyAnswer from (ran xs high place) = body.Read (advanced from 1 (length xs) place)
-bodyAnswer from (failed why) = body.Refused why
+-- what the code says of the entry at a place
+unfoldable pub saidBody : ℕ → Body → Said State
+saidBody key (body.Read state) = gives state
+saidBody key (body.Refused why) = refuse why key
+
+-- its answer: one row more, and the attributes
+abbrev pub bodyAnswer : State → Said Run → Said State
+bodyAnswer from what = what >>= (λ x. gives (advanced from 1 (length (x .attrs)) (x .stopped)))
 
 -- what is said of the tables
-abbrev pub BodyStores : List ℕ → State → Shape → Run → List ℕ → List ℕ → List ℕ → List ℕ → Type 0
-BodyStores s from shape (ran xs high place) rows₀ rows₁ attrs₀ attrs₁ =
-    Stored from (row (shape .erased) (shape .root) (shape .endian) (from .at) (kindOf (shape .root) (shape .kind) high) (from .attrs) xs ∷ []) xs place rows₀ rows₁
-    attrs₀ attrs₁
-    × Taken s from place
-BodyStores s from shape (failed why) rows₀ rows₁ attrs₀ attrs₁ = Unit
+abbrev pub BodyStores : List ℕ → State → Shape → Said Run → List ℕ → List ℕ → List ℕ → List ℕ → Type 0
+BodyStores s from shape (gives x) rows₀ rows₁ attrs₀ attrs₁ =
+    Stored from (row (shape .erased) (shape .root) (shape .endian) (from .at) (kindOf (shape .root) (shape .kind) (x .high)) (from .attrs) (x .attrs) ∷ [])
+    (x .attrs) (x .stopped) rows₀ rows₁ attrs₀ attrs₁
+    × Taken s from (x .stopped)
+BodyStores s from shape (refuses number place counts) rows₀ rows₁ attrs₀ attrs₁ = Unit
 
 -- what reading a body answers and stores
-pub record BodyRead (s : List ℕ) (from : State) (shape : Shape) (what : Run) (r : Body) (rows₀ rows₁ attrs₀ attrs₁ : List ℕ) : Type 0 where
-  pub answer : r ≡ bodyAnswer from what
+pub record BodyRead (s : List ℕ) (from : State) (shape : Shape) (what : Said Run) (r : Body) (rows₀ rows₁ attrs₀ attrs₁ : List ℕ) : Type 0 where
+  pub answer : saidBody (from .at) r ≡ bodyAnswer from what
   pub stores : BodyStores s from shape what rows₀ rows₁ attrs₀ attrs₁
 
--- the same three of an entry
+-- what the code says of a root's endianness
+unfoldable pub saidLook : ℕ → Look → Said Endian
+saidLook key (look.Is e) = gives e
+saidLook key look.Short = refuse reason.Short key
+
+-- the same of an entry
+unfoldable pub saidEntry : ℕ → entry.Entry → Said entry.Entry
+saidEntry key (entry.the-variants.Next state) = gives (entry.the-variants.Next state)
+saidEntry key (entry.the-variants.Inside state e end) = gives (entry.the-variants.Inside state e end)
+saidEntry key (entry.the-variants.Refused why) = refuse why key
+
 unfoldable pub entryAnswer : State → Entry → entry.Entry
 entryAnswer from (next rs xs place) = entry.the-variants.Next (advanced from (length rs) (length xs) place)
 entryAnswer from (inside r xs place e end) = entry.the-variants.Inside (advanced from 1 (length xs) place) e end
-entryAnswer from (stop why) = entry.the-variants.Refused why
 
-abbrev pub EntryStores : List ℕ → State → Entry → List ℕ → List ℕ → List ℕ → List ℕ → Type 0
-EntryStores s from (next rs xs place) rows₀ rows₁ attrs₀ attrs₁ = Stored from rs xs place rows₀ rows₁ attrs₀ attrs₁ × Taken s from place
-EntryStores s from (inside r xs place e end) rows₀ rows₁ attrs₀ attrs₁ =
+abbrev pub EntryStores : List ℕ → State → Said Entry → List ℕ → List ℕ → List ℕ → List ℕ → Type 0
+EntryStores s from (gives (next rs xs place)) rows₀ rows₁ attrs₀ attrs₁ = Stored from rs xs place rows₀ rows₁ attrs₀ attrs₁ × Taken s from place
+EntryStores s from (gives (inside r xs place e end)) rows₀ rows₁ attrs₀ attrs₁ =
     Stored from (r ∷ []) xs place rows₀ rows₁ attrs₀ attrs₁ × Taken s from place × (end ≤ farthest)
-EntryStores s from (stop why) rows₀ rows₁ attrs₀ attrs₁ = Unit
+EntryStores s from (refuses number place counts) rows₀ rows₁ attrs₀ attrs₁ = Unit
 
-pub record EntryRead (s : List ℕ) (from : State) (what : Entry) (r : entry.Entry) (rows₀ rows₁ attrs₀ attrs₁ : List ℕ) : Type 0 where
-  pub answer : r ≡ entryAnswer from what
+pub record EntryRead (s : List ℕ) (from : State) (what : Said Entry) (r : entry.Entry) (rows₀ rows₁ attrs₀ attrs₁ : List ℕ) : Type 0 where
+  pub answer : saidEntry (from .at) r ≡ (what >>= (λ x. gives (entryAnswer from x)))
   pub stores : EntryStores s from what rows₀ rows₁ attrs₀ attrs₁
 
--- and of entries one after the other
-unfoldable pub walkAnswer : State → Entries → walk.Walk
-walkAnswer from (entriesRead rs xs place) = walk.the-variants.Walked (advanced from (length rs) (length xs) place)
-walkAnswer from (entriesRefused why place) = walk.the-variants.Refused why place
+-- what the walk says
+unfoldable pub saidWalk : walk.Walk → Said State
+saidWalk (walk.the-variants.Walked state) = gives state
+saidWalk (walk.the-variants.Refused why place) = refuse why place
 
-abbrev pub WalkStores : State → Entries → List ℕ → List ℕ → List ℕ → List ℕ → Type 0
-WalkStores from (entriesRead rs xs place) rows₀ rows₁ attrs₀ attrs₁ = Stored from rs xs place rows₀ rows₁ attrs₀ attrs₁
-WalkStores from (entriesRefused why place) rows₀ rows₁ attrs₀ attrs₁ = Unit
+-- and of entries one after the other: where reading then stands
+unfoldable pub walked : State → Said Entries → Said State
+walked from what = do
+  all ← what
+  gives (advanced from (length (all .rows)) (length (all .attrs)) (all .stopped))
 
-pub record WalkRead (from : State) (what : Entries) (r : walk.Walk) (rows₀ rows₁ attrs₀ attrs₁ : List ℕ) : Type 0 where
-  pub answer : r ≡ walkAnswer from what
+abbrev pub WalkStores : State → Said Entries → List ℕ → List ℕ → List ℕ → List ℕ → Type 0
+WalkStores from (gives all) rows₀ rows₁ attrs₀ attrs₁ = Stored from (all .rows) (all .attrs) (all .stopped) rows₀ rows₁ attrs₀ attrs₁
+WalkStores from (refuses number place wanted) rows₀ rows₁ attrs₀ attrs₁ = Unit
+
+pub record WalkRead (from : State) (what : Said Entries) (r : walk.Walk) (rows₀ rows₁ attrs₀ attrs₁ : List ℕ) : Type 0 where
+  pub answer : saidWalk r ≡ walked from what
   pub stores : WalkStores from what rows₀ rows₁ attrs₀ attrs₁

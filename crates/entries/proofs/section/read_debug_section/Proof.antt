@@ -1,21 +1,25 @@
-use Rattle.entries.proofs.Laws.Section.{countable, read-done, read-room, read-refused}
+use Rattle.entries.proofs.Laws.Section.{countable, countable-short, read-done, read-room, read-refused}
+use Rattle.entries.specs.Section.{saidSection}
 use borrow.Author.Needs.{needs}
 use mathlib.Core.Path.{sym, _∙_}
 use Rattle.entries.proofs.section.read_debug_section.Statement.{statement}
 use Rattle.entries.proofs.section.read_debug_section.Tie as tie
 
 read-whole-requires : tie.Need-read-whole-requires
-read-whole-requires c κs = countable _ _ _ _ (sym (c .before .before .before .before .before .before .before .count-debug-section .ensures) ∙ c .before .before .before .before .before .counts .given .1) .short
+read-whole-requires c κs = countable-short _ _ _ _ (countable _ _ _ _ (c .before .before .before .before .before .before .before .count-debug-section .ensures) (c .before .before .before .before .before .counts .given .1))
 
 returns : tie.Need-returns
+unfolding saidSection
 returns c =
-    read-done _ _ _ _ _ _ (sym (c .before .before .before .before .before .before .before .before .before .before .before .before .count-debug-section .ensures) ∙ c .before .before .before .before .before .before .before .before .before .before .counts .given .1) (sym (c .before .before .before .before .before .before .before .before .fits-tables .ensures) ∙ c .before .before .before .before .before .before .before .if1 .taken) (c .before .before .before .before .read-whole .ensures)
+    read-done _ _ _ _ _ _ (countable _ _ _ _ (c .before .before .before .before .before .before .before .before .before .before .before .before .count-debug-section .ensures) (c .before .before .before .before .before .before .before .before .before .before .counts .given .1)) (sym (c .before .before .before .before .before .before .before .before .fits-tables .ensures) ∙ c .before .before .before .before .before .before .before .if1 .taken) (c .before .before .before .before .read-whole .ensures)
 
 returns-2 : tie.Need-returns-2
-returns-2 c = read-room _ _ _ _ _ _ (sym (c .before .before .before .before .before .count-debug-section .ensures) ∙ c .before .before .before .counts .given .1) (sym (c .before .fits-tables .ensures) ∙ c .if1 .left)
+unfolding saidSection
+returns-2 c = read-room _ _ _ _ _ _ (countable _ _ _ _ (c .before .before .before .before .before .count-debug-section .ensures) (c .before .before .before .counts .given .1)) (sym (c .before .fits-tables .ensures) ∙ c .if1 .left)
 
 returns-3 : tie.Need-returns-3
-returns-3 c = read-refused _ _ _ _ _ _ (sym (c .before .before .before .count-debug-section .ensures) ∙ c .before .why .given .1)
+unfolding saidSection
+returns-3 c = read-refused _ _ _ _ _ _ (c .before .before .before .count-debug-section .ensures) (c .before .why .given .1)
 
 pub read-debug-section-spec : {M : Type 1} → statement M
 read-debug-section-spec =
