@@ -1,5 +1,6 @@
 -- Laws. `Attribute` to `Typed`: for each way that the code comes to an answer. `There`: in a table that passed the table test, what a typed lookup finds
--- is wholly there. `Endless`: the walk is refused exactly when it would never end. `Only`: no second answer fits.
+-- is wholly there. `Endless`: the walk is refused exactly when it would never end. `Back`: what is said leads back
+-- to the answer. `Only`: no second answer fits.
 pub mod Neighbour
 pub mod Attribute
 pub mod Link
@@ -8,4 +9,5 @@ pub mod Kids
 pub mod Typed
 pub mod There
 pub mod Endless
+pub mod Back
 pub mod Only

@@ -1,5 +1,6 @@
--- Links between rows: `Attribute` (lookups), `Walk` (a walk over rows), `Links` (next row, sibling, the child walk), `Children`, `Neighbour` and
--- `Typed` (the public calls). For theorems: `There` (the bytes of a value are all there).
+-- Links between rows: `Maybe` (a value that may be absent), `Attribute` (lookups), `Walk` (a walk over rows), `Links` (next row, sibling, the child
+-- walk), `Children`, `Neighbour` and `Typed` (the public calls). For theorems: `There` (the bytes of a value are all there).
+pub mod Maybe
 pub mod Attribute
 pub mod Walk
 pub mod Links

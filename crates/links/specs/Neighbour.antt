@@ -2,35 +2,33 @@
 use Prim.Native.Nat.{ℕ}
 use mathlib.Core.Bool.{cond}
 use lib.Dec.{ltb}
+use Rattle.format.specs.Said.{Said, gives, refusal, _>>=_}
 use Rattle.tables.specs.Table.{Table}
-use Rattle.format.specs.declared.refusal.Reason.the-variants as reason
-use Rattle.tables.specs.Find.{rowOfKey}
-use Rattle.tables.specs.Tests.{refusedAt, tested}
+use Rattle.tables.specs.Keyed.{rowOf}
 use Rattle.tables.specs.declared.find.Found.{Found}
 use Rattle.tables.specs.declared.find.Found.the-variants.{At, Nothing}
 use Rattle.links.specs.Links.{nextRow, siblingRow}
 use Rattle.links.specs.declared.neighbour.Neighbour.{Neighbour}
-use Rattle.links.specs.declared.neighbour.Neighbour.the-variants.{Row, Refused}
 use Rattle.links.specs.declared.neighbour.Neighbour.the-variants as neighbour
 
--- a row number as an answer: n is no row
-unfoldable pub answerOf : ℕ → ℕ → Neighbour
-answerOf n j = cond (ltb j n) (Row j) neighbour.Nothing
+-- what an answer says
+unfoldable pub saidNeighbour : Neighbour → Said Found
+saidNeighbour (neighbour.Row j) = gives (At j)
+saidNeighbour neighbour.Nothing = gives Nothing
+saidNeighbour (neighbour.Refused why) = refusal why
 
--- of the row of a key; `to` leads from a row to the other
-unfoldable pub neighbourBy : (ℕ → ℕ) → ℕ → ℕ → Found → Neighbour
-neighbourBy to n key (At i) = answerOf n (to i)
-neighbourBy to n key Nothing = Refused (refusedAt key reason.Entry)
+-- a row by its number: n is no row
+unfoldable pub rowOrNone : ℕ → ℕ → Found
+rowOrNone n j = cond (ltb j n) (At j) Nothing
 
 -- the next row of the row of a key
-unfoldable pub nextTag : Table → ℕ → Neighbour
-nextTag t key =
-    tested t Refused
-    (neighbourBy (λ i. nextRow (t .rows) (t .counts .rows) i) (t .counts .rows) key (rowOfKey (t .rows) (t .counts .rows) key))
+unfoldable pub nextTag : Table → ℕ → Said Found
+nextTag t key = do
+  i ← rowOf t key
+  gives (rowOrNone (t .counts .rows) (nextRow (t .rows) (t .counts .rows) i))
 
 -- its sibling
-unfoldable pub nextSibling : Table → ℕ → Neighbour
-nextSibling t key =
-    tested t Refused
-    (neighbourBy (λ i. siblingRow (t .settings .endian) (t .section) (t .rows) (t .attrs) (t .counts .rows) i) (t .counts .rows) key
-    (rowOfKey (t .rows) (t .counts .rows) key))
+unfoldable pub nextSibling : Table → ℕ → Said Found
+nextSibling t key = do
+  i ← rowOf t key
+  gives (rowOrNone (t .counts .rows) (siblingRow (t .settings .endian) (t .section) (t .rows) (t .attrs) (t .counts .rows) i))

@@ -13,10 +13,9 @@ use Rattle.format.specs.declared.form_kind.FormKind.the-variants.{Addr, Ref, Bl
 use Rattle.attributes.specs.Text.{zeroFrom}
 use Rattle.tables.specs.Row.{rowAt}
 use Rattle.tables.specs.declared.find.Found.the-variants.{Nothing}
+use Rattle.links.specs.Maybe.{Maybe, some}
 use Rattle.links.specs.Attribute.{attributeOf}
 use Rattle.links.specs.declared.lookup.Wanted.the-variants as wanted
-use Rattle.links.specs.declared.typed.Value.{Value}
-use Rattle.links.specs.declared.typed.Value.the-variants as value
 
 -- ---- numbers
 
@@ -33,9 +32,9 @@ IsNumber String = ⊥
 IsNumber Undefined = ⊥
 
 -- a number is told
-pub record TextTold (v : Value) : Type 0 where
+pub record TextTold (v : Maybe ℕ) : Type 0 where
   pub number : ℕ
-  pub is-number : v ≡ value.Is number
+  pub is-number : v ≡ some number
 
 -- ---- texts and blocks
 

@@ -6,22 +6,18 @@ use format::refusal::Refusal;
 use format::settings::Settings;
 use lent::cells::put_cell;
 use numbers::Endian;
-use tables::find::Found;
-use tables::find::find_row;
+use tables::keyed::Keyed;
+use tables::keyed::row_of;
 use tables::row::Counts;
 use tables::row::row_at;
-use tables::tests::Tested;
-use tables::tests::test_table;
 ghost use mathlib.Core.Path.{_≡_};
 ghost use Rattle.tables.specs.Table.{table};
 ghost use Rattle.lent.specs.Outcome.{Given};
-ghost use Rattle.tables.specs.Tests.{refusedAt};
 ghost use Rattle.links.specs.Walk.{walkFrom};
 ghost use Rattle.links.specs.Links.{siblingRow, childWalk};
 ghost use Rattle.links.specs.Inside.Links.{Rows};
-ghost use Rattle.links.specs.Inside.Children.{gatheredInto, Gathers, TakesChild, Small, Asked};
-ghost use Rattle.links.specs.Children.{given, childrenBy, childrenOfKey};
-ghost use Rattle.tables.specs.Find.{rowOfKey};
+ghost use Rattle.links.specs.Inside.Children.{gatheredInto, Gathers, TakesChild, Small, Asked, listedInto};
+ghost use Rattle.links.specs.Children.{saidChildRows, childrenOfKey};
 ghost use mathlib.Core.List.{[]};
 
 pub enum ChildRows {
@@ -115,15 +111,6 @@ pub fn count_children(s: &[u8], e: Endian, rows: &[u32], attrs: &[u32], n: usize
     gather(s, e, rows, attrs, n, i, &mut room)
 }
 
-fn refused(reason: Reason, key: u32) -> ChildRows
-    ensures { λ r. ⌜ r ≡ ChildRows.Refused (refusedAt key reason) ⌝ }
-{
-    ChildRows::Refused(Refusal {
-        reason,
-        place: key as u64,
-    })
-}
-
 // The children of row i, whose key it is: counted first, so that a refusal has written nothing.
 fn give(
     s: &[u8],
@@ -137,8 +124,8 @@ fn give(
 ) -> ChildRows
     requires { ⌜ Asked (now rows) n i ⌝ }
     ensures { λ r. ⌜
-        Given (given (now (rows .entry)) key (now (room .entry)) (childWalk e (now (s .entry)) (now (rows .entry)) (now (attrs .entry)) n i)) r
-        (now (room .exit))
+        Given (listedInto (now (rows .entry)) key (now (room .entry)) (childWalk e (now (s .entry)) (now (rows .entry)) (now (attrs .entry)) n i))
+        (saidChildRows r) (now (room .exit))
         ⌝ }
 {
     match count_children(s, e, rows, attrs, n, i) {
@@ -150,29 +137,10 @@ fn give(
                 ChildRows::Room(k)
             }
         }
-        Kids::Endless => refused(Reason::Link, key),
-    }
-}
-
-// The children of the row of a key, in a table that was tested.
-fn children_by_key(
-    s: &[u8],
-    e: Endian,
-    rows: &[u32],
-    attrs: &[u32],
-    n: usize,
-    key: u32,
-    room: &mut [u32],
-) -> ChildRows
-    requires { ⌜ Rows (now rows) n ⌝ }
-    ensures { λ r. ⌜
-        Given (childrenBy e (now (s .entry)) (now (rows .entry)) (now (attrs .entry)) n key (now (room .entry)) (rowOfKey (now (rows .entry)) n key))
-        r (now (room .exit))
-        ⌝ }
-{
-    match find_row(rows, n, key) {
-        Found::At(i) => give(s, e, rows, attrs, n, i, key, room),
-        Found::Nothing => refused(Reason::Entry, key),
+        Kids::Endless => ChildRows::Refused(Refusal {
+            reason: Reason::Link,
+            place: key as u64,
+        }),
     }
 }
 
@@ -190,14 +158,14 @@ pub fn children(
 ) -> ChildRows
     ensures { λ r. ⌜
         Given (childrenOfKey (table (now (s .entry)) settings (now (vendors .entry)) (now (sizes .entry)) (now (rows .entry))
-        (now (attrs .entry)) counts) key (now (room .entry))) r (now (room .exit))
+        (now (attrs .entry)) counts) key (now (room .entry))) (saidChildRows r) (now (room .exit))
         ⌝ }
 {
-    match test_table(s, settings, vendors, sizes, rows, attrs, counts) {
-        Tested::Passed => {
+    match row_of(s, settings, vendors, sizes, rows, attrs, counts, key) {
+        Keyed::Row(i) => {
             let e = settings.endian;
-            children_by_key(s, e, rows, attrs, counts.rows, key, room)
+            give(s, e, rows, attrs, counts.rows, i, key, room)
         }
-        Tested::Refused(why) => ChildRows::Refused(why),
+        Keyed::Refused(why) => ChildRows::Refused(why),
     }
 }

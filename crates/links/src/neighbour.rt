@@ -1,22 +1,15 @@
 // The next row and the sibling of the row of a key.
 use crate::link::next_row;
 use crate::link::sibling_row;
-use format::refusal::Reason;
 use format::refusal::Refusal;
 use format::settings::Settings;
-use numbers::Endian;
-use tables::find::Found;
-use tables::find::find_row;
+use tables::keyed::Keyed;
+use tables::keyed::row_of;
 use tables::row::Counts;
-use tables::tests::Tested;
-use tables::tests::test_table;
 ghost use mathlib.Core.Path.{_≡_};
 ghost use Rattle.tables.specs.Table.{table};
-ghost use Rattle.tables.specs.Tests.{refusedAt};
-ghost use Rattle.tables.specs.Find.{rowOfKey};
-ghost use Rattle.links.specs.Links.{nextRow, siblingRow};
-ghost use Rattle.links.specs.Inside.Links.{Rows};
-ghost use Rattle.links.specs.Neighbour.{answerOf, neighbourBy, nextTag, nextSibling};
+ghost use Rattle.format.specs.Said.{gives};
+ghost use Rattle.links.specs.Neighbour.{saidNeighbour, rowOrNone, nextTag, nextSibling};
 
 pub enum Neighbour {
     Row(usize),
@@ -25,43 +18,12 @@ pub enum Neighbour {
 }
 
 fn answer(n: usize, j: usize) -> Neighbour
-    ensures { λ r. ⌜ r ≡ answerOf n j ⌝ }
+    ensures { λ r. ⌜ saidNeighbour r ≡ gives (rowOrNone n j) ⌝ }
 {
     if j < n {
         Neighbour::Row(j)
     } else {
         Neighbour::Nothing
-    }
-}
-
-fn no_entry(key: u32) -> Neighbour
-    ensures { λ r. ⌜ r ≡ Neighbour.Refused (refusedAt key Reason.Entry) ⌝ }
-{
-    Neighbour::Refused(Refusal {
-        reason: Reason::Entry,
-        place: key as u64,
-    })
-}
-
-fn next_by_key(rows: &[u32], n: usize, key: u32) -> Neighbour
-    requires { ⌜ Rows (now rows) n ⌝ }
-    ensures { λ r. ⌜ r ≡ neighbourBy (λ i. nextRow (now (rows .entry)) n i) n key (rowOfKey (now (rows .entry)) n key) ⌝ }
-{
-    match find_row(rows, n, key) {
-        Found::At(i) => answer(n, next_row(rows, n, i)),
-        Found::Nothing => no_entry(key),
-    }
-}
-
-fn sibling_by_key(s: &[u8], e: Endian, rows: &[u32], attrs: &[u32], n: usize, key: u32) -> Neighbour
-    requires { ⌜ Rows (now rows) n ⌝ }
-    ensures { λ r. ⌜
-        r ≡ neighbourBy (λ i. siblingRow e (now (s .entry)) (now (rows .entry)) (now (attrs .entry)) n i) n key (rowOfKey (now (rows .entry)) n key)
-        ⌝ }
-{
-    match find_row(rows, n, key) {
-        Found::At(i) => answer(n, sibling_row(s, e, rows, attrs, n, i)),
-        Found::Nothing => no_entry(key),
     }
 }
 
@@ -77,12 +39,13 @@ pub fn next_tag(
     key: u32,
 ) -> Neighbour
     ensures { λ r. ⌜
-        r ≡ nextTag (table (now (s .entry)) settings (now (vendors .entry)) (now (sizes .entry)) (now (rows .entry)) (now (attrs .entry)) counts) key
+        saidNeighbour r ≡ nextTag (table (now (s .entry)) settings (now (vendors .entry)) (now (sizes .entry)) (now (rows .entry))
+        (now (attrs .entry)) counts) key
         ⌝ }
 {
-    match test_table(s, settings, vendors, sizes, rows, attrs, counts) {
-        Tested::Passed => next_by_key(rows, counts.rows, key),
-        Tested::Refused(why) => Neighbour::Refused(why),
+    match row_of(s, settings, vendors, sizes, rows, attrs, counts, key) {
+        Keyed::Row(i) => answer(counts.rows, next_row(rows, counts.rows, i)),
+        Keyed::Refused(why) => Neighbour::Refused(why),
     }
 }
 
@@ -98,15 +61,15 @@ pub fn next_sibling(
     key: u32,
 ) -> Neighbour
     ensures { λ r. ⌜
-        r ≡ nextSibling (table (now (s .entry)) settings (now (vendors .entry)) (now (sizes .entry)) (now (rows .entry)) (now (attrs .entry)) counts)
-        key
+        saidNeighbour r ≡ nextSibling (table (now (s .entry)) settings (now (vendors .entry)) (now (sizes .entry)) (now (rows .entry))
+        (now (attrs .entry)) counts) key
         ⌝ }
 {
-    match test_table(s, settings, vendors, sizes, rows, attrs, counts) {
-        Tested::Passed => {
+    match row_of(s, settings, vendors, sizes, rows, attrs, counts, key) {
+        Keyed::Row(i) => {
             let e = settings.endian;
-            sibling_by_key(s, e, rows, attrs, counts.rows, key)
+            answer(counts.rows, sibling_row(s, e, rows, attrs, counts.rows, i))
         }
-        Tested::Refused(why) => Neighbour::Refused(why),
+        Keyed::Refused(why) => Neighbour::Refused(why),
     }
 }

@@ -26,8 +26,11 @@ use tables::row::attr_at;
 use tables::row::ends_of;
 ghost use mathlib.Core.Path.{_≡_};
 ghost use Rattle.tables.specs.Table.{table};
-ghost use Rattle.links.specs.Typed.{lookedIn, attributeOfKey, blockForm, spotAt, spotIn, placeOfKey, asValue, asWidened, wordAt, valueOfKey};
-ghost use Rattle.links.specs.Typed.{partAs, partOf, toldWords, Handed};
+ghost use Rattle.format.specs.Said.{gives};
+ghost use Rattle.links.specs.Attribute.{attributeOf};
+ghost use Rattle.links.specs.Typed.{saidLooked, saidValue, attrFound, attributeOfKey, blockForm, spotAt, spotIn, placeOfKey};
+ghost use Rattle.links.specs.Typed.{asValue, asWidened, wordAt, valueOfKey, partAs, partOf, toldWords, Handed};
+ghost use Rattle.links.specs.Inside.Typed.{saidPlaced};
 
 // The attribute that was looked for; or the row has none.
 pub enum Looked {
@@ -56,7 +59,7 @@ pub enum Placed {
 }
 
 fn look_in(rows: &[u32], attrs: &[u32], i: usize, wanted: Wanted) -> Looked
-    ensures { λ r. ⌜ r ≡ lookedIn (now (rows .entry)) (now (attrs .entry)) wanted i ⌝ }
+    ensures { λ r. ⌜ saidLooked r ≡ gives (attrFound (now (attrs .entry)) (attributeOf (now (rows .entry)) (now (attrs .entry)) i wanted)) ⌝ }
 {
     match attribute_of(rows, attrs, i, wanted) {
         Found::At(k) => Looked::At(attr_at(attrs, k)),
@@ -76,7 +79,7 @@ fn look(
     wanted: Wanted,
 ) -> Looked
     ensures { λ r. ⌜
-        r ≡ attributeOfKey (table (now (s .entry)) settings (now (vendors .entry)) (now (sizes .entry)) (now (rows .entry))
+        saidLooked r ≡ attributeOfKey (table (now (s .entry)) settings (now (vendors .entry)) (now (sizes .entry)) (now (rows .entry))
         (now (attrs .entry)) counts) key wanted
         ⌝ }
 {
@@ -99,7 +102,7 @@ pub fn attribute(
     number: u16,
 ) -> Looked
     ensures { λ r. ⌜
-        r ≡ attributeOfKey (table (now (s .entry)) settings (now (vendors .entry)) (now (sizes .entry)) (now (rows .entry))
+        saidLooked r ≡ attributeOfKey (table (now (s .entry)) settings (now (vendors .entry)) (now (sizes .entry)) (now (rows .entry))
         (now (attrs .entry)) counts) key (Wanted.Number number)
         ⌝ }
 {
@@ -129,7 +132,7 @@ pub fn type_attribute(
     key: u32,
 ) -> Looked
     ensures { λ r. ⌜
-        r ≡ attributeOfKey (table (now (s .entry)) settings (now (vendors .entry)) (now (sizes .entry)) (now (rows .entry))
+        saidLooked r ≡ attributeOfKey (table (now (s .entry)) settings (now (vendors .entry)) (now (sizes .entry)) (now (rows .entry))
         (now (attrs .entry)) counts) key Wanted.Type
         ⌝ }
 {
@@ -148,7 +151,7 @@ pub fn type_attribute(
 
 // Where row i's first attribute of this number has its value.
 fn spot_at(e: Endian, rows: &[u32], attrs: &[u32], i: usize, number: u32) -> Placed
-    ensures { λ r. ⌜ r ≡ spotAt e (now (rows .entry)) (now (attrs .entry)) number i ⌝ }
+    ensures { λ r. ⌜ saidPlaced r ≡ gives (spotAt e (now (rows .entry)) (now (attrs .entry)) number i) ⌝ }
 {
     match attribute_of(rows, attrs, i, Wanted::Number(number)) {
         Found::At(k) => {
@@ -164,7 +167,7 @@ fn spot_at(e: Endian, rows: &[u32], attrs: &[u32], i: usize, number: u32) -> Pla
 }
 
 fn spot_in(e: Endian, rows: &[u32], attrs: &[u32], i: usize, number: u16, form: FormKind) -> Placed
-    ensures { λ r. ⌜ r ≡ spotIn e (now (rows .entry)) (now (attrs .entry)) number form i ⌝ }
+    ensures { λ r. ⌜ saidPlaced r ≡ gives (spotIn e (now (rows .entry)) (now (attrs .entry)) number form i) ⌝ }
 {
     if is_form(form, number) {
         spot_at(e, rows, attrs, i, number as u32)
@@ -187,8 +190,8 @@ fn place_of(
     form: FormKind,
 ) -> Placed
     ensures { λ r. ⌜
-        r ≡ placeOfKey (table (now (s .entry)) settings (now (vendors .entry)) (now (sizes .entry)) (now (rows .entry)) (now (attrs .entry)) counts)
-        key number form
+        saidPlaced r ≡ placeOfKey (table (now (s .entry)) settings (now (vendors .entry)) (now (sizes .entry)) (now (rows .entry))
+        (now (attrs .entry)) counts) key number form
         ⌝ }
 {
     match row_of(s, settings, vendors, sizes, rows, attrs, counts, key) {
@@ -201,7 +204,7 @@ fn place_of(
 }
 
 fn as_value(read: Read32) -> Value
-    ensures { λ r. ⌜ r ≡ asValue read ⌝ }
+    ensures { λ r. ⌜ saidValue r ≡ gives (asValue read) ⌝ }
 {
     match read {
         Read32::Value(x) => Value::Is(x),
@@ -210,7 +213,7 @@ fn as_value(read: Read32) -> Value
 }
 
 fn as_widened(read: Read16) -> Value
-    ensures { λ r. ⌜ r ≡ asWidened read ⌝ }
+    ensures { λ r. ⌜ saidValue r ≡ gives (asWidened read) ⌝ }
 {
     match read {
         Read16::Value(x) => Value::Is(x as u32),
@@ -220,7 +223,7 @@ fn as_widened(read: Read16) -> Value
 
 // What the number at a spot is, by its form.
 pub fn word_at(s: &[u8], spot: Spot, form: FormKind) -> Value
-    ensures { λ r. ⌜ r ≡ wordAt form (now (s .entry)) spot ⌝ }
+    ensures { λ r. ⌜ saidValue r ≡ gives (wordAt form (now (s .entry)) spot) ⌝ }
 {
     let ends = spot.ends;
     match form {
@@ -249,8 +252,8 @@ fn value_of(
     form: FormKind,
 ) -> Value
     ensures { λ r. ⌜
-        r ≡ valueOfKey (table (now (s .entry)) settings (now (vendors .entry)) (now (sizes .entry)) (now (rows .entry)) (now (attrs .entry)) counts)
-        key number form
+        saidValue r ≡ valueOfKey (table (now (s .entry)) settings (now (vendors .entry)) (now (sizes .entry)) (now (rows .entry))
+        (now (attrs .entry)) counts) key number form
         ⌝ }
 {
     match place_of(
@@ -284,8 +287,8 @@ pub fn address_attribute(
     number: u16,
 ) -> Value
     ensures { λ r. ⌜
-        r ≡ valueOfKey (table (now (s .entry)) settings (now (vendors .entry)) (now (sizes .entry)) (now (rows .entry)) (now (attrs .entry)) counts)
-        key number FormKind.Addr
+        saidValue r ≡ valueOfKey (table (now (s .entry)) settings (now (vendors .entry)) (now (sizes .entry)) (now (rows .entry))
+        (now (attrs .entry)) counts) key number FormKind.Addr
         ⌝ }
 {
     value_of(
@@ -315,8 +318,8 @@ pub fn reference_attribute(
     number: u16,
 ) -> Value
     ensures { λ r. ⌜
-        r ≡ valueOfKey (table (now (s .entry)) settings (now (vendors .entry)) (now (sizes .entry)) (now (rows .entry)) (now (attrs .entry)) counts)
-        key number FormKind.Ref
+        saidValue r ≡ valueOfKey (table (now (s .entry)) settings (now (vendors .entry)) (now (sizes .entry)) (now (rows .entry))
+        (now (attrs .entry)) counts) key number FormKind.Ref
         ⌝ }
 {
     value_of(
@@ -346,8 +349,8 @@ pub fn data2_attribute(
     number: u16,
 ) -> Value
     ensures { λ r. ⌜
-        r ≡ valueOfKey (table (now (s .entry)) settings (now (vendors .entry)) (now (sizes .entry)) (now (rows .entry)) (now (attrs .entry)) counts)
-        key number FormKind.Data2
+        saidValue r ≡ valueOfKey (table (now (s .entry)) settings (now (vendors .entry)) (now (sizes .entry)) (now (rows .entry))
+        (now (attrs .entry)) counts) key number FormKind.Data2
         ⌝ }
 {
     value_of(
@@ -377,8 +380,8 @@ pub fn data4_attribute(
     number: u16,
 ) -> Value
     ensures { λ r. ⌜
-        r ≡ valueOfKey (table (now (s .entry)) settings (now (vendors .entry)) (now (sizes .entry)) (now (rows .entry)) (now (attrs .entry)) counts)
-        key number FormKind.Data4
+        saidValue r ≡ valueOfKey (table (now (s .entry)) settings (now (vendors .entry)) (now (sizes .entry)) (now (rows .entry))
+        (now (attrs .entry)) counts) key number FormKind.Data4
         ⌝ }
 {
     value_of(
@@ -414,7 +417,7 @@ fn part_as(s: &[u8], spot: Spot, form: FormKind) -> &[u8]
 }
 
 fn part_of(s: &[u8], placed: Placed, form: FormKind) -> &[u8]
-    ensures { λ r. ⌜ now r ≡ partOf form (now (s .entry)) placed ⌝ }
+    ensures { λ r. ⌜ now r ≡ partOf form (now (s .entry)) (saidPlaced placed) ⌝ }
 {
     match placed {
         Placed::At(spot) => part_as(s, spot, form),
@@ -425,7 +428,7 @@ fn part_of(s: &[u8], placed: Placed, form: FormKind) -> &[u8]
 
 // Whether there is a part, in three words: 1; 0 for none; 2 for a refusal, then its number and its place.
 fn tell(placed: Placed, told: &mut [u64; 3])
-    ensures { λ r. ⌜ now (told .exit) ≡ toldWords placed ⌝ }
+    ensures { λ r. ⌜ now (told .exit) ≡ toldWords (saidPlaced placed) ⌝ }
 {
     match placed {
         Placed::At(spot) => {

@@ -8,35 +8,33 @@ use mathlib.Core.List.{List, [], _∷_}
 use lib.ListN.{length, set, length-set}
 use lib.Dec.{leb, eqb}
 use borrow.Author.Tests.{le-leb, lt-leb, eq-eqb, ne-eqb}
-use Rattle.tables.specs.Table.{table}
-use Rattle.lent.specs.Outcome.{Outcome, outcome, Given}
+use Rattle.tables.specs.Table.{Table, table}
+use Rattle.tables.specs.Keyed.{rowOf}
+use Rattle.tables.specs.Inside.Keyed.{saidKeyed, refusedAt}
+use Rattle.tables.specs.declared.keyed.Keyed.{Keyed}
+use Rattle.lent.specs.Outcome.{Outcome, Given}
 use Rattle.numbers.proofs.Laws.Tests.{cond-all}
 use Rattle.links.specs.Walk.{Walk, ends, endless, meets, stops, walkFrom}
 use Rattle.format.specs.Limits.{entryLimit}
+use Rattle.format.specs.Said.{Said, _>>=_, inRoom, fillsRoom}
+use Rattle.format.proofs.Laws.Said.{goes-in}
 use Rattle.tables.specs.Row.{rowAt}
 use Rattle.tables.specs.declared.row.Row.{Row}
-use Rattle.tables.specs.Find.{rowOfKey}
-use Rattle.tables.proofs.Laws.Find.{row-found}
 use Rattle.tables.specs.Holds.{TableHolds}
 use Rattle.tables.proofs.Laws.Held.{held-rising, held-rows-few}
-use Rattle.tables.specs.Tests.{refusedAt, Tells}
-use Rattle.tables.proofs.Laws.Tests.{passed-answer, refused-answer, passed-held}
+use Rattle.tables.specs.Tests.{Tells}
+use Rattle.tables.proofs.Laws.Tests.{passed-held}
 use Rattle.tables.specs.declared.row.Counts.{Counts}
-use Rattle.tables.specs.declared.find.Found.{Found}
-use Rattle.tables.specs.declared.find.Found.the-variants.{At, Nothing}
 use Rattle.tables.specs.declared.tests.Tested.{Tested}
 use Rattle.tables.specs.declared.tests.Tested.the-variants.{Passed}
-use Rattle.tables.specs.declared.tests.Tested.the-variants as tests
 use Rattle.format.specs.declared.settings.Settings.{Settings}
-use Rattle.format.specs.declared.refusal.Refusal.{Refusal}
 use Rattle.format.specs.declared.refusal.Reason.the-variants as reason
 use Rattle.numbers.specs.declared.Endian.{Endian}
 use Rattle.links.specs.Links.{nullRow, nonNull, nextRow, siblingRow, childWalk}
 use Rattle.links.specs.Inside.Links.{Rows}
-use Rattle.links.specs.Children.{given, childrenBy, childrenOfKey}
-use Rattle.links.specs.declared.children.ChildRows.{ChildRows}
+use Rattle.links.specs.Children.{saidChildRows, childrenMet, childRowsOf, childrenOfKey}
 use Rattle.links.specs.declared.children.ChildRows.the-variants.{Listed, Refused, Room}
-use Rattle.links.specs.Inside.Children.{gatheredInto, Gathers, TakesChild, Small, Asked}
+use Rattle.links.specs.Inside.Children.{gatheredInto, Gathers, TakesChild, Small, listedInto}
 use Rattle.links.specs.declared.children.Kids.{Kids}
 use Rattle.links.specs.declared.children.Kids.the-variants.{Count, Endless}
 
@@ -197,19 +195,19 @@ isCount k (Count m) = k ≡ m
 isCount k Endless = ⊥
 
 module _ (rows : List ℕ) (key : ℕ) (room : List ℕ) where
-  given-by : (w : Walk) (told : Kids) → told ≡ gatheredInto rows 0 [] w .answer → (k : ℕ) → told ≡ Count k → k ≤ length room → {r : Kids} {room′ : List ℕ}
-      → Gathers (gatheredInto rows 0 room w) r room′ → Given (given rows key room w) (Listed k) room′
-  unfolding gatheredInto given
-  given-by (ends cs) told p k q h {r} g =
+  listed-by : (w : Walk) (told : Kids) → told ≡ gatheredInto rows 0 [] w .answer → (k : ℕ) → told ≡ Count k → k ≤ length room → {r : Kids} {room′ : List ℕ}
+      → Gathers (gatheredInto rows 0 room w) r room′ → Given (listedInto rows key room w) (saidChildRows (Listed k)) room′
+  unfolding gatheredInto listedInto childrenMet inRoom fillsRoom saidChildRows
+  listed-by (ends cs) told p k q h {r} g =
       let told-many : k ≡ 0 + length (nonNull rows cs) = subst (isCount k) (sym q ∙ p) refl in
       let many : k ≡ length (nonNull rows cs) = omega arith in
       let fit : leb (length (nonNull rows cs)) (length room) ≡ true = le-leb (length (nonNull rows cs)) (length room) (omega arith) in
       record { answer-is = rw (fit, many); room-is = rw fit (g .room-is (0 + length (nonNull rows cs)) (g .answer-is)) }
-  given-by endless told p k q h g = absurd (subst (isCount k) (sym q ∙ p) refl)
+  listed-by endless told p k q h g = absurd (subst (isCount k) (sym q ∙ p) refl)
 
   unfit-by : (w : Walk) (told : Kids) → told ≡ gatheredInto rows 0 [] w .answer → (k : ℕ) → told ≡ Count k → length room < k
-      → Given (given rows key room w) (Room k) room
-  unfolding gatheredInto given
+      → Given (listedInto rows key room w) (saidChildRows (Room k)) room
+  unfolding gatheredInto listedInto childrenMet inRoom fillsRoom saidChildRows
   unfit-by (ends cs) told p k q h =
       let told-many : k ≡ 0 + length (nonNull rows cs) = subst (isCount k) (sym q ∙ p) refl in
       let many : k ≡ length (nonNull rows cs) = omega arith in
@@ -217,53 +215,36 @@ module _ (rows : List ℕ) (key : ℕ) (room : List ℕ) where
       record { answer-is = rw (fit, many); room-is = rw fit }
   unfit-by endless told p k q h = absurd (subst (isCount k) (sym q ∙ p) refl)
 
-  never-by : (w : Walk) (told : Kids) → told ≡ gatheredInto rows 0 [] w .answer → told ≡ Endless → {r : ChildRows} → r ≡ Refused (refusedAt key reason.Link)
-      → Given (given rows key room w) r room
-  unfolding gatheredInto given
-  never-by (ends cs) told p q e = absurd (subst isEndless (sym q ∙ p) tt)
-  never-by endless told p q e = record { answer-is = e; room-is = refl }
+  never-by : (w : Walk) (told : Kids) → told ≡ gatheredInto rows 0 [] w .answer → told ≡ Endless
+      → Given (listedInto rows key room w) (saidChildRows (Refused (refusedAt key reason.Link))) room
+  unfolding gatheredInto listedInto childrenMet inRoom saidChildRows
+  never-by (ends cs) told p q = absurd (subst isEndless (sym q ∙ p) tt)
+  never-by endless told p q = record { answer-is = refl; room-is = refl }
 
   module _ (w : Walk) {told : Kids} (p : told ≡ gatheredInto rows 0 [] w .answer) where
     pub given-listed : {k : ℕ} → told ≡ Count k → k ≤ length room → {r : Kids} {room′ : List ℕ} → Gathers (gatheredInto rows 0 room w) r room′
-        → Given (given rows key room w) (Listed k) room′
-    given-listed {k} q h g = given-by w told p k q h g
+        → Given (listedInto rows key room w) (saidChildRows (Listed k)) room′
+    given-listed {k} q h g = listed-by w told p k q h g
 
-    pub given-unfit : {k : ℕ} → told ≡ Count k → length room < k → Given (given rows key room w) (Room k) room
+    pub given-unfit : {k : ℕ} → told ≡ Count k → length room < k → Given (listedInto rows key room w) (saidChildRows (Room k)) room
     given-unfit {k} q h = unfit-by w told p k q h
 
-    pub given-never : {r : ChildRows} → told ≡ Endless → r ≡ Refused (refusedAt key reason.Link) → Given (given rows key room w) r room
-    given-never q e = never-by w told p q e
-
-module _ (e : Endian) (s rows attrs : List ℕ) (n key : ℕ) (room : List ℕ) {found : Found} (is : found ≡ rowOfKey rows n key) where
-  pub children-there : {i : ℕ} {r : ChildRows} {room′ : List ℕ} → found ≡ At i → Given (given rows key room (childWalk e s rows attrs n i)) r room′
-      → Given (childrenBy e s rows attrs n key room (rowOfKey rows n key)) r room′
-  unfolding childrenBy
-  children-there {i} {r} {room′} p g = subst (λ (f : Found). Given (childrenBy e s rows attrs n key room f) r room′) (sym p ∙ is) g
-
-  pub children-nowhere : {r : ChildRows} → found ≡ Nothing → r ≡ Refused (refusedAt key reason.Entry)
-      → Given (childrenBy e s rows attrs n key room (rowOfKey rows n key)) r room
-  unfolding childrenBy
-  children-nowhere {r} p h =
-      subst (λ (f : Found). Given (childrenBy e s rows attrs n key room f) r room) (sym p ∙ is) (record { answer-is = h; room-is = refl })
-
-pub asked-there : {rows : List ℕ} {n : ℕ} (key : ℕ) {found : Found} {i : ℕ} → Rows rows n → found ≡ rowOfKey rows n key → found ≡ At i → Asked rows n i
-asked-there {rows} {n} key table is p = record { table = table; there = row-found rows n key (sym is ∙ p) .0 }
+    pub given-never : told ≡ Endless → Given (listedInto rows key room w) (saidChildRows (Refused (refusedAt key reason.Link))) room
+    given-never q = never-by w told p q
 
 pub tested-rows : {settings : Settings} {vendors sizes s rows attrs : List ℕ} {counts : Counts} {told : Tested}
     → Tells (table s settings vendors sizes rows attrs counts) told → told ≡ Passed → Rows rows (counts .rows)
 tested-rows {s = s} {rows = rows} {attrs = attrs} {counts = counts} is p =
     let c : TableHolds s _ rows attrs counts = passed-held is p in record { rising = held-rising c; few = held-rows-few c }
 
-module _ (settings : Settings) (vendors sizes s rows attrs : List ℕ) (counts : Counts) (key : ℕ) (room : List ℕ) {told : Tested}
-    (is : Tells (table s settings vendors sizes rows attrs counts) told) where
-  pub children-passed : told ≡ Passed → {r : ChildRows} {room′ : List ℕ}
-      → Given (childrenBy (settings .endian) s rows attrs (counts .rows) key room (rowOfKey rows (counts .rows) key)) r room′
-      → Given (childrenOfKey (table s settings vendors sizes rows attrs counts) key room) r room′
-  unfolding childrenOfKey
-  children-passed p {r} {room′} g =
-      subst (λ (o : Outcome ChildRows ℕ). Given o r room′) (passed-answer (λ why. outcome (Refused why) room) _ is p) g
+-- from what the row of a key comes to
+module _ (t : Table) (key : ℕ) (room : List ℕ) {told x : Keyed} (is : saidKeyed told ≡ rowOf t key) (p : told ≡ x) where
+  abbrev met-by : ℕ → Said (List ℕ)
+  met-by i = childrenMet (t .rows) key (childWalk (t .settings .endian) (t .section) (t .rows) (t .attrs) (t .counts .rows) i)
 
-  pub children-refused : {why : Refusal} → told ≡ tests.Refused why → Given (childrenOfKey (table s settings vendors sizes rows attrs counts) key room) (Refused why) room
-  unfolding childrenOfKey
-  children-refused {why} p =
-      subst (λ (o : Outcome ChildRows ℕ). Given o (Refused why) room) (refused-answer (λ w. outcome (Refused w) room) _ is p) (record { answer-is = refl; room-is = refl })
+  abbrev into : List ℕ → Outcome (Said ℕ) ℕ
+  into cs = fillsRoom (leb (length cs) (length room)) (length cs) (length cs ∷ []) cs room
+
+  pub children-from : {z : Said ℕ} {room′ : List ℕ} → Given (inRoom room (saidKeyed x >>= met-by) into) z room′ → Given (childrenOfKey t key room) z room′
+  unfolding childrenOfKey childRowsOf
+  children-from = goes-in (λ (r : Keyed). saidKeyed r >>= met-by) (ap (λ (d : Said ℕ). d >>= met-by) is) p room into

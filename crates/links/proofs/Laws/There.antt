@@ -17,6 +17,7 @@ use Rattle.numbers.proofs.Laws.Stands.{part-length}
 use Rattle.numbers.specs.declared.Endian.{Endian}
 use Rattle.numbers.specs.declared.unsigned.Read16.the-variants as read16
 use Rattle.numbers.specs.declared.unsigned.Read32.the-variants as read32
+use Rattle.format.specs.Said.{Said, gives, refuses, _>>=_}
 use Rattle.format.specs.Lookup.{lookup}
 use Rattle.format.specs.FormKind.{forms, formOf, formNumber, isForm}
 use Rattle.format.specs.declared.form_kind.FormKind.{FormKind}
@@ -38,20 +39,16 @@ use Rattle.tables.specs.declared.find.Found.{Found}
 use Rattle.tables.specs.declared.find.Found.the-variants.{At, Nothing}
 use Rattle.links.specs.Attribute.{wants, attributeOf, asReference, referenceBy, referenceOf}
 use Rattle.links.proofs.Laws.Attribute.{attribute-found}
-use Rattle.tables.specs.Keyed.{inRowOfKey}
+use Rattle.tables.specs.Keyed.{rowOf}
+use Rattle.tables.specs.Inside.Keyed.{saidKeyed}
 use Rattle.tables.specs.Row.{endsOf}
-use Rattle.links.specs.Typed.{asPlaced, spotAt, spotIn, placeOfKey, asValue, asWidened, wordAt, wordOfPlace, valueOfKey, partAs, toldWords}
-use Rattle.links.proofs.Laws.Typed.{place-there, place-refused, keyed-asked}
-use Rattle.tables.proofs.Laws.Keyed.{keyed-held, keyed-key}
+use Rattle.links.specs.Maybe.{Maybe, none, some}
+use Rattle.links.specs.Typed.{spotFound, spotAt, spotIn, placeOfKey, asValue, asWidened, wordAt, wordOfPlace, valueOfKey, partAs, toldWords}
+use Rattle.tables.proofs.Laws.Keyed.{keyed-held, keyed-there, keyed-key}
 use Rattle.links.specs.declared.lookup.Wanted.the-variants as wanted
 use Rattle.links.specs.declared.lookup.Reference.the-variants as reference
-use Rattle.tables.specs.declared.keyed.Keyed.{Keyed}
 use Rattle.tables.specs.declared.keyed.Keyed.the-variants as keyed
-use Rattle.links.specs.declared.typed.Value.{Value}
-use Rattle.links.specs.declared.typed.Value.the-variants as value
 use Rattle.links.specs.declared.typed.Spot.{Spot}
-use Rattle.links.specs.declared.typed.Placed.{Placed}
-use Rattle.links.specs.declared.typed.Placed.the-variants as placed
 use Rattle.links.specs.There.{IsNumber, TextTold, WholeText, WholeBlock, Without}
 
 -- ---- the bytes of a value that ends inside are there
@@ -72,7 +69,7 @@ fixed-read is short e w s at h = sym (reads is short e w s at (fixed-there s at 
 
 -- ---- numbers
 
-told-by : {A : Type 0} (is : ℕ → A) (short : A) (tell : A → Value) → ((n : ℕ) → tell (is n) ≡ value.Is n) → (e : Endian) (w : ℕ) (s : List ℕ) (at : ℕ)
+told-by : {A : Type 0} (is : ℕ → A) (short : A) (tell : A → Maybe ℕ) → ((n : ℕ) → tell (is n) ≡ some n) → (e : Endian) (w : ℕ) (s : List ℕ) (at : ℕ)
     → isAt (fixedEnd s at w) ≡ true → TextTold (tell (readAt is short e w s at))
 told-by is short tell tells e w s at h =
     record { number = valueOf e w s at; is-number = ap tell (fixed-read is short e w s at h) ∙ tells (valueOf e w s at) }
@@ -182,83 +179,84 @@ reference-there {s} {rows = rows} {attrs = attrs} checked e i here number formed
 
 -- the value at a place ends inside; where there is no place, there is none for it
 module _ (s rows attrs : List ℕ) (n key number : ℕ) (form : FormKind) where
-  abbrev Sound : Placed → Type 0
-  Sound (placed.At spot) = isAt (valueEnd form (spot .ends .«data») s (spot .at)) ≡ true
-  Sound placed.Nothing = Without rows attrs n key number form
-  Sound (placed.Refused why) = Unit
+  abbrev Sound : Said (Maybe Spot) → Type 0
+  Sound (gives (some spot)) = isAt (valueEnd form (spot .ends .«data») s (spot .at)) ≡ true
+  Sound (gives none) = Without rows attrs n key number form
+  Sound (refuses reason place counts) = Unit
 
   -- no number at a place is nothing
-  nothing-word : IsNumber form → (place : Placed) → Sound place → wordOfPlace form s place ≡ value.Nothing → Without rows attrs n key number form
-  unfolding wordOfPlace
-  nothing-word is (placed.At spot) h p =
+  nothing-word : IsNumber form → (place : Said (Maybe Spot)) → Sound place → (place >>= (λ spot. gives (wordOfPlace form s spot))) ≡ gives none
+      → Without rows attrs n key number form
+  unfolding wordOfPlace _>>=_
+  nothing-word is (gives (some spot)) h p =
       let told : TextTold (wordAt form s spot) = word-told form is s spot h in
-      let q : value.Is (told .number) ≡ value.Nothing = sym (told .is-number) ∙ p in
+      let q : gives (some (told .number)) ≡ gives none = ap (λ (v : Maybe ℕ). gives v) (sym (told .is-number)) ∙ p in
       let z : _≡_ {A = ℕ} 0 1 = cc in
       absurd (omega arith)
-  nothing-word is placed.Nothing h p = h
-  nothing-word is (placed.Refused why) h p = let z : _≡_ {A = ℕ} 0 1 = cc in absurd (omega arith)
+  nothing-word is (gives none) h p = h
+  nothing-word is (refuses reason place counts) h p = let z : _≡_ {A = ℕ} 0 1 = cc in absurd (omega arith)
 
 module _ {s vendors rows attrs : List ℕ} {counts : Counts} (checked : TableHolds s vendors rows attrs counts) (i : ℕ) (here : i < counts .rows) (key : ℕ)
     (has-key : rowAt rows i .key ≡ key) (number : ℕ) (form : FormKind) (e : Endian) where
   found-sound : isForm form number ≡ true → (found : Found) → attributeOf rows attrs i (wanted.Number number) ≡ found
-      → Sound s rows attrs (counts .rows) key number form (asPlaced (endsOf e rows i) attrs found)
-  unfolding asPlaced endsOf
+      → Sound s rows attrs (counts .rows) key number form (gives (spotFound (endsOf e rows i) attrs found))
+  unfolding spotFound endsOf
   found-sound formed (At k) p = ends-inside checked i here number form formed p
   found-sound formed Nothing p = record { row = i; is-there = here; has-key = has-key; none = inr p }
 
-  spot-sound : Sound s rows attrs (counts .rows) key number form (spotIn e rows attrs number form i)
+  spot-sound : Sound s rows attrs (counts .rows) key number form (gives (spotIn e rows attrs number form i))
   unfolding spotIn spotAt
   spot-sound =
-      cond-all (Sound s rows attrs (counts .rows) key number form) (isForm form number)
+      cond-all (λ (m : Maybe Spot). Sound s rows attrs (counts .rows) key number form (gives m)) (isForm form number)
       (λ formed. found-sound formed (attributeOf rows attrs i (wanted.Number number)) refl)
       (λ other. record { row = i; is-there = here; has-key = has-key; none = inl other })
 
 module _ (settings : Settings) (vendors sizes s rows attrs : List ℕ) (counts : Counts) (key number : ℕ) (form : FormKind) where
+  row-sound : (d : Said ℕ) → rowOf (table s settings vendors sizes rows attrs counts) key ≡ d
+      → Sound s rows attrs (counts .rows) key number form (d >>= (λ i. gives (spotIn (settings .endian) rows attrs number form i)))
+  unfolding saidKeyed _>>=_
+  row-sound (gives i) p =
+      spot-sound (keyed-held settings vendors sizes s rows attrs counts key {told = keyed.Row i} (sym p) refl) i
+      (keyed-there settings vendors sizes s rows attrs counts key {told = keyed.Row i} (sym p) refl) key
+      (keyed-key settings vendors sizes s rows attrs counts key {told = keyed.Row i} (sym p) refl) number form (settings .endian)
+  row-sound (refuses reason place counts) p = tt
+
   place-sound : Sound s rows attrs (counts .rows) key number form (placeOfKey (table s settings vendors sizes rows attrs counts) key number form)
-  place-sound = go (inRowOfKey (table s settings vendors sizes rows attrs counts) key keyed.Refused keyed.Row) refl
-    where
-      go : (told : Keyed) → inRowOfKey (table s settings vendors sizes rows attrs counts) key keyed.Refused keyed.Row ≡ told
-          → Sound s rows attrs (counts .rows) key number form (placeOfKey (table s settings vendors sizes rows attrs counts) key number form)
-      go (keyed.Row i) p =
-          subst (Sound s rows attrs (counts .rows) key number form) (place-there settings vendors sizes s rows attrs counts key refl number form p refl)
-          (spot-sound (keyed-held settings vendors sizes s rows attrs counts key refl p) i
-          (keyed-asked settings vendors sizes s rows attrs counts key refl p .there) key (keyed-key settings vendors sizes s rows attrs counts key refl p)
-          number form (settings .endian))
-      go (keyed.Refused why) p =
-          subst (Sound s rows attrs (counts .rows) key number form) (place-refused settings vendors sizes s rows attrs counts key refl number form p) tt
+  unfolding placeOfKey
+  place-sound = row-sound (rowOf (table s settings vendors sizes rows attrs counts) key) refl
 
   -- a lookup of a number tells nothing only where the key's row has no such attribute or it has another form
-  pub value-there : IsNumber form → valueOfKey (table s settings vendors sizes rows attrs counts) key number form ≡ value.Nothing
+  pub value-there : IsNumber form → valueOfKey (table s settings vendors sizes rows attrs counts) key number form ≡ gives none
       → Without rows attrs (counts .rows) key number form
   unfolding valueOfKey
   value-there n p =
       nothing-word s rows attrs (counts .rows) key number form n (placeOfKey (table s settings vendors sizes rows attrs counts) key number form) place-sound p
 
   -- the value at the place that a lookup comes to ends inside
-  place-inside : {spot : Spot} → placeOfKey (table s settings vendors sizes rows attrs counts) key number form ≡ placed.At spot
+  place-inside : {spot : Spot} → placeOfKey (table s settings vendors sizes rows attrs counts) key number form ≡ gives (some spot)
       → isAt (valueEnd form (spot .ends .«data») s (spot .at)) ≡ true
   place-inside p = subst (Sound s rows attrs (counts .rows) key number form) p place-sound
 
 module _ (settings : Settings) (vendors sizes s rows attrs : List ℕ) (counts : Counts) (key number : ℕ) {spot : Spot} where
   -- a text that is told as found is whole
-  pub text-there : placeOfKey (table s settings vendors sizes rows attrs counts) key number String ≡ placed.At spot → WholeText s (spot .at) (partAs String s spot)
+  pub text-there : placeOfKey (table s settings vendors sizes rows attrs counts) key number String ≡ gives (some spot) → WholeText s (spot .at) (partAs String s spot)
   unfolding partAs valueEnd
   text-there p = text-whole s (spot .at) (place-inside settings vendors sizes s rows attrs counts key number String p)
 
   -- and a block
-  pub block2-there : placeOfKey (table s settings vendors sizes rows attrs counts) key number Block2 ≡ placed.At spot
+  pub block2-there : placeOfKey (table s settings vendors sizes rows attrs counts) key number Block2 ≡ gives (some spot)
       → WholeBlock (spot .ends .«data») 2 s (spot .at) (partAs Block2 s spot)
   unfolding partAs valueEnd
   block2-there p = block-whole (spot .ends .«data») 2 s (spot .at) (place-inside settings vendors sizes s rows attrs counts key number Block2 p)
 
-  pub block4-there : placeOfKey (table s settings vendors sizes rows attrs counts) key number Block4 ≡ placed.At spot
+  pub block4-there : placeOfKey (table s settings vendors sizes rows attrs counts) key number Block4 ≡ gives (some spot)
       → WholeBlock (spot .ends .«data») 4 s (spot .at) (partAs Block4 s spot)
   unfolding partAs valueEnd
   block4-there p = block-whole (spot .ends .«data») 4 s (spot .at) (place-inside settings vendors sizes s rows attrs counts key number Block4 p)
 
 -- a part is told as found where there is a place
-pub told-found : (place : Placed) {rest : List ℕ} → toldWords place ≡ 1 ∷ rest → (spot : Spot) × (place ≡ placed.At spot)
+pub told-found : (place : Said (Maybe Spot)) {rest : List ℕ} → toldWords place ≡ 1 ∷ rest → (spot : Spot) × (place ≡ gives (some spot))
 unfolding toldWords
-told-found (placed.At spot) p = (spot, refl)
-told-found placed.Nothing p = let z : _≡_ {A = ℕ} 0 1 = cc in absurd (omega arith)
-told-found (placed.Refused why) p = let z : _≡_ {A = ℕ} 2 1 = cc in absurd (omega arith)
+told-found (gives (some spot)) p = (spot, refl)
+told-found (gives none) p = let z : _≡_ {A = ℕ} 0 1 = cc in absurd (omega arith)
+told-found (refuses reason place counts) p = let z : _≡_ {A = ℕ} 2 1 = cc in absurd (omega arith)

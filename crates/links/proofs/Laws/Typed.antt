@@ -7,6 +7,7 @@ use Rattle.tables.specs.Table.{table}
 use Rattle.numbers.specs.declared.Endian.{Endian}
 use Rattle.format.specs.FormKind.{isForm}
 use Rattle.format.specs.Refusal.{numberOf}
+use Rattle.format.specs.Said.{Said, gives}
 use Rattle.format.specs.declared.form_kind.FormKind.{FormKind}
 use Rattle.format.specs.declared.form_kind.FormKind.the-variants.{Block2, Block4}
 use Rattle.format.specs.declared.settings.Settings.{Settings}
@@ -19,19 +20,20 @@ use Rattle.tables.proofs.Laws.Held.{held-rising, held-rows-few}
 use Rattle.tables.specs.declared.row.Counts.{Counts}
 use Rattle.tables.specs.declared.find.Found.{Found}
 use Rattle.tables.specs.declared.find.Found.the-variants.{At, Nothing}
-use Rattle.tables.specs.Keyed.{inRowOfKey}
+use Rattle.tables.specs.Keyed.{rowOf}
+use Rattle.tables.specs.Inside.Keyed.{saidKeyed}
 use Rattle.tables.specs.declared.keyed.Keyed.{Keyed}
 use Rattle.tables.specs.declared.keyed.Keyed.the-variants as keyed
-use Rattle.tables.proofs.Laws.Keyed.{in-row, no-row, keyed-held, keyed-there}
+use Rattle.tables.proofs.Laws.Keyed.{keyed-held, keyed-there}
 use Rattle.links.specs.Attribute.{attributeOf}
 use Rattle.links.specs.Inside.Children.{Asked}
-use Rattle.links.specs.Typed.{asLooked, lookedIn, attributeOfKey, blockForm, asPlaced, spotAt, spotIn, placeOfKey, wordAt, wordOfPlace, partAs, partOf, toldWords, Handed}
+use Rattle.links.specs.Inside.Links.{AtRow}
+use Rattle.links.specs.Inside.Typed.{saidPlaced}
+use Rattle.links.specs.Maybe.{Maybe, some}
+use Rattle.links.specs.Typed.{saidLooked, attrFound, blockForm, spotFound, spotAt, spotIn, placeOfKey, wordAt, partAs, partOf, toldWords, Handed}
 use Rattle.links.specs.declared.lookup.Wanted.{Wanted}
 use Rattle.links.specs.declared.lookup.Wanted.the-variants as wanted
-use Rattle.links.specs.declared.typed.Looked.{Looked}
 use Rattle.links.specs.declared.typed.Looked.the-variants as looked
-use Rattle.links.specs.declared.typed.Value.{Value}
-use Rattle.links.specs.declared.typed.Value.the-variants as value
 use Rattle.links.specs.declared.typed.Spot.{Spot}
 use Rattle.links.specs.declared.typed.Placed.{Placed}
 use Rattle.links.specs.declared.typed.Placed.the-variants as placed
@@ -39,66 +41,55 @@ use Rattle.links.specs.declared.typed.Placed.the-variants as placed
 -- ---- in the row of a key
 
 module _ (settings : Settings) (vendors sizes s rows attrs : List ℕ) (counts : Counts) (key : ℕ) {told : Keyed}
-    (is : told ≡ inRowOfKey (table s settings vendors sizes rows attrs counts) key keyed.Refused keyed.Row) where
-  pub look-there : (w : Wanted) {i : ℕ} {r : Looked} → told ≡ keyed.Row i → r ≡ lookedIn rows attrs w i → r ≡ attributeOfKey (table s settings vendors sizes rows attrs counts) key w
-  unfolding attributeOfKey
-  look-there w p h = h ∙ in-row settings vendors sizes s rows attrs counts key is looked.Refused (lookedIn rows attrs w) p
-
-  pub look-refused : (w : Wanted) {why : Refusal} → told ≡ keyed.Refused why → looked.Refused why ≡ attributeOfKey (table s settings vendors sizes rows attrs counts) key w
-  unfolding attributeOfKey
-  look-refused w p = no-row settings vendors sizes s rows attrs counts key is looked.Refused (lookedIn rows attrs w) p
-
-  pub place-there : (number : ℕ) (form : FormKind) {i : ℕ} {r : Placed} → told ≡ keyed.Row i → r ≡ spotIn (settings .endian) rows attrs number form i
-      → r ≡ placeOfKey (table s settings vendors sizes rows attrs counts) key number form
-  unfolding placeOfKey
-  place-there number form p h = h ∙ in-row settings vendors sizes s rows attrs counts key is placed.Refused (spotIn (settings .endian) rows attrs number form) p
-
-  pub place-refused : (number : ℕ) (form : FormKind) {why : Refusal} → told ≡ keyed.Refused why
-      → placed.Refused why ≡ placeOfKey (table s settings vendors sizes rows attrs counts) key number form
-  unfolding placeOfKey
-  place-refused number form p = no-row settings vendors sizes s rows attrs counts key is placed.Refused (spotIn (settings .endian) rows attrs number form) p
-
-  pub keyed-asked : {i : ℕ} → told ≡ keyed.Row i → Asked rows (counts .rows) i
-  keyed-asked p =
+    (is : saidKeyed told ≡ rowOf (table s settings vendors sizes rows attrs counts) key) {i : ℕ} (p : told ≡ keyed.Row i) where
+  pub keyed-asked : Asked rows (counts .rows) i
+  keyed-asked =
       let holds : TableHolds s vendors rows attrs counts = keyed-held settings vendors sizes s rows attrs counts key is p in
       record {
         table = record { rising = held-rising holds; few = held-rows-few holds };
         there = keyed-there settings vendors sizes s rows attrs counts key is p;
       }
 
+  pub keyed-at : AtRow rows (counts .rows) i
+  keyed-at = record { rising = keyed-asked .table .rising; there = keyed-asked .there }
+
 -- ---- in a row
 
 module _ (rows attrs : List ℕ) (w : Wanted) (i : ℕ) {found : Found} (is : found ≡ attributeOf rows attrs i w) where
-  pub looked-there : {k : ℕ} {a : Attr} → found ≡ At k → a ≡ attrAt attrs k → looked.At a ≡ lookedIn rows attrs w i
-  unfolding lookedIn asLooked
-  looked-there p q = ap looked.At q ∙ ap (asLooked attrs) (sym p ∙ is)
+  pub looked-there : {k : ℕ} {a : Attr} → found ≡ At k → a ≡ attrAt attrs k
+      → saidLooked (looked.At a) ≡ gives (attrFound attrs (attributeOf rows attrs i w))
+  unfolding saidLooked attrFound
+  looked-there p q = ap (λ (a : Attr). gives (some a)) q ∙ ap (λ (f : Found). gives (attrFound attrs f)) (sym p ∙ is)
 
-  pub looked-none : found ≡ Nothing → looked.Nothing ≡ lookedIn rows attrs w i
-  unfolding lookedIn asLooked
-  looked-none p = ap (asLooked attrs) (sym p ∙ is)
+  pub looked-none : found ≡ Nothing → saidLooked looked.Nothing ≡ gives (attrFound attrs (attributeOf rows attrs i w))
+  unfolding saidLooked attrFound
+  looked-none p = ap (λ (f : Found). gives (attrFound attrs f)) (sym p ∙ is)
 
 abbrev spot : ℕ → Endians → Spot
 spot at ends = record { at = at; ends = ends }
 
 module _ (e : Endian) (rows attrs : List ℕ) (number i : ℕ) {found : Found} (is : found ≡ attributeOf rows attrs i (wanted.Number number)) where
-  pub spot-there : {k : ℕ} {a : Attr} {ends : Endians} → found ≡ At k → a ≡ attrAt attrs k → ends ≡ endsOf e rows i
-      → placed.At (record { at = a .value; ends = ends }) ≡ spotAt e rows attrs number i
-  unfolding spotAt asPlaced
-  spot-there {k} {ends = ends} p q h =
-      ap (λ (x : Attr). placed.At (spot (x .value) ends)) q ∙ ap (λ (x : Endians). placed.At (spot (attrAt attrs k .value) x)) h
-      ∙ ap (asPlaced (endsOf e rows i) attrs) (sym p ∙ is)
+  spot-found : {f : Found} → found ≡ f → gives (spotFound (endsOf e rows i) attrs f) ≡ gives (spotAt e rows attrs number i)
+  unfolding spotAt
+  spot-found p = ap (λ (f : Found). gives (spotFound (endsOf e rows i) attrs f)) (sym p ∙ is)
 
-  pub spot-none : found ≡ Nothing → placed.Nothing ≡ spotAt e rows attrs number i
-  unfolding spotAt asPlaced
-  spot-none p = ap (asPlaced (endsOf e rows i) attrs) (sym p ∙ is)
+  pub spot-there : {k : ℕ} {a : Attr} {ends : Endians} → found ≡ At k → a ≡ attrAt attrs k → ends ≡ endsOf e rows i
+      → saidPlaced (placed.At (record { at = a .value; ends = ends })) ≡ gives (spotAt e rows attrs number i)
+  unfolding saidPlaced spotFound
+  spot-there {k} {ends = ends} p q h =
+      ap (λ (x : Attr). gives (some (spot (x .value) ends))) q ∙ ap (λ (x : Endians). gives (some (spot (attrAt attrs k .value) x))) h ∙ spot-found p
+
+  pub spot-none : found ≡ Nothing → saidPlaced placed.Nothing ≡ gives (spotAt e rows attrs number i)
+  unfolding saidPlaced spotFound
+  spot-none p = spot-found p
 
 module _ (e : Endian) (rows attrs : List ℕ) (number : ℕ) (form : FormKind) (i : ℕ) {b : Bool} (is : b ≡ isForm form number) where
-  pub spot-formed : {r : Placed} → b ≡ true → r ≡ spotAt e rows attrs number i → r ≡ spotIn e rows attrs number form i
+  pub spot-formed : {z : Said (Maybe Spot)} → b ≡ true → z ≡ gives (spotAt e rows attrs number i) → z ≡ gives (spotIn e rows attrs number form i)
   unfolding spotIn
   spot-formed t h = let test : isForm form number ≡ true = sym is ∙ t in h ∙ rw test
 
-  pub spot-other : b ≡ false → placed.Nothing ≡ spotIn e rows attrs number form i
-  unfolding spotIn
+  pub spot-other : b ≡ false → saidPlaced placed.Nothing ≡ gives (spotIn e rows attrs number form i)
+  unfolding saidPlaced spotIn
   spot-other t = let test : isForm form number ≡ false = sym is ∙ t in rw test
 
 module _ (number : ℕ) {b : Bool} (is : b ≡ isForm Block2 number) where
@@ -113,31 +104,20 @@ module _ (number : ℕ) {b : Bool} (is : b ≡ isForm Block2 number) where
 -- ---- what a form comes to
 
 module _ {form f : FormKind} (is : form ≡ f) (s : List ℕ) (at : Spot) where
-  pub word-formed : {r : Value} → r ≡ wordAt f s at → r ≡ wordAt form s at
-  word-formed h = h ∙ ap (λ (x : FormKind). wordAt x s at) (sym is)
+  pub word-formed : {z : Said (Maybe ℕ)} → z ≡ gives (wordAt f s at) → z ≡ gives (wordAt form s at)
+  word-formed h = h ∙ ap (λ (x : FormKind). gives (wordAt x s at)) (sym is)
 
   pub part-formed : {r : List ℕ} → r ≡ partAs f s at → r ≡ partAs form s at
   part-formed h = h ∙ ap (λ (x : FormKind). partAs x s at) (sym is)
 
-module _ (form : FormKind) (s : List ℕ) {told place : Placed} where
-  pub word-there : {at : Spot} {r : Value} → told ≡ place → told ≡ placed.At at → r ≡ wordAt form s at → r ≡ wordOfPlace form s place
-  unfolding wordOfPlace
-  word-there is p h = h ∙ ap (wordOfPlace form s) (sym p ∙ is)
+pub handed : (form : FormKind) (s : List ℕ) {told place : Said (Maybe Spot)} {part words : List ℕ} → told ≡ place → part ≡ partOf form s told
+    → words ≡ toldWords told → Handed form s place part words
+handed form s is p q = record { part-is = p ∙ ap (partOf form s) is; told-is = q ∙ ap toldWords is }
 
-  pub word-none : told ≡ place → told ≡ placed.Nothing → value.Nothing ≡ wordOfPlace form s place
-  unfolding wordOfPlace
-  word-none is p = ap (wordOfPlace form s) (sym p ∙ is)
-
-  pub word-refused : {why : Refusal} → told ≡ place → told ≡ placed.Refused why → value.Refused why ≡ wordOfPlace form s place
-  unfolding wordOfPlace
-  word-refused is p = ap (wordOfPlace form s) (sym p ∙ is)
-
-  pub handed : {part words : List ℕ} → told ≡ place → part ≡ partOf form s told → words ≡ toldWords told → Handed form s place part words
-  handed is p q = record { part-is = p ∙ ap (partOf form s) is; told-is = q ∙ ap toldWords is }
-
-pub told-refused : {told : Placed} (why : Refusal) {n : ℕ} → n ≡ numberOf (why .reason) → told ≡ placed.Refused why → 2 ∷ n ∷ why .place ∷ [] ≡ toldWords told
-unfolding toldWords
-told-refused why h p = ap (λ (x : ℕ). 2 ∷ x ∷ why .place ∷ []) h ∙ ap toldWords (sym p)
+pub told-refused : {told : Placed} (why : Refusal) {n : ℕ} → n ≡ numberOf (why .reason) → told ≡ placed.Refused why
+    → 2 ∷ n ∷ why .place ∷ [] ≡ toldWords (saidPlaced told)
+unfolding toldWords saidPlaced
+told-refused why h p = ap (λ (x : ℕ). 2 ∷ x ∷ why .place ∷ []) h ∙ ap (λ (x : Placed). toldWords (saidPlaced x)) (sym p)
 
 pub handed-block : (settings : Settings) (vendors sizes s rows attrs : List ℕ) (counts : Counts) (key number : ℕ) {form : FormKind} {part words : List ℕ}
     → form ≡ blockForm number → Handed form s (placeOfKey (table s settings vendors sizes rows attrs counts) key number form) part words

@@ -2,12 +2,15 @@
 use Prim.Native.Nat.{ℕ, _+_, _^_, _<_}
 use mathlib.Core.Path.{_≡_}
 use mathlib.Core.Bool.{cond}
-use mathlib.Core.List.{List, []}
+use mathlib.Core.List.{List, [], _∷_}
 use lib.ListN.{length, set}
+use lib.Dec.{leb}
 use lib.Seq.{sets}
 use Rattle.lent.specs.Outcome.{Outcome}
+use Rattle.format.specs.Said.{Said, inRoom, fillsRoom}
 use Rattle.links.specs.Walk.{Walk, ends, endless}
 use Rattle.links.specs.Links.{nullRow, nonNull}
+use Rattle.links.specs.Children.{childrenMet}
 use Rattle.links.specs.Inside.Links.{Rows}
 use Rattle.links.specs.declared.children.Kids.{Kids}
 use Rattle.links.specs.declared.children.Kids.the-variants.{Count, Endless}
@@ -36,3 +39,8 @@ pub record Small (c k : ℕ) : Type 0 where
 pub record Asked (rows : List ℕ) (n i : ℕ) : Type 0 where
   pub table : Rows rows n
   pub there : i < n
+
+-- the children of a walk into the room: what `childrenOfKey` comes to from a row
+unfoldable pub listedInto : List ℕ → ℕ → List ℕ → Walk → Outcome (Said ℕ) ℕ
+listedInto rows key room walk =
+    inRoom room (childrenMet rows key walk) (λ cs. fillsRoom (leb (length cs) (length room)) (length cs) (length cs ∷ []) cs room)

@@ -10,7 +10,7 @@ returns-2 : tie.Need-returns-2
 returns-2 c = given-unfit _ _ _ _ (c .before .before .before .before .count-children .ensures) (c .before .before .k .given .1) (c .if1 .left)
 
 returns-3 : tie.Need-returns-3
-returns-3 c = given-never _ _ _ _ (c .before .before .before .count-children .ensures) (c .before .enum-told .given .1) (c .refused .ensures)
+returns-3 c = given-never _ _ _ _ (c .before .before .count-children .ensures) (c .enum-told .given .1)
 
 pub give-spec : {M : Type 1} → statement M
 give-spec =
@@ -20,7 +20,6 @@ give-spec =
     (λ c. search needs)
     (λ c κs. search needs)
     (λ c. search needs)
-    (λ c κs. search needs)
     (λ c. search needs)
     returns
     returns-2
