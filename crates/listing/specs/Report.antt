@@ -7,16 +7,13 @@ use Rattle.tables.specs.Table.{table}
 use Rattle.lent.specs.Outcome.{Outcome, Outcomes}
 use Rattle.numbers.specs.declared.Endian.the-variants.{Big}
 use Rattle.format.specs.Refusal.{numberOf}
+use Rattle.format.specs.Said.{Said, gives, refuses}
 use Rattle.format.specs.declared.refusal.Reason.the-variants as reason
 use Rattle.format.specs.declared.settings.Settings.{Settings}
 use Rattle.format.specs.declared.settings.Producer.the-variants.{Other}
 use Rattle.entries.specs.Section.{readDebugSection}
-use Rattle.entries.specs.declared.section.Section.{Section}
-use Rattle.entries.specs.declared.section.Section.the-variants.{Read, Refused, Room}
 use Rattle.tables.specs.declared.row.Counts.{Counts}
 use Rattle.tree.specs.Tree.{listTree}
-use Rattle.tree.specs.declared.listing.Listing.{Listing}
-use Rattle.tree.specs.declared.listing.Listing.the-variants as listing
 use Rattle.listing.specs.Text.{refusalText, listingText}
 
 -- big-endian, erased entries out, no vendor numbers
@@ -41,38 +38,31 @@ unfoldable pub placeRoom : List ℕ
 placeRoom = replicate 2048 0
 
 -- a section read into lent tables
-abbrev pub listingRead : List ℕ → List ℕ → List ℕ → Outcomes Section ℕ ℕ
+abbrev pub listingRead : List ℕ → List ℕ → List ℕ → Outcomes (Said Counts) ℕ ℕ
 listingRead s rows attrs = readDebugSection listingSettings [] listingSizes s rows attrs
 
 -- the tree of such tables, into lent room
-abbrev pub listingTree : List ℕ → List ℕ → List ℕ → Counts → List ℕ → Outcome Listing ℕ
+abbrev pub listingTree : List ℕ → List ℕ → List ℕ → Counts → List ℕ → Outcome (Said ℕ) ℕ
 listingTree s rows attrs counts room = listTree (table s listingSettings [] listingSizes rows attrs counts) room
 
--- refusal 8, at 0
-abbrev pub roomText : List ℕ
-roomText = refusalText (numberOf reason.Room) 0
+-- the text of an answer: of what it gives, or of its refusal
+unfoldable pub answerText : {A : Type 0} → (A → List ℕ) → Said A → List ℕ
+answerText text (gives x) = text x
+answerText text (refuses number place counts) = refusalText number place
 
--- the text of the tree listing's answer, where it left the room so; no 8 comes about for tables that were read, since no more than 1,024 rows are
-unfoldable pub placesText : List ℕ → List ℕ → Listing → List ℕ
-placesText rows room (listing.Listed n) = listingText rows room n
-placesText rows room (listing.Refused why) = refusalText (numberOf (why .reason)) (why .place)
-placesText rows room (listing.Room n) = roomText
-
--- the text for tables that were read
+-- the text for tables that were read; no 8 comes about, since no more than 1,024 rows are
 unfoldable pub treeText : List ℕ → List ℕ → List ℕ → Counts → List ℕ
 treeText s rows attrs counts =
-    placesText rows (listingTree s rows attrs counts placeRoom .room) (listingTree s rows attrs counts placeRoom .answer)
-
--- the text of reading's answer, where it left the tables so
-unfoldable pub answerText : List ℕ → List ℕ → List ℕ → Section → List ℕ
-answerText s rows attrs (Read counts) = treeText s rows attrs counts
-answerText s rows attrs (Refused why) = refusalText (numberOf (why .reason)) (why .place)
-answerText s rows attrs (Room counts) = roomText
+    answerText (listingText rows (listingTree s rows attrs counts placeRoom .room)) (listingTree s rows attrs counts placeRoom .answer)
 
 -- the text for a section
 unfoldable pub reportText : List ℕ → List ℕ
 reportText s =
-    answerText s (listingRead s rowRoom attrRoom .first) (listingRead s rowRoom attrRoom .second) (listingRead s rowRoom attrRoom .answer)
+    answerText (treeText s (listingRead s rowRoom attrRoom .first) (listingRead s rowRoom attrRoom .second)) (listingRead s rowRoom attrRoom .answer)
+
+-- refusal 8, at 0
+abbrev pub roomText : List ℕ
+roomText = refusalText (numberOf reason.Room) 0
 
 -- the text for an input, of which s is all or, where it is longer, the beginning
 unfoldable pub inputText : Bool → List ℕ → List ℕ

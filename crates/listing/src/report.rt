@@ -16,11 +16,13 @@ use tree::listing::list_tree;
 ghost use mathlib.Core.Path.{_≡_};
 ghost use Prim.Native.Nat.{_≤_};
 ghost use Rattle.lent.specs.Outcome.{Given, BothGiven};
-ghost use Rattle.listing.specs.Text.{refusalText};
+ghost use Rattle.listing.specs.Text.{refusalText, listingText};
 ghost use Rattle.listing.specs.Text.{Printed};
 ghost use Rattle.format.specs.Refusal.{numberOf};
+ghost use Rattle.entries.specs.Section.{saidSection};
+ghost use Rattle.tree.specs.Tree.{saidListing};
 ghost use Rattle.listing.specs.Inside.Report.{FewRead, FewListed};
-ghost use Rattle.listing.specs.Report.{listingSettings, listingRead, listingTree, roomText, placesText, treeText, answerText, reportText};
+ghost use Rattle.listing.specs.Report.{listingSettings, listingRead, listingTree, roomText, answerText, treeText, reportText};
 ghost use Rattle.listing.specs.Report.{inputText};
 
 // Big-endian, erased entries out, no vendor numbers.
@@ -44,7 +46,8 @@ fn listing_settings() -> Settings
 // The section into the tables.
 fn read_tables(section: &[u8], rows: &mut [u32], attrs: &mut [u32]) -> Section
     ensures { λ r. ⌜
-        BothGiven (listingRead (now (section .entry)) (now (rows .entry)) (now (attrs .entry))) r (now (rows .exit)) (now (attrs .exit))
+        BothGiven (listingRead (now (section .entry)) (now (rows .entry)) (now (attrs .entry))) (saidSection r) (now (rows .exit))
+        (now (attrs .exit))
         ⌝ }
 {
     let vendors = [0u16; 0];
@@ -82,7 +85,8 @@ fn read_places(
     room: &mut [u32],
 ) -> Listing
     ensures { λ r. ⌜
-        Given (listingTree (now (section .entry)) (now (rows .entry)) (now (attrs .entry)) counts (now (room .entry))) r (now (room .exit))
+        Given (listingTree (now (section .entry)) (now (rows .entry)) (now (attrs .entry)) counts (now (room .entry))) (saidListing r)
+        (now (room .exit))
         ⌝ }
 {
     let vendors = [0u16; 0];
@@ -101,8 +105,10 @@ fn read_places(
 
 // The lines of what the tree listing answered.
 fn report_places(answer: Listing, rows: &[u32], room: &[u32], page: &mut [u8]) -> usize
-    requires { ⌜ FewListed answer ⌝ }
-    ensures { λ r. ⌜ Printed (placesText (now (rows .entry)) (now (room .entry)) answer) r (now (page .entry)) (now (page .exit)) ⌝ }
+    requires { ⌜ FewListed (saidListing answer) ⌝ }
+    ensures { λ r. ⌜
+        Printed (answerText (listingText (now (rows .entry)) (now (room .entry))) (saidListing answer)) r (now (page .entry)) (now (page .exit))
+        ⌝ }
 {
     match answer {
         Listing::Listed(n) => write_listing(rows, room, n, page),
@@ -137,9 +143,10 @@ fn report_answer(
     attrs: &[u32],
     page: &mut [u8],
 ) -> usize
-    requires { ⌜ FewRead answer ⌝ }
+    requires { ⌜ FewRead (saidSection answer) ⌝ }
     ensures { λ r. ⌜
-        Printed (answerText (now (section .entry)) (now (rows .entry)) (now (attrs .entry)) answer) r (now (page .entry)) (now (page .exit))
+        Printed (answerText (treeText (now (section .entry)) (now (rows .entry)) (now (attrs .entry))) (saidSection answer)) r (now (page .entry))
+        (now (page .exit))
         ⌝ }
 {
     match answer {

@@ -5,16 +5,17 @@ use lib.ListN.{replicate}
 use Rattle.lent.specs.Outcome.{Outcomes}
 use Rattle.format.specs.TagKind as tag
 use Rattle.format.specs.InputA.{settingsA as settings}
+use Rattle.format.specs.Said.{Said}
 use Rattle.tables.specs.declared.row.Row.{Row}
+use Rattle.tables.specs.declared.row.Counts.{Counts}
 use Rattle.entries.specs.Section.{readDebugSection}
-use Rattle.entries.specs.declared.section.Section.{Section}
 
 -- each size is 4, as in the listing program
 unfoldable pub fourEach : List ℕ
 fourEach = replicate 28 4
 
 -- what reading a section into lent tables must come to
-abbrev pub reading : List ℕ → List ℕ → List ℕ → Outcomes Section ℕ ℕ
+abbrev pub reading : List ℕ → List ℕ → List ℕ → Outcomes (Said Counts) ℕ ℕ
 reading s rows attrs = readDebugSection settings [] fourEach s rows attrs
 
 -- an entry's row: big-endian, not erased

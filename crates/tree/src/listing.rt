@@ -15,11 +15,11 @@ ghost use Rattle.tables.specs.Table.{table};
 ghost use Rattle.lent.specs.Outcome.{Given};
 ghost use Rattle.links.specs.Inside.Links.{Rows};
 ghost use Rattle.tables.specs.Row.{rowAt};
-ghost use Rattle.tables.specs.Tests.{refusedAt};
+ghost use Rattle.tables.specs.Inside.Keyed.{refusedAt};
 ghost use Rattle.tree.specs.Reach.{reachEnd};
 ghost use Rattle.tree.specs.Pick.{firstFrom};
 ghost use Rattle.tree.specs.Inside.Passing.{openDeep};
-ghost use Rattle.tree.specs.Tree.{firstErased, listingOf, listTree};
+ghost use Rattle.tree.specs.Tree.{saidListing, firstErased, listingOf, listTree};
 
 pub enum Listing {
     Listed(usize),
@@ -69,8 +69,8 @@ fn first_deep(s: &[u8], e: Endian, rows: &[u32], attrs: &[u32], n: usize) -> usi
 fn list(s: &[u8], e: Endian, rows: &[u32], attrs: &[u32], n: usize, room: &mut [u32]) -> Listing
     requires { ⌜ Rows (now rows) n ⌝ }
     ensures { λ r. ⌜
-        Given (listingOf (now (rows .entry)) n (λ i. reachEnd e (now (s .entry)) (now (rows .entry)) (now (attrs .entry)) n i) (now (room .entry))) r
-        (now (room .exit))
+        Given (listingOf (now (rows .entry)) n (λ i. reachEnd e (now (s .entry)) (now (rows .entry)) (now (attrs .entry)) n i) (now (room .entry)))
+        (saidListing r) (now (room .exit))
         ⌝ }
 {
     let erased = first_erased(rows, n);
@@ -106,7 +106,7 @@ pub fn list_tree(
 ) -> Listing
     ensures { λ r. ⌜
         Given (listTree (table (now (s .entry)) settings (now (vendors .entry)) (now (sizes .entry)) (now (rows .entry)) (now (attrs .entry)) counts)
-        (now (room .entry))) r (now (room .exit))
+        (now (room .entry))) (saidListing r) (now (room .exit))
         ⌝ }
 {
     match test_table(s, settings, vendors, sizes, rows, attrs, counts) {

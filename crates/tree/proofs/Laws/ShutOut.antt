@@ -23,6 +23,7 @@ use Rattle.format.specs.FundType.{fundTypes}
 use Rattle.format.specs.InputA.{inputA, settingsA as settings}
 use Rattle.format.specs.Limits.{sectionLimit, entryLimit, attributeLimit}
 use Rattle.format.specs.Settings.{plays, vendorsHold, roleHolds, roleForm, rolesDiffer, rolesHold, settingsHold}
+use Rattle.format.specs.Said.{Said, gives, refuses, refusal, wanting, must, _>>=_, _>>_, placed, inRoom, fillsRoom}
 use Rattle.format.specs.declared.settings.Settings.{Settings}
 use Rattle.format.specs.declared.refusal.Refusal.{Refusal}
 use Rattle.attributes.specs.Text.{zeroFrom}
@@ -35,23 +36,18 @@ use Rattle.tables.specs.declared.row.Row.{Row}
 use Rattle.tables.specs.declared.row.Attr.{Attr}
 use Rattle.tables.specs.declared.row.Counts.{Counts}
 use Rattle.entries.specs.Head.{nullEnd, tagHead, sizeHead, headAt}
-use Rattle.entries.specs.Run.{attr, first, runEnds, readOn, readRun}
-use Rattle.entries.specs.Entry.{littleFlag, flagOf, flagsOf, kindOf, ordinary, attributes, entryFrom, readEntry}
-use Rattle.entries.specs.Walk.{entriesRead, join, entriesThen, onward, entriesFrom, readTags}
+use Rattle.entries.specs.Run.{attr, runEnds, readOn, readRun}
+use Rattle.entries.specs.Entry.{littleFlag, flagOf, flagsOf, attributes, entryFrom, readEntry}
+use Rattle.entries.specs.Walk.{entries, entriesThen, wholeEntry, entriesFrom, readTags}
 use Rattle.tables.specs.Holds.{fitting}
-use Rattle.entries.specs.Section.{counts, intoTables, wholeWalk, readDebugSection}
-use Rattle.entries.proofs.Laws.Section.{attrs-decide}
-use Rattle.entries.specs.declared.section.Section.{Section}
-use Rattle.entries.specs.declared.section.Section.the-variants.{Read, Refused, Room}
+use Rattle.entries.specs.Section.{counts, wholeWalk, sectionEntries, readDebugSection}
+use Rattle.entries.proofs.Laws.Section.{attrs-decide, read-stored}
 use Rattle.links.specs.Attribute.{wants, attrFrom, attributeOf, asReference, referenceBy, referenceOf}
 use Rattle.tree.specs.Pick.{countBelow, nearestBelow, firstFrom}
 use Rattle.tree.specs.Reach.{reachBy, reachEnd}
 use Rattle.tree.specs.Nest.{lies, depth, parent, crosses, faulty, deep, firstFault, firstDeep}
-use Rattle.tree.specs.Tree.{placeWidth, placesFrom, firstErased, listingOf, listTree}
+use Rattle.tree.specs.Tree.{placeWidth, placesFrom, firstErased, treeTests, listingOf, listTree}
 use Rattle.tree.proofs.Laws.TreeTheorem.{tree-listed}
-use Rattle.tree.specs.declared.listing.Listing.{Listing}
-use Rattle.tree.specs.declared.listing.Listing.the-variants as listing
-use Rattle.tree.specs.declared.listing.Listing.the-variants.{Listed}
 use Rattle.tree.specs.ShutOut.{fourEach, reading, rowOf, nullSection, firstNull, twoSection}
 
 settings-hold : settingsHold settings [] fourEach ≡ true
@@ -59,30 +55,31 @@ unfolding fourEach fundTypes vendorsHold roleHolds roleForm rolesDiffer rolesHol
 settings-hold = refl
 
 -- what a walk gives is intoTables in tables that are long enough
-abbrev storing : List Row → List Attr → List ℕ → List ℕ → Outcomes Section ℕ ℕ
+abbrev storing : List Row → List Attr → List ℕ → List ℕ → Outcomes (Said Counts) ℕ ℕ
 storing rs xs rows attrs =
-    outcomes (Read (counts (length rs) (length xs))) (sets rows 0 (rowsWords rs)) (sets attrs 0 (attrsWords xs))
+    outcomes (gives (counts (length rs) (length xs))) (sets rows 0 (rowsWords rs)) (sets attrs 0 (attrsWords xs))
 
-walk-stored : (s : List ℕ) (rs : List Row) (xs : List Attr) (place : ℕ) → wholeWalk settings [] s ≡ entriesRead rs xs place → length s < sectionLimit
+walk-stored : (s : List ℕ) (rs : List Row) (xs : List Attr) (place : ℕ) → wholeWalk settings [] s ≡ gives (entries rs xs place) → length s < sectionLimit
     → length rs ≤ entryLimit → length xs ≤ attributeLimit → (rows attrs : List ℕ) → length rs * rowWidth ≤ length rows → length xs * attrWidth ≤ length attrs
     → reading s rows attrs ≡ storing rs xs rows attrs
-unfolding readDebugSection intoTables
+unfolding sectionEntries must _>>_
 walk-stored s rs xs place walk short few-rows few-attrs rows attrs h k =
     let fits : fitting (counts (length rs) (length xs)) (length rows) (length attrs) ≡ true =
     sym (attrs-decide (counts (length rs) (length xs)) (length rows) (length attrs) few-rows h few-attrs) ∙ le-leb (length xs * attrWidth) (length attrs) k
     in
-    rw (settings-hold, lt-ltb (length s) sectionLimit short, walk, fits)
+    let all : sectionEntries settings [] fourEach s ≡ gives (entries rs xs place) = rw (settings-hold, lt-ltb (length s) sectionLimit short, walk) in
+    read-stored settings [] fourEach s rows attrs all fits
 
 -- whether an answer is rows that were read, and the counts that it tells
-abbrev isRead : Section → Type 0
-isRead (Read c) = Unit
-isRead (Refused why) = ⊥
-isRead (Room c) = ⊥
+abbrev isRead : Said Counts → Type 0
+isRead (gives c) = Unit
+isRead (refuses number place needed) = ⊥
 
-abbrev countsOf : Section → Counts
-countsOf (Read c) = c
-countsOf (Refused why) = counts 0 0
-countsOf (Room c) = c
+abbrev countsOf : Said Counts → Counts
+countsOf (gives c) = c
+countsOf (refuses number place []) = counts 0 0
+countsOf (refuses number place (rows ∷ [])) = counts rows 0
+countsOf (refuses number place (rows ∷ attrs ∷ more)) = counts rows attrs
 
 -- ---- three sections, and the entries that reading finds in them
 
@@ -99,9 +96,9 @@ rowsA = rowOf 0x00 tag.StructureType 0 2 ∷ rowOf 0x12 tag.Member 2 2 ∷ rowOf
 abbrev attrsA : List Attr
 attrsA = attr number.Sibling 8 ∷ attr number.ByteSize 14 ∷ attr number.FundType 26 ∷ attr number.Location 30 ∷ []
 
-walks : (wholeWalk settings [] nullSection ≡ entriesRead (firstNull ∷ []) [] 4) × (wholeWalk settings [] twoSection ≡ entriesRead twoRows twoAttrs 18)
-    × (wholeWalk settings [] inputA ≡ entriesRead rowsA attrsA 42)
-unfolding valueOf there readAt isOn indexOf lookup tags used alsoKnown attributeKinds known forms formOf zeroFrom fixedEnd blockEnd textEnd valueEnd ending numbered readAttribute nullEnd tagHead sizeHead headAt first plays runEnds readOn readRun littleFlag flagOf flagsOf kindOf ordinary attributes entryFrom readEntry join entriesThen onward entriesFrom readTags wholeWalk
+walks : (wholeWalk settings [] nullSection ≡ gives (entries (firstNull ∷ []) [] 4)) × (wholeWalk settings [] twoSection ≡ gives (entries twoRows twoAttrs 18))
+    × (wholeWalk settings [] inputA ≡ gives (entries rowsA attrsA 42))
+unfolding valueOf there readAt isOn indexOf lookup tags used alsoKnown attributeKinds known forms formOf zeroFrom fixedEnd blockEnd textEnd valueEnd ending numbered readAttribute nullEnd tagHead sizeHead headAt plays runEnds readOn readRun littleFlag flagOf flagsOf attributes entryFrom readEntry entriesThen wholeEntry entriesFrom readTags wholeWalk _>>=_ placed
 walks = (refl, refl, refl)
 
 -- ---- one null entry
@@ -110,40 +107,40 @@ module _ (rows attrs : List ℕ) (enough : 5 ≤ length rows) where
   null-stored : reading nullSection rows attrs ≡ storing (firstNull ∷ []) [] rows attrs
   null-stored = walk-stored nullSection (firstNull ∷ []) [] 4 (walks .0) (omega arith) (omega arith) (omega arith) rows attrs enough (omega arith)
 
-  null-answer : {r : Section} {rows′ attrs′ : List ℕ} → BothGiven (reading nullSection rows attrs) r rows′ attrs′ → r ≡ Read (counts 1 0)
-  null-answer p = p .answer-is ∙ ap (λ (o : Outcomes Section ℕ ℕ). o .answer) null-stored
+  null-answer : {r : Said Counts} {rows′ attrs′ : List ℕ} → BothGiven (reading nullSection rows attrs) r rows′ attrs′ → r ≡ gives (counts 1 0)
+  null-answer p = p .answer-is ∙ ap (λ (o : Outcomes (Said Counts) ℕ ℕ). o .answer) null-stored
 
   -- a reader that refuses all
-  pub refuses-all : (why : Refusal) {rows′ attrs′ : List ℕ} → BothGiven (reading nullSection rows attrs) (Refused why) rows′ attrs′ → ⊥
+  pub refuses-all : (why : Refusal) {rows′ attrs′ : List ℕ} → BothGiven (reading nullSection rows attrs) (refusal why) rows′ attrs′ → ⊥
   refuses-all why p = subst isRead (sym (null-answer p)) tt
 
   -- or that finds no room enough
-  pub refuses-room : (needed : Counts) {rows′ attrs′ : List ℕ} → BothGiven (reading nullSection rows attrs) (Room needed) rows′ attrs′ → ⊥
+  pub refuses-room : (needed : Counts) {rows′ attrs′ : List ℕ} → BothGiven (reading nullSection rows attrs) (wanting (needed .rows ∷ needed .attrs ∷ [])) rows′ attrs′ → ⊥
   refuses-room needed p = subst isRead (sym (null-answer p)) tt
 
   -- one that answers no rows for everything
-  pub no-rows : (n : ℕ) {rows′ attrs′ : List ℕ} → BothGiven (reading nullSection rows attrs) (Read (counts 0 n)) rows′ attrs′ → ⊥
-  no-rows n p = let none : _≡_ {A = ℕ} 0 1 = ap (λ (r : Section). countsOf r .rows) (null-answer p) in absurd (omega arith)
+  pub no-rows : (n : ℕ) {rows′ attrs′ : List ℕ} → BothGiven (reading nullSection rows attrs) (gives (counts 0 n)) rows′ attrs′ → ⊥
+  no-rows n p = let none : _≡_ {A = ℕ} 0 1 = ap (λ (r : Said Counts). countsOf r .rows) (null-answer p) in absurd (omega arith)
 
   -- one that writes nothing, where the row does not stand in the table already
-  pub writes-nothing : (rowAt rows 0 ≡ firstNull → ⊥) → {r : Section} {attrs′ : List ℕ} → BothGiven (reading nullSection rows attrs) r rows attrs′ → ⊥
+  pub writes-nothing : (rowAt rows 0 ≡ firstNull → ⊥) → {r : Said Counts} {attrs′ : List ℕ} → BothGiven (reading nullSection rows attrs) r rows attrs′ → ⊥
   unfolding rowsFrom
   writes-nothing other p =
       let held : rowsFrom rows 0 1 ≡ firstNull ∷ [] =
-      ap (λ (t : List ℕ). rowsFrom t 0 1) (p .first-is ∙ ap (λ (o : Outcomes Section ℕ ℕ). o .first) null-stored) ∙ rows-back rows (firstNull ∷ []) enough
+      ap (λ (t : List ℕ). rowsFrom t 0 1) (p .first-is ∙ ap (λ (o : Outcomes (Said Counts) ℕ ℕ). o .first) null-stored) ∙ rows-back rows (firstNull ∷ []) enough
       in
       other cc
 
 -- ---- two entries
 
 -- one that reads the first entry and pads the rest
-pub first-and-padding : (rows attrs : List ℕ) → 10 ≤ length rows → 4 ≤ length attrs → {r : Section} {rows′ attrs′ : List ℕ} → rowAt rows′ 1 .kind ≡ tag.Padding
+pub first-and-padding : (rows attrs : List ℕ) → 10 ≤ length rows → 4 ≤ length attrs → {r : Said Counts} {rows′ attrs′ : List ℕ} → rowAt rows′ 1 .kind ≡ tag.Padding
     → BothGiven (reading twoSection rows attrs) r rows′ attrs′ → ⊥
 unfolding rowsFrom
 first-and-padding rows attrs h k {r} {rows′} padded p =
     let whole = walk-stored twoSection twoRows twoAttrs 18 (walks .1) (omega arith) (omega arith) (omega arith) rows attrs h k in
     let held : rowsFrom rows′ 0 2 ≡ twoRows =
-    ap (λ (t : List ℕ). rowsFrom t 0 2) (p .first-is ∙ ap (λ (o : Outcomes Section ℕ ℕ). o .first) whole) ∙ rows-back rows twoRows h
+    ap (λ (t : List ℕ). rowsFrom t 0 2) (p .first-is ∙ ap (λ (o : Outcomes (Said Counts) ℕ ℕ). o .first) whole) ∙ rows-back rows twoRows h
     in
     let second : rowAt rows′ 1 ≡ rowOf 9 tag.Subroutine 1 1 = cc in
     let kind : rowAt rows′ 1 .kind ≡ tag.Subroutine = ap (λ (r : Row). r .kind) second in
@@ -153,13 +150,13 @@ first-and-padding rows attrs h k {r} {rows′} padded p =
 
 module _ (settings : Settings) (vendors fourEach s rows attrs : List ℕ) {c c′ : Counts} {rows₁ rows₁′ attrs₁ attrs₁′ : List ℕ} where
   -- invented row counts: two answers that both meet the contract have the same counts
-  pub invented-counts : BothGiven (readDebugSection settings vendors fourEach s rows attrs) (Read c) rows₁ attrs₁
-      → BothGiven (readDebugSection settings vendors fourEach s rows attrs) (Read c′) rows₁′ attrs₁′ → c ≡ c′
+  pub invented-counts : BothGiven (readDebugSection settings vendors fourEach s rows attrs) (gives c) rows₁ attrs₁
+      → BothGiven (readDebugSection settings vendors fourEach s rows attrs) (gives c′) rows₁′ attrs₁′ → c ≡ c′
   invented-counts p q = ap countsOf (p .answer-is ∙ sym (q .answer-is))
 
   -- invented needed counts: so have two that tell what room is needed
-  pub invented-needed : BothGiven (readDebugSection settings vendors fourEach s rows attrs) (Room c) rows₁ attrs₁
-      → BothGiven (readDebugSection settings vendors fourEach s rows attrs) (Room c′) rows₁′ attrs₁′ → c ≡ c′
+  pub invented-needed : BothGiven (readDebugSection settings vendors fourEach s rows attrs) (wanting (c .rows ∷ c .attrs ∷ [])) rows₁ attrs₁
+      → BothGiven (readDebugSection settings vendors fourEach s rows attrs) (wanting (c′ .rows ∷ c′ .attrs ∷ [])) rows₁′ attrs₁′ → c ≡ c′
   invented-needed p q = ap countsOf (p .answer-is ∙ sym (q .answer-is))
 
 -- ---- the listing of input A
@@ -170,35 +167,35 @@ placesA = 0 ∷ 0 ∷ 1 ∷ 1 ∷ 1 ∷ 1 ∷ []
 
 A-listed : (rows attrs room : List ℕ) → 6 ≤ length room
     → listingOf (rowsWords rowsA ++ rows) 3 (λ i. reachEnd Big inputA (rowsWords rowsA ++ rows) (attrsWords attrsA ++ attrs) 3 i) room
-    ≡ outcome (Listed 3) (sets room 0 placesA)
-unfolding valueOf there readAt rowWords attrWords rowsWords attrsWords rowAt attrAt erasedRow wants attrFrom attributeOf asReference referenceBy referenceOf countBelow nearestBelow firstFrom reachBy reachEnd lies depth parent crosses faulty deep firstFault firstDeep placesFrom firstErased listingOf
-A-listed rows attrs room h = ap (λ (b : Bool). cond b (outcome (Listed 3) (sets room 0 placesA)) (outcome (listing.Room 3) room)) (le-leb 6 (length room) h)
+    ≡ outcome (gives 3) (sets room 0 placesA)
+unfolding valueOf there readAt rowWords attrWords rowsWords attrsWords rowAt attrAt erasedRow wants attrFrom attributeOf asReference referenceBy referenceOf countBelow nearestBelow firstFrom reachBy reachEnd lies depth parent crosses faulty deep firstFault firstDeep placesFrom firstErased treeTests listingOf must _>>_ inRoom fillsRoom
+A-listed rows attrs room h = ap (λ (b : Bool). cond b (outcome (gives 3) (sets room 0 placesA)) (outcome (wanting (3 ∷ [])) room)) (le-leb 6 (length room) h)
 
 module _ (rows₀ attrs₀ : List ℕ) (rows-enough : 15 ≤ length rows₀) (attrs-enough : 8 ≤ length attrs₀) {c : Counts} {rows attrs : List ℕ}
-    (read : BothGiven (reading inputA rows₀ attrs₀) (Read c) rows attrs) where
+    (read : BothGiven (reading inputA rows₀ attrs₀) (gives c) rows attrs) where
   A-stored : reading inputA rows₀ attrs₀ ≡ storing rowsA attrsA rows₀ attrs₀
   A-stored = walk-stored inputA rowsA attrsA 42 (walks .2) (omega arith) (omega arith) (omega arith) rows₀ attrs₀ rows-enough attrs-enough
 
   A-counts : c ≡ counts 3 4
-  A-counts = ap countsOf (read .answer-is ∙ ap (λ (o : Outcomes Section ℕ ℕ). o .answer) A-stored)
+  A-counts = ap countsOf (read .answer-is ∙ ap (λ (o : Outcomes (Said Counts) ℕ ℕ). o .answer) A-stored)
 
   A-rows : rows ≡ rowsWords rowsA ++ drop 15 rows₀
   unfolding rowWords rowsWords
-  A-rows = read .first-is ∙ ap (λ (o : Outcomes Section ℕ ℕ). o .first) A-stored ∙ sets-eq (rowsWords rowsA) rows₀ 0 rows-enough
+  A-rows = read .first-is ∙ ap (λ (o : Outcomes (Said Counts) ℕ ℕ). o .first) A-stored ∙ sets-eq (rowsWords rowsA) rows₀ 0 rows-enough
 
   A-attrs : attrs ≡ attrsWords attrsA ++ drop 8 attrs₀
   unfolding attrWords attrsWords
-  A-attrs = read .second-is ∙ ap (λ (o : Outcomes Section ℕ ℕ). o .second) A-stored ∙ sets-eq (attrsWords attrsA) attrs₀ 0 attrs-enough
+  A-attrs = read .second-is ∙ ap (λ (o : Outcomes (Said Counts) ℕ ℕ). o .second) A-stored ∙ sets-eq (attrsWords attrsA) attrs₀ 0 attrs-enough
 
   -- a listing of file order with depth 0 everywhere
-  pub depth-zero : (room : List ℕ) → 6 ≤ length room → {r : Listing} {room′ : List ℕ} → ((j : ℕ) → j < 3 → getD room′ (j * placeWidth) 0 ≡ 0)
+  pub depth-zero : (room : List ℕ) → 6 ≤ length room → {r : Said ℕ} {room′ : List ℕ} → ((j : ℕ) → j < 3 → getD room′ (j * placeWidth) 0 ≡ 0)
       → Given (listTree (table inputA settings [] fourEach rows attrs c) room) r room′ → ⊥
   depth-zero room h {r} {room′} zeros given =
-      let tree : listTree (table inputA settings [] fourEach rows attrs c) room ≡ outcome (Listed 3) (sets room 0 placesA) =
+      let tree : listTree (table inputA settings [] fourEach rows attrs c) room ≡ outcome (gives 3) (sets room 0 placesA) =
       tree-listed settings [] fourEach inputA rows₀ attrs₀ c refl read room ∙ rw (A-counts, A-rows, A-attrs) (A-listed (drop 15 rows₀) (drop 8 attrs₀) room h)
       in
       let inside : getD room′ 2 0 ≡ 1 =
-      ap (λ (t : List ℕ). getD t 2 0) (given .room-is ∙ ap (λ (o : Outcome Listing ℕ). o .room) tree) ∙ sets-back room 0 placesA 2 h (omega arith)
+      ap (λ (t : List ℕ). getD t 2 0) (given .room-is ∙ ap (λ (o : Outcome (Said ℕ) ℕ). o .room) tree) ∙ sets-back room 0 placesA 2 h (omega arith)
       in
       let zero : getD room′ 2 0 ≡ 0 = zeros 1 (omega arith) in
       absurd (omega arith)

@@ -4,21 +4,23 @@ use native.Mathlib.Nat.{sub-zero}
 use native.Mathlib.Omega.{arith}
 use mathlib.Core.Path.{_≡_, refl, sym, ap, _∙_, subst}
 use mathlib.Core.Bool.{Bool, true, false, cond}
-use mathlib.Core.List.{List}
+use mathlib.Core.List.{List, [], _∷_}
 use lib.ListN.{length}
 use lib.Seq.{sets}
 use lib.Dec.{leb, ltb}
-use borrow.Author.Tests.{lt-ltb, le-ltb, le-leb, lt-leb}
+use borrow.Author.Tests.{le-leb, lt-leb}
 use Rattle.tables.specs.Table.{table}
 use Rattle.lent.specs.Outcome.{Outcome, outcome, Given}
 use Rattle.format.specs.Limits.{depthLimit}
+use Rattle.format.specs.Said.{Said, gives, refusal, wanting, must, _>>_, inRoom, fillsRoom}
+use Rattle.format.proofs.Laws.Said.{goes-in}
 use Rattle.format.specs.declared.settings.Settings.{Settings}
 use Rattle.format.specs.declared.refusal.Refusal.{Refusal}
 use Rattle.format.specs.declared.refusal.Reason.{Reason}
 use Rattle.format.specs.declared.refusal.Reason.the-variants as reason
 use Rattle.tables.specs.Row.{rowAt, erasedRow}
-use Rattle.tables.specs.Tests.{refusedAt, Tells}
-use Rattle.tables.proofs.Laws.Tests.{passed-answer, refused-answer}
+use Rattle.tables.specs.Tests.{saidTested, Tells}
+use Rattle.tables.specs.Inside.Keyed.{refusedAt}
 use Rattle.tables.specs.declared.row.Row.{Row}
 use Rattle.tables.specs.declared.row.Counts.{Counts}
 use Rattle.tables.specs.declared.tests.Tested.{Tested}
@@ -33,9 +35,9 @@ use Rattle.tree.proofs.Laws.Nested.{Nested}
 use Rattle.tree.specs.Inside.Passing.{faultFrom, openDeep, openWords, OpenListed}
 use Rattle.tree.proofs.Laws.Fault.{first-fault, fault-none}
 use Rattle.tree.proofs.Laws.Open.{open-depth, open-parent}
-use Rattle.tree.specs.Tree.{placeWidth, placesFrom, firstErased, listingOf, listTree}
+use Rattle.tree.specs.Tree.{saidListing, placeWidth, placesFrom, firstErased, treeTests, listingOf, listTree}
 use Rattle.tree.specs.declared.listing.Listing.{Listing}
-use Rattle.tree.specs.declared.listing.Listing.the-variants.{Listed, Refused, Room}
+use Rattle.tree.specs.declared.listing.Listing.the-variants.{Refused}
 
 -- ---- the first erased row
 
@@ -91,28 +93,28 @@ pub fault-row : (rows : List ℕ) (i : ℕ) (why : Reason) {row : Row} → row �
 fault-row rows i why p = ap (λ (r : Row). Refused (refusedAt (r .key) why)) p
 
 module _ (rows : List ℕ) (n : ℕ) (reach : ℕ → ℕ) (room : List ℕ) {erased : ℕ} (e : erased ≡ firstErased rows n) where
-  pub list-erased : {r : Listing} → erased < n → r ≡ Refused (refusedAt (rowAt rows erased .key) reason.Kind) → Given (listingOf rows n reach room) r room
-  unfolding listingOf
+  pub list-erased : {r : Listing} → erased < n → r ≡ Refused (refusedAt (rowAt rows erased .key) reason.Kind) → Given (listingOf rows n reach room) (saidListing r) room
+  unfolding saidListing listingOf treeTests inRoom must _>>_
   list-erased h p =
-      let test : ltb (firstErased rows n) n ≡ true = ap (λ (k : ℕ). ltb k n) (sym e) ∙ lt-ltb erased n h in
-      record { answer-is = rw (test, ← e) p; room-is = rw test }
+      let test : leb n (firstErased rows n) ≡ false = ap (λ (k : ℕ). leb n k) (sym e) ∙ lt-leb n erased h in
+      record { answer-is = rw (test, ← e) (ap saidListing p); room-is = rw test }
 
   module _ (none : n ≤ erased) (reaching : Reaching n reach) {fault : ℕ} (f : fault ≡ faultFrom n reach 0 n) where
-    no-erased : ltb (firstErased rows n) n ≡ false
-    no-erased = ap (λ (k : ℕ). ltb k n) (sym e) ∙ le-ltb erased n none
+    no-erased : leb n (firstErased rows n) ≡ true
+    no-erased = ap (λ (k : ℕ). leb n k) (sym e) ∙ le-leb n erased none
 
     first : fault ≡ firstFault n reach
     first = f ∙ first-fault n reach reaching
 
-    pub list-fault : {r : Listing} → fault < n → r ≡ Refused (refusedAt (rowAt rows fault .key) reason.Link) → Given (listingOf rows n reach room) r room
-    unfolding listingOf
+    pub list-fault : {r : Listing} → fault < n → r ≡ Refused (refusedAt (rowAt rows fault .key) reason.Link) → Given (listingOf rows n reach room) (saidListing r) room
+    unfolding saidListing listingOf treeTests inRoom must _>>_
     list-fault h p =
-        let test : ltb (firstFault n reach) n ≡ true = ap (λ (k : ℕ). ltb k n) (sym first) ∙ lt-ltb fault n h in
-        record { answer-is = rw (no-erased, test, ← first) p; room-is = rw (no-erased, test) }
+        let test : leb n (firstFault n reach) ≡ false = ap (λ (k : ℕ). leb n k) (sym first) ∙ lt-leb n fault h in
+        record { answer-is = rw (no-erased, test, ← first) (ap saidListing p); room-is = rw (no-erased, test) }
 
     module _ (sound : n ≤ fault) {deepest : ℕ} (d : deepest ≡ firstFrom (openDeep reach) 0 n) where
-      no-fault : ltb (firstFault n reach) n ≡ false
-      no-fault = ap (λ (k : ℕ). ltb k n) (sym first) ∙ le-ltb fault n sound
+      no-fault : leb n (firstFault n reach) ≡ true
+      no-fault = ap (λ (k : ℕ). leb n k) (sym first) ∙ le-leb n fault sound
 
       all-nest : Nested n reach
       unfolding firstFault
@@ -125,24 +127,24 @@ module _ (rows : List ℕ) (n : ℕ) (reach : ℕ → ℕ) (room : List ℕ) {er
       first-too-deep : deepest ≡ firstDeep n reach
       first-too-deep = d ∙ deep-same all-nest
 
-      pub list-deep : {r : Listing} → deepest < n → r ≡ Refused (refusedAt (rowAt rows deepest .key) reason.Depth) → Given (listingOf rows n reach room) r room
-      unfolding listingOf
+      pub list-deep : {r : Listing} → deepest < n → r ≡ Refused (refusedAt (rowAt rows deepest .key) reason.Depth) → Given (listingOf rows n reach room) (saidListing r) room
+      unfolding saidListing listingOf treeTests inRoom must _>>_
       list-deep h p =
-          let test : ltb (firstDeep n reach) n ≡ true = ap (λ (k : ℕ). ltb k n) (sym first-too-deep) ∙ lt-ltb deepest n h in
-          record { answer-is = rw (no-erased, no-fault, test, ← first-too-deep) p; room-is = rw (no-erased, no-fault, test) }
+          let test : leb n (firstDeep n reach) ≡ false = ap (λ (k : ℕ). leb n k) (sym first-too-deep) ∙ lt-leb n deepest h in
+          record { answer-is = rw (no-erased, no-fault, test, ← first-too-deep) (ap saidListing p); room-is = rw (no-erased, no-fault, test) }
 
       module _ (shallow : n ≤ deepest) where
-        no-deep : ltb (firstDeep n reach) n ≡ false
-        no-deep = ap (λ (k : ℕ). ltb k n) (sym first-too-deep) ∙ le-ltb deepest n shallow
+        no-deep : leb n (firstDeep n reach) ≡ true
+        no-deep = ap (λ (k : ℕ). leb n k) (sym first-too-deep) ∙ le-leb n deepest shallow
 
-        pub list-unfit : length room < n * placeWidth → Given (listingOf rows n reach room) (Room n) room
-        unfolding listingOf
+        pub list-unfit : length room < n * placeWidth → Given (listingOf rows n reach room) (wanting (n ∷ [])) room
+        unfolding listingOf treeTests inRoom fillsRoom must _>>_
         list-unfit h =
             let test : leb (n * placeWidth) (length room) ≡ false = lt-leb (n * placeWidth) (length room) h in
             record { answer-is = rw (no-erased, no-fault, no-deep, test); room-is = rw (no-erased, no-fault, no-deep, test) }
 
-        pub list-given : {r : ℕ} {room′ : List ℕ} → n * placeWidth ≤ length room → OpenListed reach n r room room′ → Given (listingOf rows n reach room) (Listed n) room′
-        unfolding listingOf
+        pub list-given : {r : ℕ} {room′ : List ℕ} → n * placeWidth ≤ length room → OpenListed reach n r room room′ → Given (listingOf rows n reach room) (gives n) room′
+        unfolding listingOf treeTests inRoom fillsRoom must _>>_
         list-given {r} {room′} h o =
             let test : leb (n * placeWidth) (length room) ≡ true = le-leb (n * placeWidth) (length room) h in
             let most : firstFrom (openDeep reach) 0 n ≤ 0 + n = first-from-is (openDeep reach) 0 n .to in
@@ -156,13 +158,12 @@ module _ (rows : List ℕ) (n : ℕ) (reach : ℕ → ℕ) (room : List ℕ) {er
 
 module _ (settings : Settings) (vendors sizes s rows attrs : List ℕ) (counts : Counts) (room : List ℕ) {told : Tested}
     (is : Tells (table s settings vendors sizes rows attrs counts) told) where
-  pub tree-passed : told ≡ Passed → {r : Listing} {room′ : List ℕ}
+  pub tree-passed : told ≡ Passed → {r : Said ℕ} {room′ : List ℕ}
       → Given (listingOf rows (counts .rows) (λ i. reachEnd (settings .endian) s rows attrs (counts .rows) i) room) r room′
       → Given (listTree (table s settings vendors sizes rows attrs counts) room) r room′
-  unfolding listTree
-  tree-passed p {r} {room′} g = subst (λ (o : Outcome Listing ℕ). Given o r room′) (passed-answer (λ why. outcome (Refused why) room) _ is p) g
+  unfolding listTree saidTested inRoom
+  tree-passed p g = goes-in saidTested (is .told) p room _ g
 
-  pub tree-refused : {why : Refusal} → told ≡ tests.Refused why → Given (listTree (table s settings vendors sizes rows attrs counts) room) (Refused why) room
-  unfolding listTree
-  tree-refused {why} p =
-      subst (λ (o : Outcome Listing ℕ). Given o (Refused why) room) (refused-answer (λ w. outcome (Refused w) room) _ is p) (record { answer-is = refl; room-is = refl })
+  pub tree-refused : {why : Refusal} → told ≡ tests.Refused why → Given (listTree (table s settings vendors sizes rows attrs counts) room) (refusal why) room
+  unfolding listTree saidTested inRoom
+  tree-refused p = goes-in saidTested (is .told) p room _ (record { answer-is = refl; room-is = refl })

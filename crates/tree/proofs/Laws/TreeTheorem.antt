@@ -2,9 +2,10 @@
 -- with the section and settings it was read with. Then the listing is given exactly when every reference names a later row or the end, no two reaches overlap
 -- without one holding the other, no row lies in more than 32 others' reaches, and the room is enough; it holds every row once, in file order, with its depth and
 -- its parent; and the child walk of any row, with room enough, gives exactly the non-null rows with that parent, in order.
+use Rattle.format.proofs.Laws.Said.{must-gave, last-gave, room-gave, fill-gave}
 use Prim.Native.Nat.{ℕ, zero, suc, _+_, _*_, _≤_, _<_}
 use native.Mathlib.Omega.{arith}
-use mathlib.Core.Path.{_≡_, refl, sym, ap, _∙_, subst}
+use mathlib.Core.Path.{_≡_, refl, sym, ap, _∙_}
 use mathlib.Core.Logic.{_↔_}
 use mathlib.Core.Bool.{Bool, true, false}
 use mathlib.Core.List.{List}
@@ -14,23 +15,26 @@ use lib.Dec.{leb, ltb}
 use borrow.Author.Tests.{le-ltb, le-leb, leb-true, ltb-false}
 use Rattle.tables.specs.Table.{table}
 use Rattle.lent.specs.Outcome.{Outcome, outcome, Given, BothGiven}
-use Rattle.numbers.proofs.Laws.Tests.{cond-all}
+use Rattle.format.specs.Said.{Said, gives, must, _>>_, inRoom, fillsRoom}
 use Rattle.format.specs.Limits.{depthLimit, sectionLimit}
 use Rattle.format.specs.Settings.{settingsHold}
+use Rattle.format.specs.Said.{Said, must, _>>=_, _>>_}
+use Rattle.format.specs.Said as said
 use Rattle.format.specs.declared.settings.Settings.{Settings}
+use Rattle.format.specs.declared.refusal.Reason.the-variants as reason
 use Rattle.tables.specs.Row.{rowAt, erasedRow}
 use Rattle.tables.specs.Holds.{tableHolds, TableHolds}
 use Rattle.tables.proofs.Laws.Held.{held-rising, held-inside}
 use Rattle.lent.proofs.Laws.Stores.{sets-back}
-use Rattle.tables.specs.Tests.{afterTests, tested}
+use Rattle.tables.specs.Tests.{testTable}
+use Rattle.tables.specs.Keyed.{foundRow, rowOf}
+use Rattle.tables.proofs.Laws.Find.{row-of-own-key}
 use Rattle.tables.specs.declared.row.Counts.{Counts}
 use Rattle.entries.specs.Section.{readDebugSection}
 use Rattle.entries.proofs.Laws.Filled.{filled-holds}
 use Rattle.entries.proofs.Laws.Unerased.{none-erased, answer-tested}
-use Rattle.entries.specs.declared.section.Section.the-variants.{Read}
 use Rattle.links.specs.Children as children
-use Rattle.links.specs.declared.children.ChildRows.{ChildRows}
-use Rattle.links.specs.declared.children.ChildRows.the-variants as child
+use Rattle.links.specs.Inside.Children.{listedInto}
 use Rattle.tree.specs.Pick.{firstFrom}
 use Rattle.tree.proofs.Laws.Pick.{first-none, first-from-is}
 use Rattle.tree.specs.Reach.{reachIn}
@@ -41,50 +45,42 @@ use Rattle.tree.proofs.Laws.Nested.{Nested}
 use Rattle.tree.specs.Demand.{Reaching}
 use Rattle.tree.proofs.Laws.Fault.{fault-none}
 use Rattle.tree.proofs.Laws.Reach.{reaching}
-use Rattle.tree.specs.Tree.{placeWidth, placesFrom, firstErased, listingOf, listTree}
+use Rattle.tree.specs.Tree.{placeWidth, placesFrom, firstErased, treeTests, listingOf, listTree}
 use Rattle.tree.proofs.Laws.WalkTree.{Plain, children-given}
 use Rattle.tree.specs.Demand.{childrenIn}
-use Rattle.tree.specs.declared.listing.Listing.{Listing}
-use Rattle.tree.specs.declared.listing.Listing.the-variants.{Listed, Refused, Room}
 use Rattle.tree.specs.Demand.{Listable}
 
 -- ---- what the tests of the listing come to
 
-abbrev isListed : Listing → Type 0
-isListed (Listed n) = Unit
-isListed (Refused why) = ⊥
-isListed (Room n) = ⊥
-
 module _ (rows : List ℕ) (n : ℕ) (reach : ℕ → ℕ) (room : List ℕ) where
+  listing-given : leb n (firstErased rows n) ≡ true → leb n (firstFault n reach) ≡ true → leb n (firstDeep n reach) ≡ true
+      → leb (n * placeWidth) (length room) ≡ true → listingOf rows n reach room ≡ outcome (gives n) (sets room 0 (placesFrom n reach 0 n))
+  unfolding listingOf treeTests inRoom fillsRoom must _>>_
+  listing-given a b c d = rw (a, b, c, d)
+
   -- all four tests pass
-  abbrev Passes : Outcome Listing ℕ → Type 0
-  Passes o = o .answer ≡ Listed n
-      → (ltb (firstFault n reach) n ≡ false) × (ltb (firstDeep n reach) n ≡ false) × (leb (n * placeWidth) (length room) ≡ true)
-      × (o .room ≡ sets room 0 (placesFrom n reach 0 n))
-
-  passes : Passes (listingOf rows n reach room)
-  unfolding listingOf
-  passes =
-      cond-all Passes (ltb (firstErased rows n) n) (λ t p. absurd (subst isListed (sym p) tt))
-      (λ t. cond-all Passes (ltb (firstFault n reach) n) (λ u p. absurd (subst isListed (sym p) tt))
-      (λ u. cond-all Passes (ltb (firstDeep n reach) n) (λ v p. absurd (subst isListed (sym p) tt))
-      (λ v. cond-all Passes (leb (n * placeWidth) (length room)) (λ w p. (u, v, w, refl)) (λ w p. absurd (subst isListed (sym p) tt)))))
-
-  gives : ltb (firstErased rows n) n ≡ false → ltb (firstFault n reach) n ≡ false → ltb (firstDeep n reach) n ≡ false
-      → leb (n * placeWidth) (length room) ≡ true → listingOf rows n reach room ≡ outcome (Listed n) (sets room 0 (placesFrom n reach 0 n))
-  unfolding listingOf
-  gives a b c d = rw (a, b, c, d)
+  passes : listingOf rows n reach room .answer ≡ gives n
+      → (leb n (firstFault n reach) ≡ true) × (leb n (firstDeep n reach) ≡ true) × (leb (n * placeWidth) (length room) ≡ true)
+      × (listingOf rows n reach room .room ≡ sets room 0 (placesFrom n reach 0 n))
+  unfolding listingOf treeTests
+  passes p =
+      let tests = room-gave room (treeTests rows n reach) _ p in
+      let whole = must-gave (leb n (firstErased rows n)) reason.Kind _ _ (tests .1) in
+      let sound = must-gave (leb n (firstFault n reach)) reason.Link _ _ (whole .1) in
+      let shallow : leb n (firstDeep n reach) ≡ true = last-gave _ reason.Depth _ (sound .1) in
+      let enough = fill-gave (leb (n * placeWidth) (length room)) n _ _ room (tests .2) in
+      (sound .0, shallow, enough .0, ap (λ (o : Outcome (Said ℕ) ℕ). o .room) (listing-given (whole .0) (sound .0) shallow (enough .0)))
 
 -- ---- a first row that is not there
 
-first-beyond : (p : ℕ → Bool) (n : ℕ) → ltb (firstFrom p 0 n) n ≡ false → firstFrom p 0 n ≡ n
+first-beyond : (p : ℕ → Bool) (n : ℕ) → leb n (firstFrom p 0 n) ≡ true → firstFrom p 0 n ≡ n
 first-beyond p n h =
     let most : firstFrom p 0 n ≤ 0 + n = first-from-is p 0 n .to in
-    let least : n ≤ firstFrom p 0 n = ltb-false (firstFrom p 0 n) n h in
+    let least : n ≤ firstFrom p 0 n = leb-true n (firstFrom p 0 n) h in
     omega arith
 
-none-first : (p : ℕ → Bool) (n : ℕ) → ((j : ℕ) → j < n → p j ≡ false) → ltb (firstFrom p 0 n) n ≡ false
-none-first p n h = let all : firstFrom p 0 n ≡ n = first-none p n .1 h in le-ltb (firstFrom p 0 n) n (omega arith)
+none-first : (p : ℕ → Bool) (n : ℕ) → ((j : ℕ) → j < n → p j ≡ false) → leb n (firstFrom p 0 n) ≡ true
+none-first p n h = let all : firstFrom p 0 n ≡ n = first-none p n .1 h in le-leb n (firstFrom p 0 n) (omega arith)
 
 -- ---- the places, read back
 
@@ -109,7 +105,7 @@ places-length n reach i (suc k) = let rest : length (placesFrom n reach (suc i) 
 -- ---- the theorem
 
 module _ (settings : Settings) (vendors sizes s rows₀ attrs₀ : List ℕ) (c : Counts) {rows attrs : List ℕ} (off : settings .erased ≡ false)
-    (read : BothGiven (readDebugSection settings vendors sizes s rows₀ attrs₀) (Read c) rows attrs) where
+    (read : BothGiven (readDebugSection settings vendors sizes s rows₀ attrs₀) (gives c) rows attrs) where
   table-holds : tableHolds s vendors rows attrs c ≡ true
   table-holds = rw (read .first-is, read .second-is) (filled-holds settings vendors sizes s rows₀ attrs₀ c (sym (read .answer-is)))
 
@@ -125,22 +121,22 @@ module _ (settings : Settings) (vendors sizes s rows₀ attrs₀ : List ℕ) (c 
   plain : Plain s rows (c .rows)
   plain = record { rising = held-rising checked; inside = λ j h. held-inside checked j h; unerased = unerased }
 
-  no-erased : ltb (firstErased rows (c .rows)) (c .rows) ≡ false
+  no-erased : leb (c .rows) (firstErased rows (c .rows)) ≡ true
   unfolding firstErased
   no-erased = none-first (λ i. erasedRow (rowAt rows i .flags)) (c .rows) unerased
 
   -- with the tests passed, the listing is that of the table's reaches
   pub tree-listed : (room : List ℕ) → listTree (table s settings vendors sizes rows attrs c) room ≡ listingOf rows (c .rows) (reachIn (table s settings vendors sizes rows attrs c)) room
-  unfolding listTree tested afterTests
+  unfolding listTree testTable must _>>_ inRoom
   tree-listed room = rw (tests-pass .0, tests-pass .1, table-holds)
 
   -- it is given exactly when
-  pub listed-exactly : (room : List ℕ) {r : Listing} {room′ : List ℕ} → Given (listTree (table s settings vendors sizes rows attrs c) room) r room′
-      → (r ≡ Listed (c .rows)) ↔ Listable (c .rows) (reachIn (table s settings vendors sizes rows attrs c)) room
+  pub listed-exactly : (room : List ℕ) {r : Said ℕ} {room′ : List ℕ} → Given (listTree (table s settings vendors sizes rows attrs c) room) r room′
+      → (r ≡ gives (c .rows)) ↔ Listable (c .rows) (reachIn (table s settings vendors sizes rows attrs c)) room
   unfolding firstFault firstDeep deep
   listed-exactly room given =
       let n : ℕ = c .rows in
-      let answer = given .answer-is ∙ ap (λ (o : Outcome Listing ℕ). o .answer) (tree-listed room) in (
+      let answer = given .answer-is ∙ ap (λ (o : Outcome (Said ℕ) ℕ). o .answer) (tree-listed room) in (
         λ p. (let all = passes rows n (reachIn (table s settings vendors sizes rows attrs c)) room (sym answer ∙ p) in
             let nests = nests-exactly n (reachIn (table s settings vendors sizes rows attrs c)) (reaching (settings .endian) s rows attrs n) .0 (first-beyond _ n (all .0)) in
             let none = first-none (deep n (reachIn (table s settings vendors sizes rows attrs c))) n .0 (first-beyond (deep n (reachIn (table s settings vendors sizes rows attrs c))) n (all .1)) in
@@ -151,20 +147,20 @@ module _ (settings : Settings) (vendors sizes s rows₀ attrs₀ : List ℕ) (c 
               enough = leb-true (n * placeWidth) (length room) (all .2);
             }),
         λ l. (let sound : firstFault n (reachIn (table s settings vendors sizes rows attrs c)) ≡ n = nests-exactly n (reachIn (table s settings vendors sizes rows attrs c)) (reaching (settings .endian) s rows attrs n) .1 (l .good, l .nest) in
-            answer ∙ ap (λ (o : Outcome Listing ℕ). o .answer) (gives rows n (reachIn (table s settings vendors sizes rows attrs c)) room no-erased (le-ltb (firstFault n (reachIn (table s settings vendors sizes rows attrs c))) n (omega arith))
+            answer ∙ ap (λ (o : Outcome (Said ℕ) ℕ). o .answer) (listing-given rows n (reachIn (table s settings vendors sizes rows attrs c)) room no-erased (le-leb n (firstFault n (reachIn (table s settings vendors sizes rows attrs c))) (omega arith))
             (none-first (deep n (reachIn (table s settings vendors sizes rows attrs c))) n (λ j h. le-ltb depthLimit (depth n (reachIn (table s settings vendors sizes rows attrs c)) j) (l .shallow j h))) (le-leb (n * placeWidth) (length room) (l .enough)))),
       )
 
   -- what it holds: every row once, in file order, with its depth and its parent; words past them as they were
-  pub listing-holds : (room : List ℕ) {r : Listing} {room′ : List ℕ} → Given (listTree (table s settings vendors sizes rows attrs c) room) r room′
-      → r ≡ Listed (c .rows) → room′ ≡ sets room 0 (placesFrom (c .rows) (reachIn (table s settings vendors sizes rows attrs c)) 0 (c .rows))
+  pub listing-holds : (room : List ℕ) {r : Said ℕ} {room′ : List ℕ} → Given (listTree (table s settings vendors sizes rows attrs c) room) r room′
+      → r ≡ gives (c .rows) → room′ ≡ sets room 0 (placesFrom (c .rows) (reachIn (table s settings vendors sizes rows attrs c)) 0 (c .rows))
   listing-holds room given p =
-      let answer = given .answer-is ∙ ap (λ (o : Outcome Listing ℕ). o .answer) (tree-listed room) in
-      given .room-is ∙ ap (λ (o : Outcome Listing ℕ). o .room) (tree-listed room) ∙ passes rows (c .rows) (reachIn (table s settings vendors sizes rows attrs c)) room (sym answer ∙ p) .3
+      let answer = given .answer-is ∙ ap (λ (o : Outcome (Said ℕ) ℕ). o .answer) (tree-listed room) in
+      given .room-is ∙ ap (λ (o : Outcome (Said ℕ) ℕ). o .room) (tree-listed room) ∙ passes rows (c .rows) (reachIn (table s settings vendors sizes rows attrs c)) room (sym answer ∙ p) .3
 
   -- row j's two words
-  pub listing-places : (room : List ℕ) {r : Listing} {room′ : List ℕ} → Given (listTree (table s settings vendors sizes rows attrs c) room) r room′
-      → r ≡ Listed (c .rows) → (j : ℕ) → j < c .rows
+  pub listing-places : (room : List ℕ) {r : Said ℕ} {room′ : List ℕ} → Given (listTree (table s settings vendors sizes rows attrs c) room) r room′
+      → r ≡ gives (c .rows) → (j : ℕ) → j < c .rows
       → (getD room′ (j * placeWidth) 0 ≡ depth (c .rows) (reachIn (table s settings vendors sizes rows attrs c)) j) × (getD room′ (j * placeWidth + 1) 0 ≡ parent (c .rows) (reachIn (table s settings vendors sizes rows attrs c)) j)
   listing-places room {r} {room′} given p j h =
       let n : ℕ = c .rows in
@@ -185,16 +181,16 @@ module _ (settings : Settings) (vendors sizes s rows₀ attrs₀ : List ℕ) (c 
 
   -- the child walk of any row, with room enough, gives exactly the non-null rows with that parent, in order
   pub walk-holds : Good (c .rows) (reachIn (table s settings vendors sizes rows attrs c)) → NoneCross (c .rows) (reachIn (table s settings vendors sizes rows attrs c)) → (i : ℕ) → i < c .rows → (kids : List ℕ)
-      → length (childrenIn rows (c .rows) (reachIn (table s settings vendors sizes rows attrs c)) i) ≤ length kids → {q : ChildRows} {kids′ : List ℕ}
+      → length (childrenIn rows (c .rows) (reachIn (table s settings vendors sizes rows attrs c)) i) ≤ length kids → {q : Said ℕ} {kids′ : List ℕ}
       → Given (children.childrenOfKey (table s settings vendors sizes rows attrs c) (rowAt rows i .key) kids) q kids′
-      → (q ≡ child.Listed (length (childrenIn rows (c .rows) (reachIn (table s settings vendors sizes rows attrs c)) i))) × (kids′ ≡ sets kids 0 (childrenIn rows (c .rows) (reachIn (table s settings vendors sizes rows attrs c)) i))
-  unfolding children.childrenOfKey tested afterTests
+      → (q ≡ said.gives (length (childrenIn rows (c .rows) (reachIn (table s settings vendors sizes rows attrs c)) i))) × (kids′ ≡ sets kids 0 (childrenIn rows (c .rows) (reachIn (table s settings vendors sizes rows attrs c)) i))
+  unfolding children.childrenOfKey children.childRowsOf rowOf testTable foundRow must _>>=_ _>>_ listedInto
   walk-holds good nest i l kids h {q} {kids′} given =
       let n : ℕ = c .rows in
       let all : Reaching n (reachIn (table s settings vendors sizes rows attrs c)) = reaching (settings .endian) s rows attrs n in
       let nested : Nested n (reachIn (table s settings vendors sizes rows attrs c)) = fault-none n (reachIn (table s settings vendors sizes rows attrs c)) all (nests-exactly n (reachIn (table s settings vendors sizes rows attrs c)) all .1 (good, nest)) in
       let told : children.childrenOfKey (table s settings vendors sizes rows attrs c) (rowAt rows i .key) kids
-      ≡ outcome (child.Listed (length (childrenIn rows n (reachIn (table s settings vendors sizes rows attrs c)) i))) (sets kids 0 (childrenIn rows n (reachIn (table s settings vendors sizes rows attrs c)) i)) =
-      rw (tests-pass .0, tests-pass .1, table-holds) (children-given plain (settings .endian) attrs nested i l kids h)
+      ≡ outcome (said.gives (length (childrenIn rows n (reachIn (table s settings vendors sizes rows attrs c)) i))) (sets kids 0 (childrenIn rows n (reachIn (table s settings vendors sizes rows attrs c)) i)) =
+      rw (tests-pass .0, tests-pass .1, table-holds, row-of-own-key (held-rising checked) i l) (children-given plain (settings .endian) attrs nested i l kids h)
       in
-      (given .answer-is ∙ ap (λ (o : Outcome ChildRows ℕ). o .answer) told, given .room-is ∙ ap (λ (o : Outcome ChildRows ℕ). o .room) told)
+      (given .answer-is ∙ ap (λ (o : Outcome (Said ℕ) ℕ). o .answer) told, given .room-is ∙ ap (λ (o : Outcome (Said ℕ) ℕ). o .room) told)

@@ -11,18 +11,19 @@ use lib.Dec.{leb, ltb, eqb}
 use borrow.Author.Tests.{le-leb, leb-false, eqb-true}
 use Rattle.lent.specs.Outcome.{outcome}
 use Rattle.numbers.specs.declared.Endian.{Endian}
+use Rattle.format.specs.Said.{gives, inRoom, fillsRoom}
 use Rattle.tables.specs.Row.{rowAt, erasedRow}
 use Rattle.tables.specs.Find.{rowOfKey}
 use Rattle.tables.specs.Inside.Find.{Rising}
-use Rattle.tables.proofs.Laws.Find.{row-found, row-of-own-key}
+use Rattle.tables.proofs.Laws.Find.{row-found}
 use Rattle.tables.specs.declared.find.Found.{Found}
 use Rattle.tables.specs.declared.find.Found.the-variants.{At, Nothing}
 use Rattle.entries.proofs.Laws.KnownRun.{by-test}
 use Rattle.links.specs.Attribute.{siblingNumber, referenceOf}
 use Rattle.links.specs.Walk.{ends, stops, walkFrom}
 use Rattle.links.specs.Links.{nextFrom, nextRow, rowNumber, siblingBy, siblingRow, childWalk, nullRow, nonNull}
-use Rattle.links.specs.Children.{given, childrenBy}
-use Rattle.links.specs.declared.children.ChildRows.the-variants.{Listed}
+use Rattle.links.specs.Children.{childrenMet}
+use Rattle.links.specs.Inside.Children.{listedInto}
 use Rattle.links.specs.declared.lookup.Reference.{Reference}
 use Rattle.links.specs.declared.lookup.Reference.the-variants as reference
 use Rattle.tree.specs.Pick.{allFrom}
@@ -119,16 +120,15 @@ non-null-all rows p i (suc k) =
     (λ t. by-test (nullRow rows i) (λ u. rw (t, u) (non-null-all rows p (suc i) k)) (λ u. rw (t, u, non-null-all rows p (suc i) k)))
     (λ t. rw t (non-null-all rows p (suc i) k))
 
--- with room enough they are what the walk of row i's key gives
+-- with room enough they are what the walk of row i gives
 pub children-given : {s rows : List ℕ} {n : ℕ} → Plain s rows n → (e : Endian) (attrs : List ℕ) → Nested n (λ i. reachEnd e s rows attrs n i)
     → (i : ℕ) → i < n → (room : List ℕ) → length (childrenIn rows n (λ k. reachEnd e s rows attrs n k) i) ≤ length room
-    → childrenBy e s rows attrs n (rowAt rows i .key) room (rowOfKey rows n (rowAt rows i .key))
-    ≡ outcome (Listed (length (childrenIn rows n (λ k. reachEnd e s rows attrs n k) i))) (sets room 0 (childrenIn rows n (λ k. reachEnd e s rows attrs n k) i))
-unfolding childrenBy given
+    → listedInto rows (rowAt rows i .key) room (childWalk e s rows attrs n i)
+    ≡ outcome (gives (length (childrenIn rows n (λ k. reachEnd e s rows attrs n k) i))) (sets room 0 (childrenIn rows n (λ k. reachEnd e s rows attrs n k) i))
+unfolding listedInto childrenMet inRoom fillsRoom
 children-given {s} {rows} {n} plain e attrs nested i l room h =
     let kids : List ℕ = childrenIn rows n (λ k. reachEnd e s rows attrs n k) i in
     rw (
-      row-of-own-key (plain .rising) i l,
       walk-parent plain e attrs nested i l,
       non-null-all rows (λ j. eqb (parent n (λ k. reachEnd e s rows attrs n k) j) (suc i)) 0 n,
       le-leb (length kids) (length room) h,

@@ -1,19 +1,26 @@
-use Rattle.listing.proofs.Laws.Report.{listed-printed, unlisted-printed, unfit-printed}
+use Rattle.listing.proofs.Laws.Report.{case-printed}
+use Rattle.listing.specs.Report.{answerText}
+use Rattle.tree.specs.Tree.{saidListing}
+use mathlib.Core.Path.{ap}
 use borrow.Author.Needs.{needs}
 use Rattle.listing.proofs.report.report_places.Statement.{statement}
 use Rattle.listing.proofs.report.report_places.Tie as tie
 
 write-listing-requires : tie.Need-write-listing-requires
-write-listing-requires c κs = c .before .before .before .before .before .before .before .pre .few _ (c .before .before .answer .given .1)
+unfolding saidListing
+write-listing-requires c κs = c .before .before .before .before .before .before .before .pre .few _ (ap saidListing (c .before .before .answer .given .1))
 
 returns : tie.Need-returns
-returns c = listed-printed _ _ _ _ (c .before .before .before .before .before .answer .given .1) (c .before .before .write-listing .ensures)
+unfolding saidListing answerText
+returns c = case-printed saidListing _ (c .before .before .before .before .before .answer .given .1) (c .before .before .write-listing .ensures)
 
 returns-2 : tie.Need-returns-2
-returns-2 c = unlisted-printed _ _ _ _ (c .before .before .before .before .before .answer2 .given .1) (c .before .before .report-refusal .ensures)
+unfolding saidListing answerText
+returns-2 c = case-printed saidListing _ (c .before .before .before .before .before .answer2 .given .1) (c .before .before .report-refusal .ensures)
 
 returns-3 : tie.Need-returns-3
-returns-3 c = unfit-printed _ _ _ _ (c .before .before .before .before .enum-told .given .1) (c .before .before .report-room .ensures)
+unfolding saidListing answerText
+returns-3 c = case-printed saidListing _ (c .before .before .before .before .enum-told .given .1) (c .before .before .report-room .ensures)
 
 pub report-places-spec : {M : Type 1} → statement M
 report-places-spec =
