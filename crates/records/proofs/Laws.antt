@@ -1,5 +1,5 @@
--- Laws. `Taken` to `Typedef`: for each way that the code comes to an answer. `UnionFilled`, `EnumerationFilled`: what a room then holds. `TypedefWords`:
--- document 01's own words of a typedef come to the same. `Only`: no second answer fits.
+-- Laws. `Taken` to `Typedef`: for each way that the code comes to an answer. `UnionFilled`, `EnumerationFilled`: what a room then holds. `Only`: no
+-- second answer fits.
 pub mod Taken
 pub mod Scan
 pub mod Fields
@@ -13,7 +13,7 @@ pub mod Unions
 pub mod Elements
 pub mod Enumeration
 pub mod Typedef
+pub mod Back
 pub mod Only
 pub mod UnionFilled
 pub mod EnumerationFilled
-pub mod TypedefWords

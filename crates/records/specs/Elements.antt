@@ -10,6 +10,8 @@ use Rattle.numbers.specs.Value.{readAt, signedOf}
 use Rattle.numbers.specs.declared.Endian.{Endian}
 use Rattle.numbers.specs.declared.signed.ReadSigned.{ReadSigned}
 use Rattle.numbers.specs.declared.signed.ReadSigned.the-variants as signed
+use Rattle.format.specs.Said.{Said, gives, refuse, _>>=_}
+use Rattle.format.specs.declared.refusal.Reason.the-variants as reason
 use Rattle.attributes.specs.Text.{zeroFrom}
 use Rattle.records.specs.declared.fields.Word.{Word}
 use Rattle.records.specs.declared.fields.Word.the-variants as word
@@ -56,34 +58,25 @@ pub record Listed : Type 0 where
   pub place : ℕ
   pub length : ℕ
 
--- the elements that are listed, or that bytes are missing
-pub data Elements : Type 0 where
-  are : List Listed → Elements
-  missing : Elements
-
--- one element more, before the others
-unfoldable pub elementsThen : Listed → Elements → Elements
-elementsThen x (are xs) = are (x ∷ xs)
-elementsThen x missing = missing
-
--- an element, `next` reading on from a place; the block stands at `base` of the section
-unfoldable pub elementThen : ℕ → (ℕ → Elements) → Element → Elements
-elementThen base next (element.Is value place length next′) =
-    elementsThen (record { value = value; place = base + place; length = length }) (next next′)
+-- an element, `next` reading on from a place; the block stands at `base` of the section; 17 where bytes are missing
+unfoldable pub elementThen : ℕ → (ℕ → Said (List Listed)) → Element → Said (List Listed)
+elementThen base next (element.Is value place length next′) = do
+  xs ← next next′
+  gives (record { value = value; place = base + place; length = length } ∷ xs)
 elementThen base next (element.Name next′) = next next′
-elementThen base next element.Missing = missing
+elementThen base next element.Missing = refuse reason.Block 0
 
 -- elements one after the other, at most `turns` of them, to the end of the block
-unfoldable pub elementsFrom : ℕ → Endian → ℕ → List ℕ → ℕ → ℕ → Elements
-elementsFrom width e base block zero at = are []
+unfoldable pub elementsFrom : ℕ → Endian → ℕ → List ℕ → ℕ → ℕ → Said (List Listed)
+elementsFrom width e base block zero at = gives []
 elementsFrom width e base block (suc turns) at =
     elim (ltb at (length block)) [
       | true ↦ elementThen base (λ k. elementsFrom width e base block turns k) (elementAt width e block at)
-      | false ↦ are []
+      | false ↦ gives []
     ]
 
 -- a whole list: an element has at least a byte, its zero
-unfoldable pub elementsIn : ℕ → Endian → ℕ → List ℕ → Elements
+unfoldable pub elementsIn : ℕ → Endian → ℕ → List ℕ → Said (List Listed)
 elementsIn width e base block = elementsFrom width e base block (length block) 0
 
 -- ---- in the rooms

@@ -5,22 +5,17 @@ use mathlib.Core.List.{List}
 use lib.Dec.{eqb}
 use Rattle.format.specs.FormKind.{formOf}
 use Rattle.format.specs.AttributeKind as attribute
-use Rattle.format.specs.declared.refusal.Refusal.{Refusal}
+use Rattle.format.specs.Said.{Said, gives, refuses, refuse, refusal, _>>=_, placed}
 use Rattle.format.specs.declared.refusal.Reason.the-variants as reason
 use Rattle.attributes.specs.Text.{zeroFrom}
 use Rattle.attributes.specs.Parts.{blockAt}
 use Rattle.blocks.specs.Location.{processOffset, processAddress}
 use Rattle.blocks.specs.Types.{processType}
-use Rattle.blocks.specs.declared.location.Located.{Located}
-use Rattle.blocks.specs.declared.location.Located.the-variants as located
-use Rattle.blocks.specs.declared.types.Typed.{Typed}
-use Rattle.blocks.specs.declared.types.Typed.the-variants as typed
-use Rattle.tables.specs.Tests.{refusedAt}
+use Rattle.blocks.specs.declared.types.Type.{«Type»}
 use Rattle.tables.specs.declared.find.Found.{Found}
 use Rattle.tables.specs.declared.find.Found.the-variants as found
 use Rattle.links.specs.Typed.{wordAt}
-use Rattle.links.specs.declared.typed.Value.{Value}
-use Rattle.links.specs.declared.typed.Value.the-variants as value
+use Rattle.links.specs.Maybe.{Maybe, none, some}
 use Rattle.records.specs.Scan.{attributeAt, isType}
 use Rattle.records.specs.declared.scan.Run.{Run}
 use Rattle.records.specs.declared.scan.Attribute.{Attribute}
@@ -31,8 +26,6 @@ use Rattle.records.specs.declared.fields.Name.{Name}
 use Rattle.records.specs.declared.fields.Name.the-variants as name
 use Rattle.records.specs.declared.fields.Word.{Word}
 use Rattle.records.specs.declared.fields.Word.the-variants as word
-use Rattle.records.specs.declared.fields.Needed.{Needed}
-use Rattle.records.specs.declared.fields.Needed.the-variants as need
 use Rattle.records.specs.declared.fields.Visibility.{Visibility}
 use Rattle.records.specs.declared.fields.Visibility.the-variants as visibility
 
@@ -66,55 +59,55 @@ nameBy s attrs found.Nothing = name.Nothing
 unfoldable pub nameOf : List ℕ → List ℕ → Run → ℕ → Name
 nameOf s attrs run number = nameBy s attrs (lastOf (sought.Number number) attrs run)
 
+-- ---- what is needed: 15 without
+
+-- an attribute of the table
+unfoldable pub attributeNeeded : List ℕ → ℕ → Found → Said Attribute
+attributeNeeded attrs key (found.At k) = gives (attributeAt attrs k)
+attributeNeeded attrs key found.Nothing = refuse reason.Missing key
+
+-- a name
+unfoldable pub nameNeeded : ℕ → Name → Said Text
+nameNeeded key (name.Is text) = gives text
+nameNeeded key name.Nothing = refuse reason.Missing key
+
+-- a number
+unfoldable pub wordNeeded : ℕ → Word → Said ℕ
+wordNeeded key (word.Is x) = gives x
+wordNeeded key word.Nothing = refuse reason.Missing key
+
 -- ---- types
 
--- a type whose refusal is placed at the row
-unfoldable pub replaced : ℕ → Typed → Typed
-replaced key (typed.Is t) = typed.Is t
-replaced key (typed.Refused why) = typed.Refused (refusedAt key (why .reason))
-
--- a record needs its type: 15 without
-unfoldable pub typeBy : List ℕ → List ℕ → Run → Found → Typed
-typeBy s attrs run (found.At k) =
-    replaced (run .key) (processType (run .ends) s (attributeAt attrs k .number) (attributeAt attrs k .value))
-typeBy s attrs run found.Nothing = typed.Refused (refusedAt (run .key) reason.Missing)
+-- the type that an attribute of the table says; its refusal is placed at the row
+unfoldable pub typeBy : List ℕ → List ℕ → Run → Found → Said «Type»
+typeBy s attrs run found = do
+  a ← attributeNeeded attrs (run .key) found
+  placed (run .key) (processType (run .ends) s (a .number) (a .value))
 
 -- the type that the last type attribute says
-unfoldable pub typeOf : List ℕ → List ℕ → Run → Typed
+unfoldable pub typeOf : List ℕ → List ℕ → Run → Said «Type»
 typeOf s attrs run = typeBy s attrs run (lastOf sought.Type attrs run)
 
 -- ---- locations
 
--- a refusal is placed at the row
-unfoldable pub asOffset : ℕ → Located → Needed
-asOffset key (located.Is x) = need.Is x
-asOffset key (located.Refused why) = need.Refused (refusedAt key (why .reason))
-
--- the offset that a location says
-unfoldable pub offsetIn : Run → List ℕ → Needed
-offsetIn run block = asOffset (run .key) (processOffset (run .ends .section) block)
-
--- a member needs its offset: 15 without
-unfoldable pub offsetBy : List ℕ → List ℕ → Run → Found → Needed
-offsetBy s attrs run (found.At k) = offsetIn run (blockAt (run .ends .«data») 2 s (attributeAt attrs k .value))
-offsetBy s attrs run found.Nothing = need.Refused (refusedAt (run .key) reason.Missing)
+-- the block of a location
+unfoldable pub locationBlock : List ℕ → Run → Attribute → List ℕ
+locationBlock s run a = blockAt (run .ends .«data») 2 s (a .value)
 
 -- the offset of the row's last location
-unfoldable pub offsetField : List ℕ → List ℕ → Run → Needed
-offsetField s attrs run = offsetBy s attrs run (lastOf (sought.Number attribute.Location) attrs run)
+unfoldable pub offsetField : List ℕ → List ℕ → Run → Said ℕ
+offsetField s attrs run = do
+  a ← attributeNeeded attrs (run .key) (lastOf (sought.Number attribute.Location) attrs run)
+  placed (run .key) (processOffset (run .ends .section) (locationBlock s run a))
 
 -- a location that is no address was refused by the scan
-unfoldable pub asAddress : Located → Word
-asAddress (located.Is x) = word.Is x
-asAddress (located.Refused why) = word.Nothing
+unfoldable pub asAddress : Said ℕ → Word
+asAddress (gives x) = word.Is x
+asAddress (refuses number place counts) = word.Nothing
 
--- the address that a location says
-unfoldable pub addressIn : Run → List ℕ → Word
-addressIn run block = asAddress (processAddress (run .ends .section) block)
-
--- the address of an attribute of the table
+-- the address that an attribute of the table says
 unfoldable pub addressBy : List ℕ → List ℕ → Run → Found → Word
-addressBy s attrs run (found.At k) = addressIn run (blockAt (run .ends .«data») 2 s (attributeAt attrs k .value))
+addressBy s attrs run (found.At k) = asAddress (processAddress (run .ends .section) (locationBlock s run (attributeAt attrs k)))
 addressBy s attrs run found.Nothing = word.Nothing
 
 -- a variable's address, if it has one
@@ -124,10 +117,9 @@ addressField s attrs run = addressBy s attrs run (lastOf (sought.Number attribut
 -- ---- numbers
 
 -- a number that is there, or none
-unfoldable pub asWord : Value → Word
-asWord (value.Is x) = word.Is x
-asWord value.Nothing = word.Nothing
-asWord (value.Refused why) = word.Nothing
+unfoldable pub asWord : Maybe ℕ → Word
+asWord (some x) = word.Is x
+asWord none = word.Nothing
 
 -- what an attribute says by its form; in a table that was tested the bytes are there
 unfoldable pub wordIn : List ℕ → Run → Attribute → Word
@@ -150,11 +142,6 @@ roleName s attrs run role = cond (eqb role 0) name.Nothing (nameOf s attrs run r
 unfoldable pub roleWord : List ℕ → List ℕ → Run → ℕ → Word
 roleWord s attrs run role = cond (eqb role 0) word.Nothing (wordOf s attrs run role)
 
--- what a record needs: 15 without
-unfoldable pub needed : ℕ → Word → Needed
-needed key (word.Is x) = need.Is x
-needed key word.Nothing = need.Refused (refusedAt key reason.Missing)
-
 -- ---- visibility
 
 -- what one of the three attributes says; nothing but their numbers is looked at
@@ -170,15 +157,3 @@ visibilityIn attrs found.Nothing = visibility.Public
 -- the row's: the last of the three counts
 unfoldable pub visibilityOf : List ℕ → Run → Visibility
 visibilityOf attrs run = visibilityIn attrs (lastOf sought.Visibility attrs run)
-
--- ---- a name, and a ByteSize that is needed: of unions and enumerations
-
-module _ {A : Type 0} (refused : Refusal → A) (answer : Name → ℕ → A) (s attrs : List ℕ) (run : Run) where
-  -- the answer of a name and a size
-  unfoldable pub withByteSize : Needed → A
-  withByteSize (need.Is size) = answer (nameOf s attrs run attribute.Name) size
-  withByteSize (need.Refused why) = refused why
-
-  -- 15 without a ByteSize; the name may be missing
-  unfoldable pub byteSized : A
-  byteSized = withByteSize (needed (run .key) (wordOf s attrs run attribute.ByteSize))

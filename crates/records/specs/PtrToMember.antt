@@ -3,46 +3,38 @@ use Prim.Native.Nat.{ℕ}
 use mathlib.Core.List.{List}
 use Rattle.tables.specs.Table.{Table}
 use Rattle.format.specs.AttributeKind as attribute
+use Rattle.format.specs.Said.{Said, gives, refusal, _>>=_, _>>_}
 use Rattle.format.specs.declared.settings.Settings.{Settings}
-use Rattle.blocks.specs.declared.types.Type.{«Type»}
-use Rattle.blocks.specs.declared.types.Typed.{Typed}
-use Rattle.blocks.specs.declared.types.Typed.the-variants as typed
-use Rattle.tables.specs.Keyed.{inRowOfKey}
+use Rattle.tables.specs.Keyed.{rowOf}
 use Rattle.records.specs.Scan.{runOf}
-use Rattle.records.specs.Fields.{typeOf, wordOf, needed}
-use Rattle.records.specs.Front.{frontOf, unless}
+use Rattle.records.specs.Fields.{typeOf, wordOf, wordNeeded}
+use Rattle.records.specs.Front.{frontOf}
 use Rattle.records.specs.declared.taken.Record.the-variants as record′
 use Rattle.records.specs.declared.scan.Run.{Run}
-use Rattle.records.specs.declared.fields.Needed.{Needed}
-use Rattle.records.specs.declared.fields.Needed.the-variants as need
+use Rattle.records.specs.declared.ptr_to_member.PtrToMember.{PtrToMember}
 use Rattle.records.specs.declared.ptr_to_member.PtrToMemberRead.{PtrToMemberRead}
 use Rattle.records.specs.declared.ptr_to_member.PtrToMemberRead.the-variants.{Is, Refused}
 
-module _ (s attrs : List ℕ) (run : Run) where
-  -- in this order: type, containing type. From the last step to the first
-  unfoldable pub ptrContained : «Type» → Needed → PtrToMemberRead
-  ptrContained of (need.Is key) = Is (record { of = of; containing = key })
-  ptrContained of (need.Refused why) = Refused why
+-- what an answer says
+unfoldable pub saidPtrToMemberRead : PtrToMemberRead → Said PtrToMember
+saidPtrToMemberRead (Is pointer) = gives pointer
+saidPtrToMemberRead (Refused why) = refusal why
 
-  -- with its type, the containing type is looked up
-  unfoldable pub ptrTyped : «Type» → PtrToMemberRead
-  ptrTyped of = ptrContained of (needed (run .key) (wordOf s attrs run attribute.ContainingType))
-
-  -- a type that is refused refuses the record
-  unfoldable pub typeTaken : Typed → PtrToMemberRead
-  typeTaken (typed.Is of) = ptrTyped of
-  typeTaken (typed.Refused why) = Refused why
-
-  -- what the row's attributes say of a pointer to member
-  unfoldable pub ptrFields : PtrToMemberRead
-  ptrFields = typeTaken (typeOf s attrs run)
+-- what the row's attributes say of a pointer to member: type, containing type
+unfoldable pub ptrFields : List ℕ → List ℕ → Run → Said PtrToMember
+ptrFields s attrs run = do
+  of ← typeOf s attrs run
+  containing ← wordNeeded (run .key) (wordOf s attrs run attribute.ContainingType)
+  gives (record { of = of; containing = containing })
 
 -- the pointer to member at row i
-unfoldable pub ptrAt : Settings → List ℕ → List ℕ → List ℕ → ℕ → ℕ → PtrToMemberRead
-ptrAt settings s rows attrs n i =
-    unless (frontOf settings s rows attrs n record′.PtrToMember i) Refused (ptrFields s attrs (runOf (settings .endian) rows i))
+unfoldable pub ptrAt : Settings → List ℕ → List ℕ → List ℕ → ℕ → ℕ → Said PtrToMember
+ptrAt settings s rows attrs n i = do
+  frontOf settings s rows attrs n record′.PtrToMember i
+  ptrFields s attrs (runOf (settings .endian) rows i)
 
 -- the pointer to member of a key
-unfoldable pub processPtrToMemberTag : Table → ℕ → PtrToMemberRead
-processPtrToMemberTag t key =
-    inRowOfKey t key Refused (ptrAt (t .settings) (t .section) (t .rows) (t .attrs) (t .counts .rows))
+unfoldable pub processPtrToMemberTag : Table → ℕ → Said PtrToMember
+processPtrToMemberTag t key = do
+  i ← rowOf t key
+  ptrAt (t .settings) (t .section) (t .rows) (t .attrs) (t .counts .rows) i

@@ -13,16 +13,12 @@ use Rattle.format.specs.AttributeKind.{LowPc, HighPc, Member, ContainingType, S
 use Rattle.format.specs.declared.form_kind.FormKind.{FormKind}
 use Rattle.format.specs.declared.form_kind.FormKind.the-variants.{Addr, Ref, Block2, Block4, Data2, Data4, String}
 use Rattle.format.specs.declared.settings.Roles.{Roles}
+use Rattle.format.specs.Said.{Said, gives, refusal, must, _>>_, placed}
 use Rattle.format.specs.declared.refusal.Reason.the-variants as reason
 use Rattle.attributes.specs.Parts.{blockAt}
 use Rattle.blocks.specs.Location.{processOffset, processAddress}
 use Rattle.blocks.specs.Types.{processType}
-use Rattle.blocks.specs.declared.location.Located.{Located}
-use Rattle.blocks.specs.declared.location.Located.the-variants as located
-use Rattle.blocks.specs.declared.types.Typed.{Typed}
-use Rattle.blocks.specs.declared.types.Typed.the-variants as typed
 use Rattle.tables.specs.Row.{rowAt, attrAt}
-use Rattle.tables.specs.Tests.{refusedAt}
 use Rattle.tables.specs.Row.{endsOf}
 use Rattle.format.specs.Settings.{plays}
 use Rattle.records.specs.Taken.{takes}
@@ -30,8 +26,6 @@ use Rattle.records.specs.declared.taken.Record.{Record}
 use Rattle.records.specs.declared.taken.Record.the-variants as record′
 use Rattle.records.specs.declared.scan.Run.{Run}
 use Rattle.records.specs.declared.scan.Attribute.{Attribute}
-use Rattle.records.specs.declared.scan.Fault.{Fault}
-use Rattle.records.specs.declared.scan.Fault.the-variants.{Clear, Refused}
 
 -- row i's attributes, its key, the endiannesses
 unfoldable pub runOf : Endian → List ℕ → ℕ → Run
@@ -75,57 +69,44 @@ expectedForm roles number =
 unfoldable pub isType : ℕ → Bool
 isType number = eqb number FundType || (eqb number ModFundType || (eqb number UserDefType || eqb number ModUDType))
 
--- a type's, and a location's fault, placed at the row
-unfoldable pub typedFault : ℕ → Typed → Fault
-typedFault key (typed.Is t) = Clear
-typedFault key (typed.Refused why) = Refused (refusedAt key (why .reason))
-
--- a location that is refused, placed at the row
-unfoldable pub locatedFault : ℕ → Located → Fault
-locatedFault key (located.Is x) = Clear
-locatedFault key (located.Refused why) = Refused (refusedAt key (why .reason))
-
 -- a location is an address for a variable, an offset for all others
-unfoldable pub locationFault : Record → ℕ → Endian → List ℕ → Fault
-locationFault record′.Member key e block = locatedFault key (processOffset e block)
-locationFault record′.Union key e block = locatedFault key (processOffset e block)
-locationFault record′.Enumeration key e block = locatedFault key (processOffset e block)
-locationFault record′.Typedef key e block = locatedFault key (processOffset e block)
-locationFault record′.Variable key e block = locatedFault key (processAddress e block)
-locationFault record′.Label key e block = locatedFault key (processOffset e block)
-locationFault record′.PtrToMember key e block = locatedFault key (processOffset e block)
-locationFault record′.OverlayBranch key e block = locatedFault key (processOffset e block)
+unfoldable pub locationOf : Record → Endian → List ℕ → Said ℕ
+locationOf record′.Member e block = processOffset e block
+locationOf record′.Union e block = processOffset e block
+locationOf record′.Enumeration e block = processOffset e block
+locationOf record′.Typedef e block = processOffset e block
+locationOf record′.Variable e block = processAddress e block
+locationOf record′.Label e block = processOffset e block
+locationOf record′.PtrToMember e block = processOffset e block
+locationOf record′.OverlayBranch e block = processOffset e block
+
+-- what is wrong with it, placed at the row
+unfoldable pub faultOf : {A : Type 0} → ℕ → Said A → Said Unit
+faultOf key d = placed key d >> gives tt
 
 -- what is wrong with the value of a type attribute or of a location; other values are not looked at here
-unfoldable pub contentFault : Record → Run → List ℕ → Attribute → Fault
+unfoldable pub contentFault : Record → Run → List ℕ → Attribute → Said Unit
 contentFault r run s a =
-    cond (isType (a .number)) (typedFault (run .key) (processType (run .ends) s (a .number) (a .value)))
-    (cond (eqb (a .number) Location) (locationFault r (run .key) (run .ends .section) (blockAt (run .ends .«data») 2 s (a .value))) Clear)
+    cond (isType (a .number)) (faultOf (run .key) (processType (run .ends) s (a .number) (a .value)))
+    (cond (eqb (a .number) Location) (faultOf (run .key) (locationOf r (run .ends .section) (blockAt (run .ends .«data») 2 s (a .value)))) (gives tt))
 
 -- ---- an attribute, and all of them
 
--- 14 where the form is not the expected one, then what the value says
-unfoldable pub formFault : Roles → Record → Run → List ℕ → Attribute → Fault
-formFault roles r run s a =
-    cond (isForm (expectedForm roles (a .number)) (a .number)) (contentFault r run s a) (Refused (refusedAt (run .key) reason.Form))
-
--- 13 where the record does not take the attribute, then its form
-unfoldable pub attributeFault : Roles → Record → Run → List ℕ → Attribute → Fault
-attributeFault roles r run s a = cond (takes roles r (a .number)) (formFault roles r run s a) (Refused (refusedAt (run .key) reason.Extra))
-
--- the first of two faults
-unfoldable pub orElse : Fault → Fault → Fault
-orElse Clear next = next
-orElse (Refused why) next = Refused why
+-- 13 where the record does not take the attribute, 14 where the form is not the expected one, then what the value says
+unfoldable pub attributeFault : Roles → Record → Run → List ℕ → Attribute → Said Unit
+attributeFault roles r run s a = do
+  must (takes roles r (a .number)) reason.Extra (run .key)
+  must (isForm (expectedForm roles (a .number)) (a .number)) reason.Form (run .key)
+  contentFault r run s a
 
 -- the first fault among n attributes from number j of the run on
-unfoldable pub faultsFrom : (ℕ → Fault) → ℕ → ℕ → Fault
-faultsFrom fault j zero = Clear
-faultsFrom fault j (suc n) = orElse (fault j) (faultsFrom fault (suc j) n)
+unfoldable pub faultsFrom : (ℕ → Said Unit) → ℕ → ℕ → Said Unit
+faultsFrom fault j zero = gives tt
+faultsFrom fault j (suc n) = fault j >> faultsFrom fault (suc j) n
 
 module _ (roles : Roles) (r : Record) (run : Run) (s attrs : List ℕ) where
   -- attribute j of the run
-  unfoldable pub faultAt : ℕ → Fault
+  unfoldable pub faultAt : ℕ → Said Unit
   faultAt j = attributeFault roles r run s (attributeAt attrs (run .first + j))
 
   -- the number of attribute j

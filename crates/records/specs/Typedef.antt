@@ -1,147 +1,144 @@
 -- Typedefs (document 01, 'Types, records, sizes'; the Rust's `process_typedef_tag`): attributes in their order; a specification fills what is
--- missing at that point, later attributes overwrite. So the last name of the row itself counts, without one that of the first specification; a type
--- likewise. Each specification is read whole. So many may be followed one after the other: 10 at the row past the limit, cycles too.
-use Prim.Native.Nat.{ℕ, zero, suc, _+_, _-_}
-use mathlib.Core.Bool.{true, false, cond}
+-- missing at that point, later attributes overwrite. Each specification is read whole. So many may be followed one after the other: 10 at the row
+-- past the limit, cycles too.
+use Prim.Native.Nat.{ℕ, zero, suc, _+_}
+use mathlib.Core.Bool.{true, false, not, cond}
 use mathlib.Core.List.{List}
 use lib.Dec.{eqb}
 use Rattle.tables.specs.Table.{Table}
 use Rattle.numbers.specs.Value.{readAt}
 use Rattle.format.specs.AttributeKind as attribute
 use Rattle.format.specs.Limits.{specificationLimit}
+use Rattle.format.specs.Said.{Said, gives, refuse, refusal, must, _>>=_, _>>_, placed}
 use Rattle.format.specs.declared.settings.Settings.{Settings}
 use Rattle.format.specs.declared.refusal.Reason.the-variants as reason
-use Rattle.blocks.specs.declared.types.Typed.{Typed}
-use Rattle.blocks.specs.declared.types.Typed.the-variants as typed
+use Rattle.blocks.specs.Types.{processType}
+use Rattle.blocks.specs.declared.types.Type.{«Type»}
 use Rattle.tables.specs.Row.{rowAt}
 use Rattle.tables.specs.Find.{rowOfKey}
-use Rattle.tables.specs.Tests.{refusedAt}
-use Rattle.tables.specs.declared.find.Found.{Found}
-use Rattle.tables.specs.declared.find.Found.the-variants as found
+use Rattle.tables.specs.Keyed.{foundRow, rowOf}
 use Rattle.links.specs.Links.{childWalk}
-use Rattle.tables.specs.Keyed.{inRowOfKey}
 use Rattle.records.specs.Taken.{special}
-use Rattle.records.specs.Scan.{runOf, attributeAt, numberAt, faultAt}
-use Rattle.records.specs.Fields.{lastOf, nameOf, typeBy}
-use Rattle.records.specs.Front.{kindFault, childlessFault, unless}
+use Rattle.records.specs.Scan.{runOf, attributeAt, numberAt, faultAt, isType}
+use Rattle.records.specs.Fields.{textOf, nameNeeded}
+use Rattle.records.specs.Front.{kindFault, childlessFault}
 use Rattle.records.specs.declared.taken.Record.the-variants as record′
 use Rattle.records.specs.declared.scan.Run.{Run}
-use Rattle.records.specs.declared.fields.Sought.the-variants as sought
+use Rattle.records.specs.declared.scan.Attribute.{Attribute}
 use Rattle.records.specs.declared.fields.Text.{Text}
 use Rattle.records.specs.declared.fields.Name.{Name}
 use Rattle.records.specs.declared.fields.Name.the-variants as name
 use Rattle.records.specs.declared.typedef.Typedef.{Typedef}
 use Rattle.records.specs.declared.typedef.TypedefRead.{TypedefRead}
 use Rattle.records.specs.declared.typedef.TypedefRead.the-variants.{Is, Refused}
-use Rattle.records.specs.declared.typedef.Filling.{Filling}
-use Rattle.records.specs.declared.typedef.Filling.the-variants as filling
-use Rattle.records.specs.declared.typedef.Specified.{Specified}
-use Rattle.records.specs.declared.typedef.Specified.the-variants as specified′
 
--- ---- name and type
+-- what an answer says
+unfoldable pub saidTypedefRead : TypedefRead → Said Typedef
+saidTypedefRead (Is typedef) = gives typedef
+saidTypedefRead (Refused why) = refusal why
 
--- the first specification fills; later ones find nothing missing
-unfoldable pub firstFilling : Filling → Typedef → Filling
-firstFilling (filling.Is first) next = filling.Is first
-firstFilling filling.Nothing next = filling.Is next
+-- ---- what is known at some point
 
--- the row's own name, or that of a specification
-unfoldable pub typedefName : Name → Filling → Name
-typedefName (name.Is text) f = name.Is text
-typedefName name.Nothing (filling.Is first) = name.Is (first .name)
-typedefName name.Nothing filling.Nothing = name.Nothing
+-- a type, if there is one yet
+pub data Held : Type 0 where
+  nothing : Held
+  holds : Said «Type» → Held
 
-module _ (s attrs : List ℕ) (run : Run) where
-  -- the row's own type, or that of a specification: 15 without
-  unfoldable pub typedefType : Found → Filling → Typed
-  typedefType (found.At k) f = typeBy s attrs run (found.At k)
-  typedefType found.Nothing (filling.Is first) = typed.Is (first .of)
-  typedefType found.Nothing filling.Nothing = typed.Refused (refusedAt (run .key) reason.Missing)
+-- a name and a type, if there are any yet
+pub record Known : Type 0 where
+  pub name : Name
+  pub of : Held
 
-  -- name first, then type: 15 where either is missing. From the last step to the first
-  unfoldable pub withType : Text → Typed → TypedefRead
-  withType text (typed.Is of) = Is (record { name = text; of = of })
-  withType text (typed.Refused why) = Refused why
+-- nothing is known yet
+unfoldable pub unknown : Known
+unknown = record { name = name.Nothing; of = nothing }
 
-  -- with its name, the type is looked up
-  unfoldable pub typedefWith : Filling → Text → TypedefRead
-  typedefWith f text = withType text (typedefType (lastOf sought.Type attrs run) f)
+-- a specification fills a name that is missing
+unfoldable pub nameFilled : Name → Text → Name
+nameFilled (name.Is text) other = name.Is text
+nameFilled name.Nothing other = name.Is other
 
-  -- 15 without a name
-  unfoldable pub withName : Filling → Name → TypedefRead
-  withName f (name.Is text) = typedefWith f text
-  withName f name.Nothing = Refused (refusedAt (run .key) reason.Missing)
+-- and a type
+unfoldable pub typeFilled : Held → «Type» → Held
+typeFilled (holds t) other = holds t
+typeFilled nothing other = holds (gives other)
 
-  -- what the row's attributes and its specifications say
-  unfoldable pub typedefFields : Filling → TypedefRead
-  typedefFields f = withName f (typedefName (nameOf s attrs run attribute.Name) f)
+-- what a specification fills
+unfoldable pub filledIn : Known → Typedef → Known
+filledIn known t = record { name = nameFilled (known .name) (t .name); of = typeFilled (known .of) (t .of) }
 
-module _ (settings : Settings) (s rows attrs : List ℕ) (n : ℕ) where
-  -- after the attributes: no children, then name and type
-  unfoldable pub typedefEnd : ℕ → Filling → TypedefRead
-  typedefEnd i f =
-      unless (childlessFault rows i (childWalk (settings .endian) s rows attrs n i)) Refused
-      (typedefFields s attrs (runOf (settings .endian) rows i) f)
+-- an attribute overwrites what it says: a name, a type, or nothing of both
+unfoldable pub overwritten : List ℕ → Run → Attribute → Known → Known
+overwritten s run a known =
+    record {
+      name = cond (eqb (a .number) attribute.Name) (name.Is (textOf s (a .value))) (known .name);
+      of = cond (isType (a .number)) (holds (placed (run .key) (processType (run .ends) s (a .number) (a .value)))) (known .of);
+    }
+
+-- a type that is needed: 15 without
+unfoldable pub typeNeeded : ℕ → Held → Said «Type»
+typeNeeded key (holds t) = t
+typeNeeded key nothing = refuse reason.Missing key
 
 -- ---- specifications
 
 module _ (settings : Settings) (rows : List ℕ) (n : ℕ) where
-  -- past the limit, then the kind
-  unfoldable pub specifiedRow : ℕ → ℕ → Found → Specified
-  specifiedRow levels key (found.At r) =
-      cond (eqb levels 0) (specified′.Refused (refusedAt key reason.Depth))
-      (unless (kindFault settings rows record′.Typedef r) specified′.Refused (specified′.Row r))
-  specifiedRow levels key found.Nothing = specified′.Refused (refusedAt key reason.Entry)
-
-  -- the row that a specification names, `levels` more being allowed: it must be there, and a typedef's
-  unfoldable pub specifiedBy : ℕ → ℕ → Specified
-  specifiedBy levels key = specifiedRow levels key (rowOfKey rows n key)
-
-module _ (settings : Settings) (s rows attrs : List ℕ) (n : ℕ) (run : Run) (levels : ℕ) where
-  -- attribute j of the run, a specification
-  unfoldable pub specified : ℕ → Specified
-  specified j =
-      unless (faultAt (settings .roles) record′.Typedef run s attrs j) specified′.Refused
-      (readAt (specifiedBy settings rows n levels) (specified′.Refused (refusedAt (run .key) reason.Block)) (run .ends .section) 4 s
-      (attributeAt attrs (run .first + j) .value))
-
--- ---- the attributes in their order
+  -- the row that a specification names, `levels` more being allowed: it must be there (11), not past the limit (10), and a typedef's (12)
+  unfoldable pub specifiedBy : ℕ → ℕ → Said ℕ
+  specifiedBy levels key = do
+    r ← foundRow key (rowOfKey rows n key)
+    must (not (eqb levels 0)) reason.Depth key
+    kindFault settings rows record′.Typedef r
+    gives r
 
 module _ (settings : Settings) (s rows attrs : List ℕ) (n : ℕ) where
-  -- a specification that was read fills; `next` goes on
-  unfoldable pub filledBy : (Filling → TypedefRead) → Filling → TypedefRead → TypedefRead
-  filledBy next f (Is t) = next (firstFilling f t)
-  filledBy next f (Refused why) = Refused why
+  -- attribute j of the run, a specification
+  unfoldable pub specified : Run → ℕ → ℕ → Said ℕ
+  specified run levels j = do
+    faultAt (settings .roles) record′.Typedef run s attrs j
+    readAt (specifiedBy settings rows n levels) (refuse reason.Block (run .key)) (run .ends .section) 4 s (attributeAt attrs (run .first + j) .value)
 
-  -- the typedef that a specification names, `below` reading its row
-  unfoldable pub readSpecified : (ℕ → TypedefRead) → Specified → TypedefRead
-  readSpecified below (specified′.Row r) = below r
-  readSpecified below (specified′.Refused why) = Refused why
+  -- ---- the attributes in their order
 
-  -- m attributes of row i's run from number j on, specifications being handled where they stand
-  unfoldable pub attributesFrom : (ℕ → TypedefRead) → ℕ → ℕ → Run → ℕ → ℕ → Filling → TypedefRead
-  attributesFrom below levels i run j zero f = typedefEnd settings s rows attrs n i f
-  attributesFrom below levels i run j (suc m) f =
+  -- after the attributes: no children, then name and type
+  unfoldable pub typedefEnd : ℕ → Known → Said Typedef
+  typedefEnd i known = do
+    childlessFault rows i (childWalk (settings .endian) s rows attrs n i)
+    text ← nameNeeded (rowAt rows i .key) (known .name)
+    of ← typeNeeded (rowAt rows i .key) (known .of)
+    gives (record { name = text; of = of })
+
+  -- m attributes of row i's run from number j on; `below` reads the typedef that a specification names
+  unfoldable pub attributesFrom : (ℕ → Said Typedef) → ℕ → ℕ → Run → ℕ → ℕ → Known → Said Typedef
+  attributesFrom below levels i run j zero known = typedefEnd i known
+  attributesFrom below levels i run j (suc m) known =
       elim (special record′.Typedef (numberAt (settings .roles) record′.Typedef run s attrs j)) [
-        | true ↦ filledBy (λ g. attributesFrom below levels i run (suc j) m g) f
-            (readSpecified below (specified settings s rows attrs n run levels j))
-        | false ↦ unless (faultAt (settings .roles) record′.Typedef run s attrs j) Refused (attributesFrom below levels i run (suc j) m f)
+        | true ↦ do
+          r ← specified run levels j
+          t ← below r
+          attributesFrom below levels i run (suc j) m (filledIn known t)
+        | false ↦ do
+          faultAt (settings .roles) record′.Typedef run s attrs j
+          attributesFrom below levels i run (suc j) m (overwritten s run (attributeAt attrs (run .first + j)) known)
       ]
 
   -- the typedef at row i, a typedef's row, where so many specifications may still be followed
-  unfoldable pub typedefRun : ℕ → ℕ → TypedefRead
+  unfoldable pub typedefRun : ℕ → ℕ → Said Typedef
   typedefRun zero i =
-      attributesFrom (λ r. Refused (refusedAt (rowAt rows r .key) reason.Depth)) zero i (runOf (settings .endian) rows i) 0
+      attributesFrom (λ r. refuse reason.Depth (rowAt rows r .key)) zero i (runOf (settings .endian) rows i) 0
       (runOf (settings .endian) rows i .count)
-      filling.Nothing
+      unknown
   typedefRun (suc levels) i =
-      attributesFrom (typedefRun levels) (suc levels) i (runOf (settings .endian) rows i) 0 (runOf (settings .endian) rows i .count) filling.Nothing
+      attributesFrom (typedefRun levels) (suc levels) i (runOf (settings .endian) rows i) 0 (runOf (settings .endian) rows i .count) unknown
 
   -- the typedef at row i
-  unfoldable pub typedefAt : ℕ → TypedefRead
-  typedefAt i = unless (kindFault settings rows record′.Typedef i) Refused (typedefRun specificationLimit i)
+  unfoldable pub typedefAt : ℕ → Said Typedef
+  typedefAt i = do
+    kindFault settings rows record′.Typedef i
+    typedefRun specificationLimit i
 
 -- the typedef of a key
-unfoldable pub processTypedefTag : Table → ℕ → TypedefRead
-processTypedefTag t key =
-    inRowOfKey t key Refused (typedefAt (t .settings) (t .section) (t .rows) (t .attrs) (t .counts .rows))
+unfoldable pub processTypedefTag : Table → ℕ → Said Typedef
+processTypedefTag t key = do
+  i ← rowOf t key
+  typedefAt (t .settings) (t .section) (t .rows) (t .attrs) (t .counts .rows) i

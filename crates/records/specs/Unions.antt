@@ -4,35 +4,36 @@ use Prim.Native.Nat.{ℕ, _/_}
 use mathlib.Core.Bool.{Bool, cond}
 use mathlib.Core.List.{List, [], _∷_, _++_}
 use lib.ListN.{length}
-use lib.Seq.{sets}
 use lib.Dec.{eqb, leb}
 use Rattle.tables.specs.Table.{Table}
-use Rattle.lent.specs.Outcome.{Outcome, outcome}
+use Rattle.lent.specs.Outcome.{Outcome}
 use Rattle.format.specs.Lookup.{isOn}
 use Rattle.format.specs.TagKind as tag
+use Rattle.format.specs.AttributeKind as attribute
+use Rattle.format.specs.Said.{Said, gives, refuse, refusal, wanting, _>>=_, _>>_, inRoom, fillsRoom}
 use Rattle.format.specs.declared.settings.Settings.{Settings}
-use Rattle.format.specs.declared.refusal.Refusal.{Refusal}
 use Rattle.format.specs.declared.refusal.Reason.the-variants as reason
 use Rattle.tables.specs.Row.{rowAt}
-use Rattle.tables.specs.Tests.{refusedAt}
 use Rattle.links.specs.Walk.{Walk, ends, endless}
 use Rattle.links.specs.Links.{childWalk, nonNull}
-use Rattle.tables.specs.Keyed.{inRowOfKey}
+use Rattle.tables.specs.Keyed.{rowOf}
 use Rattle.records.specs.Scan.{runOf}
-use Rattle.records.specs.Fields.{byteSized}
-use Rattle.records.specs.Front.{headOf, unless}
+use Rattle.records.specs.Fields.{nameOf, wordOf, wordNeeded}
+use Rattle.records.specs.Front.{headOf}
 use Rattle.records.specs.Member.{memberAt}
 use Rattle.records.specs.MemberWords.{memberWords, memberWidth}
 use Rattle.records.specs.declared.taken.Record.the-variants as record′
 use Rattle.records.specs.declared.scan.Run.{Run}
-use Rattle.records.specs.declared.fields.Name.{Name}
 use Rattle.records.specs.declared.member.Member.{Member}
-use Rattle.records.specs.declared.member.MemberRead.{MemberRead}
-use Rattle.records.specs.declared.member.MemberRead.the-variants as read
-use Rattle.records.specs.declared.unions.UnionWhole.{UnionWhole}
-use Rattle.records.specs.declared.unions.UnionWhole.the-variants as whole
+use Rattle.records.specs.declared.unions.Union.{Union}
 use Rattle.records.specs.declared.unions.UnionRead.{UnionRead}
 use Rattle.records.specs.declared.unions.UnionRead.the-variants.{Is, Refused, Room}
+
+-- what an answer says
+unfoldable pub saidUnionRead : UnionRead → Said Union
+saidUnionRead (Is union) = gives union
+saidUnionRead (Refused why) = refusal why
+saidUnionRead (Room many) = wanting (many ∷ [])
 
 -- children that only define types
 unfoldable pub ignoredKinds : List ℕ
@@ -45,64 +46,50 @@ unfoldable pub ignored : ℕ → Bool
 unfolding ignoredKinds
 ignored kind = isOn kind ignoredKinds
 
--- a isOn with its row's number
+-- a member with its row's number
 pub record Placed : Type 0 where
   pub row : ℕ
   pub member : Member
 
--- the members among children, or a refusal
-pub data Members : Type 0 where
-  members : List Placed → Members
-  membersRefused : Refusal → Members
-
--- one isOn more, before the others
-unfoldable pub andMember : ℕ → Member → Members → Members
-andMember c m (members ms) = members (record { row = c; member = m } ∷ ms)
-andMember c m (membersRefused why) = membersRefused why
-
--- a child that was read as a isOn, and those after it
-unfoldable pub memberThen : ℕ → MemberRead → Members → Members
-memberThen c (read.Is m) rest = andMember c m rest
-memberThen c (read.Refused why) rest = membersRefused why
-
 module _ (settings : Settings) (s rows attrs : List ℕ) (n : ℕ) where
+  -- child c, a member, and those after it
+  unfoldable pub memberThen : ℕ → Said (List Placed) → Said (List Placed)
+  memberThen c rest = do
+    m ← memberAt settings s rows attrs n c
+    ms ← rest
+    gives (record { row = c; member = m } ∷ ms)
+
   -- child c of the union with this key, and those after it
-  unfoldable pub childThen : ℕ → ℕ → Members → Members
+  unfoldable pub childThen : ℕ → ℕ → Said (List Placed) → Said (List Placed)
   childThen key c rest =
-      cond (eqb (rowAt rows c .kind) tag.Member) (memberThen c (memberAt settings s rows attrs n c) rest)
-      (cond (ignored (rowAt rows c .kind)) rest (membersRefused (refusedAt key reason.Child)))
+      cond (eqb (rowAt rows c .kind) tag.Member) (memberThen c rest) (cond (ignored (rowAt rows c .kind)) rest (refuse reason.Child key))
 
   -- children one after the other
-  unfoldable pub membersFrom : ℕ → List ℕ → Members
-  membersFrom key [] = members []
+  unfoldable pub membersFrom : ℕ → List ℕ → Said (List Placed)
+  membersFrom key [] = gives []
   membersFrom key (c ∷ cs) = childThen key c (membersFrom key cs)
 
   -- the walk is done before any child is looked at: 9 where it never ends
-  unfoldable pub membersBy : ℕ → Walk → Members
+  unfoldable pub membersBy : ℕ → Walk → Said (List Placed)
   membersBy key (ends cs) = membersFrom key (nonNull rows cs)
-  membersBy key endless = membersRefused (refusedAt key reason.Link)
+  membersBy key endless = refuse reason.Link key
 
   -- the members of row i
-  unfoldable pub rowMembers : ℕ → Members
+  unfoldable pub rowMembers : ℕ → Said (List Placed)
   rowMembers i = membersBy (rowAt rows i .key) (childWalk (settings .endian) s rows attrs n i)
 
--- a union of so many members
-abbrev pub unionIs : ℕ → Name → ℕ → UnionWhole
-unionIs many name size = whole.Is (record { name = name; «byte_size» = size; members = many })
+-- with so many members: a ByteSize is needed, the name may be missing
+unfoldable pub unionSized : List ℕ → List ℕ → Run → ℕ → Said Union
+unionSized s attrs run many = do
+  size ← wordNeeded (run .key) (wordOf s attrs run attribute.ByteSize)
+  gives (record { name = nameOf s attrs run attribute.Name; «byte_size» = size; members = many })
 
--- a ByteSize is needed
-unfoldable pub unionSized : List ℕ → List ℕ → Run → ℕ → UnionWhole
-unionSized s attrs run many = byteSized whole.Refused (unionIs many) s attrs run
-
-module _ (settings : Settings) (s rows attrs : List ℕ) (n i : ℕ) where
-  -- the union with these members
-  unfoldable pub membersTaken : Members → UnionWhole
-  membersTaken (members ms) = unionSized s attrs (runOf (settings .endian) rows i) (length ms)
-  membersTaken (membersRefused why) = whole.Refused why
-
-  -- name, size and how many members
-  unfoldable pub unionAt : UnionWhole
-  unionAt = unless (headOf settings s rows attrs record′.Union i) whole.Refused (membersTaken (rowMembers settings s rows attrs n i))
+-- the union at row i: name, size and how many members
+unfoldable pub unionAt : Settings → List ℕ → List ℕ → List ℕ → ℕ → ℕ → Said Union
+unionAt settings s rows attrs n i = do
+  headOf settings s rows attrs record′.Union i
+  ms ← rowMembers settings s rows attrs n i
+  unionSized s attrs (runOf (settings .endian) rows i) (length ms)
 
 -- ---- into lent room: 8 last, with the count
 
@@ -111,19 +98,14 @@ unfoldable pub membersWords : List Placed → List ℕ
 membersWords [] = []
 membersWords (m ∷ ms) = memberWords (m .row) (m .member) ++ membersWords ms
 
--- the members into the room; nothing is written on a refusal
-unfoldable pub membersInto : List ℕ → Members → UnionRead → Outcome UnionRead ℕ
-membersInto room (members ms) answer = outcome answer (sets room 0 (membersWords ms))
-membersInto room (membersRefused why) answer = outcome answer room
-
--- if they fit
-unfoldable pub unionInto : List ℕ → Members → UnionWhole → Outcome UnionRead ℕ
-unionInto room ms (whole.Is u) = cond (leb (u .members) (length room / memberWidth)) (membersInto room ms (Is u)) (outcome (Room (u .members)) room)
-unionInto room ms (whole.Refused why) = outcome (Refused why) room
+-- the union of row i and its members, if they fit
+unfoldable pub unionInto : Settings → List ℕ → List ℕ → List ℕ → ℕ → List ℕ → ℕ → Outcome (Said Union) ℕ
+unionInto settings s rows attrs n room i =
+    inRoom room (unionAt settings s rows attrs n i)
+    (λ u. inRoom room (rowMembers settings s rows attrs n i)
+    (λ ms. fillsRoom (leb (u .members) (length room / memberWidth)) u (u .members ∷ []) (membersWords ms) room))
 
 -- the union of a key
-unfoldable pub processUnionTag : Table → ℕ → List ℕ → Outcome UnionRead ℕ
+unfoldable pub processUnionTag : Table → ℕ → List ℕ → Outcome (Said Union) ℕ
 processUnionTag t key room =
-    inRowOfKey t key (λ why. outcome (Refused why) room)
-    (λ i. unionInto room (rowMembers (t .settings) (t .section) (t .rows) (t .attrs) (t .counts .rows) i)
-    (unionAt (t .settings) (t .section) (t .rows) (t .attrs) (t .counts .rows) i))
+    inRoom room (rowOf t key) (unionInto (t .settings) (t .section) (t .rows) (t .attrs) (t .counts .rows) room)

@@ -13,8 +13,9 @@ use numbers::signed::i16_at;
 use numbers::signed::i32_at;
 ghost use mathlib.Core.Path.{_≡_};
 ghost use Prim.Native.Nat.{_+_, _^_, _<_};
+ghost use Rattle.format.specs.Said.{placed};
 ghost use Rattle.records.specs.Elements.{listWidth, valueAt, nameFrom, namedFrom, elementAt, elementsIn};
-ghost use Rattle.records.specs.Inside.Elements.{slotOf, listedAs, ElementsStored, Addable, asLists, StoredFrom};
+ghost use Rattle.records.specs.Inside.Elements.{slotOf, listedAs, ElementsStored, Addable, StoredFrom};
 
 // A value and the name at `place`, of `length` bytes; where the next element begins.
 pub enum Element {
@@ -158,7 +159,7 @@ pub(crate) fn read_list(
 ) -> Counted
     requires { ⌜ Addable base width (now block) k ⌝ }
     ensures { λ r. ⌜
-        StoredFrom (asLists key (elementsIn width e base (now (block .entry)))) slots k r (now (values .entry)) (now (values .exit))
+        StoredFrom (placed key (elementsIn width e base (now (block .entry)))) slots k r (now (values .entry)) (now (values .exit))
         (now (names .entry)) (now (names .exit))
         ⌝ }
 {

@@ -39,10 +39,11 @@ ghost use Rattle.tables.specs.Table.{table};
 ghost use Rattle.lent.specs.Outcome.{BothGiven};
 ghost use Rattle.links.specs.Inside.Children.{Asked};
 ghost use Rattle.format.specs.Limits.{sectionLimit};
-ghost use Rattle.records.specs.Enumeration.{sizeBefore, isGcc, enumerationSized, enumerationEnd, rowLists, enumerationAt, listsFrom};
-ghost use Rattle.records.specs.Enumeration.{enumerationInto, processEnumerationTag};
+ghost use Rattle.records.specs.Enumeration.{saidEnumerationRead, sizeBefore, isGcc, enumerationSized, rowLists};
+ghost use Rattle.records.specs.Inside.Enumeration.{saidEnumerationWhole};
+ghost use Rattle.records.specs.Enumeration.{enumerationAt, listsFrom, enumerationInto, processEnumerationTag};
 ghost use Rattle.records.specs.Inside.Elements.{StoredFrom};
-ghost use Rattle.records.specs.Inside.Enumeration.{Countable, oneList, Stepping, Steps, AskedShort, EnumerationStored};
+ghost use Rattle.records.specs.Inside.Enumeration.{Countable, oneList, Stepping, Steps, AskedShort, enumerationEnd, EnumerationStored};
 
 pub struct Enumeration {
     pub name: Name,
@@ -200,7 +201,7 @@ fn read_lists(
 }
 
 fn enumeration_sized(s: &[u8], attrs: &[u32], run: Run, members: usize) -> EnumerationWhole
-    ensures { λ r. ⌜ r ≡ enumerationSized (now (s .entry)) (now (attrs .entry)) run members ⌝ }
+    ensures { λ r. ⌜ saidEnumerationWhole r ≡ enumerationSized (now (s .entry)) (now (attrs .entry)) run members ⌝ }
 {
     match needs(last_word(s, attrs, run, BYTE_SIZE), run.key) {
         Needed::Is(size) => EnumerationWhole::Is(Enumeration {
@@ -223,7 +224,7 @@ fn enumeration_end(
     members: usize,
 ) -> EnumerationWhole
     requires { ⌜ Asked (now rows) n i ⌝ }
-    ensures { λ r. ⌜ r ≡ enumerationEnd settings (now (s .entry)) (now (rows .entry)) (now (attrs .entry)) n i members ⌝ }
+    ensures { λ r. ⌜ saidEnumerationWhole r ≡ enumerationEnd settings (now (s .entry)) (now (rows .entry)) (now (attrs .entry)) n i members ⌝ }
 {
     let e = settings.endian;
     match childless_fault(s, e, rows, attrs, n, i) {
@@ -279,7 +280,7 @@ pub fn enumeration_at(
     i: usize,
 ) -> EnumerationWhole
     requires { ⌜ AskedShort (now s) (now rows) n i ⌝ }
-    ensures { λ r. ⌜ r ≡ enumerationAt settings (now (s .entry)) (now (rows .entry)) (now (attrs .entry)) n i ⌝ }
+    ensures { λ r. ⌜ saidEnumerationWhole r ≡ enumerationAt settings (now (s .entry)) (now (rows .entry)) (now (attrs .entry)) n i ⌝ }
 {
     let mut values = [0i32; 0];
     let mut names = [0u64; 0];
@@ -313,9 +314,8 @@ fn give_enumeration(
 ) -> EnumerationRead
     requires { ⌜ AskedShort (now s) (now rows) n i ⌝ }
     ensures { λ r. ⌜
-        BothGiven (enumerationInto (settings .producer) (now (values .entry)) (now (names .entry))
-        (rowLists settings (now (s .entry)) (now (rows .entry)) (now (attrs .entry)) n i)
-        (enumerationAt settings (now (s .entry)) (now (rows .entry)) (now (attrs .entry)) n i)) r (now (values .exit)) (now (names .exit))
+        BothGiven (enumerationInto settings (now (s .entry)) (now (rows .entry)) (now (attrs .entry)) n (now (values .entry)) (now (names .entry)) i)
+        (saidEnumerationRead r) (now (values .exit)) (now (names .exit))
         ⌝ }
 {
     match enumeration_at(s, settings, rows, attrs, n, i) {
@@ -351,7 +351,7 @@ pub fn process_enumeration_tag(
 ) -> EnumerationRead
     ensures { λ r. ⌜
         BothGiven (processEnumerationTag (table (now (s .entry)) settings (now (vendors .entry)) (now (sizes .entry)) (now (rows .entry))
-        (now (attrs .entry)) counts) key (now (values .entry)) (now (names .entry))) r (now (values .exit)) (now (names .exit))
+        (now (attrs .entry)) counts) key (now (values .entry)) (now (names .entry))) (saidEnumerationRead r) (now (values .exit)) (now (names .exit))
         ⌝ }
 {
     match row_of(s, settings, vendors, sizes, rows, attrs, counts, key) {

@@ -23,8 +23,15 @@ use tables::find::Found;
 ghost use mathlib.Core.Path.{_≡_};
 ghost use Rattle.attributes.specs.Parts.{partAt};
 ghost use Rattle.records.specs.Scan.{attributeAt};
-ghost use Rattle.records.specs.Fields.{isSought, lastFrom, lastOf, textOf, nameOf, replaced, typeBy, typeOf, offsetIn, offsetField, addressIn};
-ghost use Rattle.records.specs.Fields.{addressField, asWord, wordIn, wordBy, wordOf, roleName, roleWord, needed, visibilityBy, visibilityOf};
+ghost use Rattle.format.specs.Said.{placed};
+ghost use Rattle.links.specs.Typed.{saidValue};
+ghost use Rattle.records.specs.Inside.Fields.{wordSaid};
+ghost use Rattle.blocks.specs.Location.{processOffset, processAddress};
+ghost use Rattle.blocks.specs.Types.{saidTyped};
+ghost use Rattle.records.specs.Fields.{isSought, lastFrom, lastOf, textOf, nameOf, typeBy, typeOf, offsetField, asAddress};
+ghost use Rattle.records.specs.Fields.{addressField, wordIn, wordBy, wordOf, roleName, roleWord, wordNeeded, visibilityBy};
+ghost use Rattle.records.specs.Inside.Fields.{saidNeeded};
+ghost use Rattle.records.specs.Fields.{visibilityOf};
 
 // The kinds of attributes of which the last counts.
 pub enum Sought {
@@ -128,7 +135,7 @@ pub fn text_part(s: &[u8], text: Text) -> &[u8]
 
 // A type with the row's key as the place of its refusal.
 fn replaced(key: u32, typed: Typed) -> Typed
-    ensures { λ r. ⌜ r ≡ replaced key typed ⌝ }
+    ensures { λ r. ⌜ saidTyped r ≡ placed key (saidTyped typed) ⌝ }
 {
     match typed {
         Typed::Is(of) => Typed::Is(of),
@@ -138,7 +145,7 @@ fn replaced(key: u32, typed: Typed) -> Typed
 
 // A record needs its type.
 pub(crate) fn type_by(s: &[u8], attrs: &[u32], run: Run, found: Found) -> Typed
-    ensures { λ r. ⌜ r ≡ typeBy (now (s .entry)) (now (attrs .entry)) run found ⌝ }
+    ensures { λ r. ⌜ saidTyped r ≡ typeBy (now (s .entry)) (now (attrs .entry)) run found ⌝ }
 {
     match found {
         Found::At(k) => {
@@ -154,13 +161,13 @@ pub(crate) fn type_by(s: &[u8], attrs: &[u32], run: Run, found: Found) -> Typed
 }
 
 pub(crate) fn last_type(s: &[u8], attrs: &[u32], run: Run) -> Typed
-    ensures { λ r. ⌜ r ≡ typeOf (now (s .entry)) (now (attrs .entry)) run ⌝ }
+    ensures { λ r. ⌜ saidTyped r ≡ typeOf (now (s .entry)) (now (attrs .entry)) run ⌝ }
 {
     type_by(s, attrs, run, last_of(attrs, run, Sought::Type))
 }
 
 fn offset_in(block: &[u8], run: Run) -> Needed
-    ensures { λ r. ⌜ r ≡ offsetIn run (now (block .entry)) ⌝ }
+    ensures { λ r. ⌜ saidNeeded r ≡ placed (run .key) (processOffset (run .ends .section) (now (block .entry))) ⌝ }
 {
     let ends = run.ends;
     let e = ends.section;
@@ -172,7 +179,7 @@ fn offset_in(block: &[u8], run: Run) -> Needed
 
 // A member needs its offset.
 pub(crate) fn last_offset(s: &[u8], attrs: &[u32], run: Run) -> Needed
-    ensures { λ r. ⌜ r ≡ offsetField (now (s .entry)) (now (attrs .entry)) run ⌝ }
+    ensures { λ r. ⌜ saidNeeded r ≡ offsetField (now (s .entry)) (now (attrs .entry)) run ⌝ }
 {
     match last_of(attrs, run, Sought::Number(LOCATION)) {
         Found::At(k) => {
@@ -185,7 +192,7 @@ pub(crate) fn last_offset(s: &[u8], attrs: &[u32], run: Run) -> Needed
 }
 
 fn address_in(block: &[u8], run: Run) -> Word
-    ensures { λ r. ⌜ r ≡ addressIn run (now (block .entry)) ⌝ }
+    ensures { λ r. ⌜ r ≡ asAddress (processAddress (run .ends .section) (now (block .entry))) ⌝ }
 {
     let ends = run.ends;
     let e = ends.section;
@@ -209,7 +216,7 @@ pub(crate) fn last_address(s: &[u8], attrs: &[u32], run: Run) -> Word
 }
 
 fn as_word(value: Value) -> Word
-    ensures { λ r. ⌜ r ≡ asWord value ⌝ }
+    ensures { λ r. ⌜ r ≡ wordSaid (saidValue value) ⌝ }
 {
     match value {
         Value::Is(x) => Word::Is(x),
@@ -249,7 +256,7 @@ pub fn last_word(s: &[u8], attrs: &[u32], run: Run, number: u16) -> Word
 }
 
 pub(crate) fn needs(word: Word, key: u32) -> Needed
-    ensures { λ r. ⌜ r ≡ needed key word ⌝ }
+    ensures { λ r. ⌜ saidNeeded r ≡ wordNeeded key word ⌝ }
 {
     match word {
         Word::Is(x) => Needed::Is(x),

@@ -15,6 +15,7 @@ ghost use mathlib.Core.Path.{_≡_};
 ghost use Rattle.links.specs.Links.{childWalk};
 ghost use Rattle.links.specs.Inside.Children.{Asked};
 ghost use Rattle.records.specs.Inside.Scan.{Plain};
+ghost use Rattle.records.specs.Inside.Scan.{saidFault};
 ghost use Rattle.records.specs.Front.{isMwcc, kindTaken, kindFault, childlessFault, headOf, frontOf};
 ghost use Rattle.records.specs.Inside.Front.{PlainAt};
 
@@ -47,7 +48,7 @@ fn kind_taken(producer: Producer, which: Record, kind: u32) -> bool
 }
 
 pub(crate) fn kind_fault(settings: Settings, rows: &[u32], i: usize, which: Record) -> Fault
-    ensures { λ r. ⌜ r ≡ kindFault settings (now (rows .entry)) which i ⌝ }
+    ensures { λ r. ⌜ saidFault r ≡ kindFault settings (now (rows .entry)) which i ⌝ }
 {
     let row = row_at(rows, i);
     let producer = settings.producer;
@@ -68,7 +69,7 @@ pub(crate) fn childless_fault(
     i: usize,
 ) -> Fault
     requires { ⌜ Asked (now rows) n i ⌝ }
-    ensures { λ r. ⌜ r ≡ childlessFault (now (rows .entry)) i (childWalk e (now (s .entry)) (now (rows .entry)) (now (attrs .entry)) n i) ⌝ }
+    ensures { λ r. ⌜ saidFault r ≡ childlessFault (now (rows .entry)) i (childWalk e (now (s .entry)) (now (rows .entry)) (now (attrs .entry)) n i) ⌝ }
 {
     let row = row_at(rows, i);
     match count_children(s, e, rows, attrs, n, i) {
@@ -93,7 +94,7 @@ pub(crate) fn head_fault(
     which: Record,
 ) -> Fault
     requires { ⌜ Plain which ⌝ }
-    ensures { λ r. ⌜ r ≡ headOf settings (now (s .entry)) (now (rows .entry)) (now (attrs .entry)) which i ⌝ }
+    ensures { λ r. ⌜ saidFault r ≡ headOf settings (now (s .entry)) (now (rows .entry)) (now (attrs .entry)) which i ⌝ }
 {
     match kind_fault(settings, rows, i, which) {
         Fault::Clear => {
@@ -117,7 +118,7 @@ pub(crate) fn front_fault(
     which: Record,
 ) -> Fault
     requires { ⌜ PlainAt which (now rows) n i ⌝ }
-    ensures { λ r. ⌜ r ≡ frontOf settings (now (s .entry)) (now (rows .entry)) (now (attrs .entry)) n which i ⌝ }
+    ensures { λ r. ⌜ saidFault r ≡ frontOf settings (now (s .entry)) (now (rows .entry)) (now (attrs .entry)) n which i ⌝ }
 {
     match head_fault(s, settings, rows, attrs, i, which) {
         Fault::Clear => {

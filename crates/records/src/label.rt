@@ -22,7 +22,8 @@ use tables::row::Counts;
 ghost use mathlib.Core.Path.{_≡_};
 ghost use Rattle.tables.specs.Table.{table};
 ghost use Rattle.links.specs.Inside.Children.{Asked};
-ghost use Rattle.records.specs.Label.{labelNamed, labelFields, labelAt, processSubroutineLabelTag};
+ghost use Rattle.records.specs.Label.{saidLabelRead, labelFields, labelAt, processSubroutineLabelTag};
+ghost use Rattle.records.specs.Inside.Label.{labelNamed};
 
 pub struct Label {
     pub name: Text,
@@ -35,7 +36,7 @@ pub enum LabelRead {
 }
 
 fn label_named(s: &[u8], attrs: &[u32], run: Run, name: Text) -> LabelRead
-    ensures { λ r. ⌜ r ≡ labelNamed (now (s .entry)) (now (attrs .entry)) run name ⌝ }
+    ensures { λ r. ⌜ saidLabelRead r ≡ labelNamed (now (s .entry)) (now (attrs .entry)) run name ⌝ }
 {
     match needs(last_word(s, attrs, run, LOW_PC), run.key) {
         Needed::Is(address) => LabelRead::Is(Label { name, address }),
@@ -44,7 +45,7 @@ fn label_named(s: &[u8], attrs: &[u32], run: Run, name: Text) -> LabelRead
 }
 
 fn label_fields(s: &[u8], attrs: &[u32], run: Run) -> LabelRead
-    ensures { λ r. ⌜ r ≡ labelFields (now (s .entry)) (now (attrs .entry)) run ⌝ }
+    ensures { λ r. ⌜ saidLabelRead r ≡ labelFields (now (s .entry)) (now (attrs .entry)) run ⌝ }
 {
     match last_name(s, attrs, run, NAME) {
         Name::Is(name) => label_named(s, attrs, run, name),
@@ -62,7 +63,7 @@ fn label_at(
     i: usize,
 ) -> LabelRead
     requires { ⌜ Asked (now rows) n i ⌝ }
-    ensures { λ r. ⌜ r ≡ labelAt settings (now (s .entry)) (now (rows .entry)) (now (attrs .entry)) n i ⌝ }
+    ensures { λ r. ⌜ saidLabelRead r ≡ labelAt settings (now (s .entry)) (now (rows .entry)) (now (attrs .entry)) n i ⌝ }
 {
     match front_fault(s, settings, rows, attrs, n, i, Record::Label) {
         Fault::Clear => {
@@ -86,7 +87,7 @@ pub fn process_subroutine_label_tag(
     key: u32,
 ) -> LabelRead
     ensures { λ r. ⌜
-        r ≡ processSubroutineLabelTag (table (now (s .entry)) settings (now (vendors .entry)) (now (sizes .entry)) (now (rows .entry))
+        saidLabelRead r ≡ processSubroutineLabelTag (table (now (s .entry)) settings (now (vendors .entry)) (now (sizes .entry)) (now (rows .entry))
         (now (attrs .entry)) counts) key
         ⌝ }
 {

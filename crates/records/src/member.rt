@@ -29,7 +29,8 @@ use tables::row::Counts;
 ghost use mathlib.Core.Path.{_≡_};
 ghost use Rattle.tables.specs.Table.{table};
 ghost use Rattle.links.specs.Inside.Children.{Asked};
-ghost use Rattle.records.specs.Member.{bitsBy, memberWith, memberPlaced, memberFields, memberAt, processStructureMemberTag};
+ghost use Rattle.records.specs.Member.{saidMemberRead, bitsBy, memberFields, memberAt, processStructureMemberTag};
+ghost use Rattle.records.specs.Inside.Member.{saidBitsRead, memberWith, memberPlaced};
 
 // The bits of a bit field, if it is one.
 pub enum Bits {
@@ -58,7 +59,7 @@ pub enum MemberRead {
 
 // One bit attribute without the other is 15.
 fn bits_by(size: Word, offset: Word, key: u32) -> BitsRead
-    ensures { λ r. ⌜ r ≡ bitsBy key size offset ⌝ }
+    ensures { λ r. ⌜ saidBitsRead r ≡ bitsBy key size offset ⌝ }
 {
     match size {
         Word::Is(size) => match offset {
@@ -73,7 +74,7 @@ fn bits_by(size: Word, offset: Word, key: u32) -> BitsRead
 }
 
 fn member_with(s: &[u8], attrs: &[u32], run: Run, of: Type, offset: u32) -> MemberRead
-    ensures { λ r. ⌜ r ≡ memberWith (now (s .entry)) (now (attrs .entry)) run of offset ⌝ }
+    ensures { λ r. ⌜ saidMemberRead r ≡ memberWith (now (s .entry)) (now (attrs .entry)) run of offset ⌝ }
 {
     let size = last_word(s, attrs, run, BIT_SIZE);
     let place = last_word(s, attrs, run, BIT_OFFSET);
@@ -91,7 +92,7 @@ fn member_with(s: &[u8], attrs: &[u32], run: Run, of: Type, offset: u32) -> Memb
 }
 
 fn member_placed(s: &[u8], attrs: &[u32], run: Run, of: Type) -> MemberRead
-    ensures { λ r. ⌜ r ≡ memberPlaced (now (s .entry)) (now (attrs .entry)) run of ⌝ }
+    ensures { λ r. ⌜ saidMemberRead r ≡ memberPlaced (now (s .entry)) (now (attrs .entry)) run of ⌝ }
 {
     match last_offset(s, attrs, run) {
         Needed::Is(offset) => member_with(s, attrs, run, of, offset),
@@ -100,7 +101,7 @@ fn member_placed(s: &[u8], attrs: &[u32], run: Run, of: Type) -> MemberRead
 }
 
 fn member_fields(s: &[u8], attrs: &[u32], run: Run) -> MemberRead
-    ensures { λ r. ⌜ r ≡ memberFields (now (s .entry)) (now (attrs .entry)) run ⌝ }
+    ensures { λ r. ⌜ saidMemberRead r ≡ memberFields (now (s .entry)) (now (attrs .entry)) run ⌝ }
 {
     match last_type(s, attrs, run) {
         Typed::Is(of) => member_placed(s, attrs, run, of),
@@ -118,7 +119,7 @@ pub fn member_at(
     i: usize,
 ) -> MemberRead
     requires { ⌜ Asked (now rows) n i ⌝ }
-    ensures { λ r. ⌜ r ≡ memberAt settings (now (s .entry)) (now (rows .entry)) (now (attrs .entry)) n i ⌝ }
+    ensures { λ r. ⌜ saidMemberRead r ≡ memberAt settings (now (s .entry)) (now (rows .entry)) (now (attrs .entry)) n i ⌝ }
 {
     match front_fault(s, settings, rows, attrs, n, i, Record::Member) {
         Fault::Clear => {
@@ -142,7 +143,7 @@ pub fn process_structure_member_tag(
     key: u32,
 ) -> MemberRead
     ensures { λ r. ⌜
-        r ≡ processStructureMemberTag (table (now (s .entry)) settings (now (vendors .entry)) (now (sizes .entry)) (now (rows .entry))
+        saidMemberRead r ≡ processStructureMemberTag (table (now (s .entry)) settings (now (vendors .entry)) (now (sizes .entry)) (now (rows .entry))
         (now (attrs .entry)) counts) key
         ⌝ }
 {

@@ -25,7 +25,8 @@ use tables::keyed::row_of;
 use tables::row::Counts;
 ghost use mathlib.Core.Path.{_≡_};
 ghost use Rattle.tables.specs.Table.{table};
-ghost use Rattle.records.specs.OverlayBranch.{overlayEnded, overlayBegun, overlayNumbered, overlayFields, overlayAt, processOverlayBranch};
+ghost use Rattle.records.specs.OverlayBranch.{saidOverlayBranchRead, overlayFields, overlayAt, processOverlayBranch};
+ghost use Rattle.records.specs.Inside.OverlayBranch.{overlayEnded, overlayBegun, overlayNumbered};
 
 pub struct OverlayBranch {
     pub name: Text,
@@ -48,7 +49,7 @@ fn overlay_ended(
     id: u32,
     start: u32,
 ) -> OverlayBranchRead
-    ensures { λ r. ⌜ r ≡ overlayEnded (now (s .entry)) (now (attrs .entry)) run name id start ⌝ }
+    ensures { λ r. ⌜ saidOverlayBranchRead r ≡ overlayEnded (now (s .entry)) (now (attrs .entry)) run name id start ⌝ }
 {
     match needs(last_word(s, attrs, run, HIGH_PC), run.key) {
         Needed::Is(end) => OverlayBranchRead::Is(OverlayBranch {
@@ -63,7 +64,7 @@ fn overlay_ended(
 }
 
 fn overlay_begun(s: &[u8], attrs: &[u32], run: Run, name: Text, id: u32) -> OverlayBranchRead
-    ensures { λ r. ⌜ r ≡ overlayBegun (now (s .entry)) (now (attrs .entry)) run name id ⌝ }
+    ensures { λ r. ⌜ saidOverlayBranchRead r ≡ overlayBegun (now (s .entry)) (now (attrs .entry)) run name id ⌝ }
 {
     match needs(last_word(s, attrs, run, LOW_PC), run.key) {
         Needed::Is(start) => overlay_ended(s, attrs, run, name, id, start),
@@ -72,7 +73,7 @@ fn overlay_begun(s: &[u8], attrs: &[u32], run: Run, name: Text, id: u32) -> Over
 }
 
 fn overlay_numbered(s: &[u8], attrs: &[u32], run: Run, role: u16, name: Text) -> OverlayBranchRead
-    ensures { λ r. ⌜ r ≡ overlayNumbered (now (s .entry)) (now (attrs .entry)) run role name ⌝ }
+    ensures { λ r. ⌜ saidOverlayBranchRead r ≡ overlayNumbered (now (s .entry)) (now (attrs .entry)) run role name ⌝ }
 {
     match needs(role_word(s, attrs, run, role), run.key) {
         Needed::Is(id) => overlay_begun(s, attrs, run, name, id),
@@ -81,7 +82,7 @@ fn overlay_numbered(s: &[u8], attrs: &[u32], run: Run, role: u16, name: Text) ->
 }
 
 fn overlay_fields(s: &[u8], attrs: &[u32], run: Run, roles: Roles) -> OverlayBranchRead
-    ensures { λ r. ⌜ r ≡ overlayFields (now (s .entry)) (now (attrs .entry)) run roles ⌝ }
+    ensures { λ r. ⌜ saidOverlayBranchRead r ≡ overlayFields (now (s .entry)) (now (attrs .entry)) run roles ⌝ }
 {
     match role_name(s, attrs, run, roles.overlay_name) {
         Name::Is(name) => overlay_numbered(s, attrs, run, roles.overlay_id, name),
@@ -97,7 +98,7 @@ fn overlay_at(
     attrs: &[u32],
     i: usize,
 ) -> OverlayBranchRead
-    ensures { λ r. ⌜ r ≡ overlayAt settings (now (s .entry)) (now (rows .entry)) (now (attrs .entry)) i ⌝ }
+    ensures { λ r. ⌜ saidOverlayBranchRead r ≡ overlayAt settings (now (s .entry)) (now (rows .entry)) (now (attrs .entry)) i ⌝ }
 {
     match head_fault(s, settings, rows, attrs, i, Record::OverlayBranch) {
         Fault::Clear => {
@@ -122,7 +123,7 @@ pub fn process_overlay_branch(
     key: u32,
 ) -> OverlayBranchRead
     ensures { λ r. ⌜
-        r ≡ processOverlayBranch (table (now (s .entry)) settings (now (vendors .entry)) (now (sizes .entry)) (now (rows .entry))
+        saidOverlayBranchRead r ≡ processOverlayBranch (table (now (s .entry)) settings (now (vendors .entry)) (now (sizes .entry)) (now (rows .entry))
         (now (attrs .entry)) counts) key
         ⌝ }
 {

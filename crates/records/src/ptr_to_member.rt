@@ -19,7 +19,8 @@ use tables::row::Counts;
 ghost use mathlib.Core.Path.{_≡_};
 ghost use Rattle.tables.specs.Table.{table};
 ghost use Rattle.links.specs.Inside.Children.{Asked};
-ghost use Rattle.records.specs.PtrToMember.{ptrTyped, ptrFields, ptrAt, processPtrToMemberTag};
+ghost use Rattle.records.specs.PtrToMember.{saidPtrToMemberRead, ptrFields, ptrAt, processPtrToMemberTag};
+ghost use Rattle.records.specs.Inside.PtrToMember.{ptrTyped};
 
 // The type that is pointed to, and the key of the type that contains it.
 pub struct PtrToMember {
@@ -33,7 +34,7 @@ pub enum PtrToMemberRead {
 }
 
 fn ptr_typed(s: &[u8], attrs: &[u32], run: Run, of: Type) -> PtrToMemberRead
-    ensures { λ r. ⌜ r ≡ ptrTyped (now (s .entry)) (now (attrs .entry)) run of ⌝ }
+    ensures { λ r. ⌜ saidPtrToMemberRead r ≡ ptrTyped (now (s .entry)) (now (attrs .entry)) run of ⌝ }
 {
     match needs(last_word(s, attrs, run, CONTAINING_TYPE), run.key) {
         Needed::Is(containing) => PtrToMemberRead::Is(PtrToMember { of, containing }),
@@ -42,7 +43,7 @@ fn ptr_typed(s: &[u8], attrs: &[u32], run: Run, of: Type) -> PtrToMemberRead
 }
 
 fn ptr_fields(s: &[u8], attrs: &[u32], run: Run) -> PtrToMemberRead
-    ensures { λ r. ⌜ r ≡ ptrFields (now (s .entry)) (now (attrs .entry)) run ⌝ }
+    ensures { λ r. ⌜ saidPtrToMemberRead r ≡ ptrFields (now (s .entry)) (now (attrs .entry)) run ⌝ }
 {
     match last_type(s, attrs, run) {
         Typed::Is(of) => ptr_typed(s, attrs, run, of),
@@ -60,7 +61,7 @@ pub fn ptr_to_member_at(
     i: usize,
 ) -> PtrToMemberRead
     requires { ⌜ Asked (now rows) n i ⌝ }
-    ensures { λ r. ⌜ r ≡ ptrAt settings (now (s .entry)) (now (rows .entry)) (now (attrs .entry)) n i ⌝ }
+    ensures { λ r. ⌜ saidPtrToMemberRead r ≡ ptrAt settings (now (s .entry)) (now (rows .entry)) (now (attrs .entry)) n i ⌝ }
 {
     match front_fault(s, settings, rows, attrs, n, i, Record::PtrToMember) {
         Fault::Clear => {
@@ -84,7 +85,7 @@ pub fn process_ptr_to_member_tag(
     key: u32,
 ) -> PtrToMemberRead
     ensures { λ r. ⌜
-        r ≡ processPtrToMemberTag (table (now (s .entry)) settings (now (vendors .entry)) (now (sizes .entry)) (now (rows .entry))
+        saidPtrToMemberRead r ≡ processPtrToMemberTag (table (now (s .entry)) settings (now (vendors .entry)) (now (sizes .entry)) (now (rows .entry))
         (now (attrs .entry)) counts) key
         ⌝ }
 {

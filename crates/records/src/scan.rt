@@ -23,10 +23,13 @@ use tables::row::ends_of;
 use tables::row::row_at;
 ghost use mathlib.Core.Path.{_≡_};
 ghost use Prim.Native.Nat.{_-_};
-ghost use Rattle.tables.specs.Tests.{refusedAt};
-ghost use Rattle.records.specs.Scan.{runOf, attributeAt, expected, expectedForm, isType, typedFault, locatedFault, locationFault, contentFault};
-ghost use Rattle.records.specs.Scan.{formFault, attributeFault, faultAt, faultsFrom};
-ghost use Rattle.records.specs.Inside.Scan.{scanFrom, Plain};
+ghost use Rattle.tables.specs.Inside.Keyed.{refusedAt};
+ghost use Rattle.blocks.specs.Location.{saidLocated};
+ghost use Rattle.blocks.specs.Types.{saidTyped};
+ghost use Rattle.records.specs.Scan.{runOf, attributeAt, expected, expectedForm, isType, locationOf, faultOf, contentFault};
+ghost use Rattle.records.specs.Inside.Scan.{saidFault};
+ghost use Rattle.records.specs.Scan.{attributeFault, faultAt, faultsFrom};
+ghost use Rattle.records.specs.Inside.Scan.{saidScan, formFault, scanFrom, Plain};
 
 // A row's attributes: where they begin, how many there are; its key; the endiannesses.
 pub struct Run {
@@ -139,7 +142,7 @@ pub(crate) fn is_type(number: u16) -> bool
 }
 
 fn typed_fault(key: u32, typed: Typed) -> Fault
-    ensures { λ r. ⌜ r ≡ typedFault key typed ⌝ }
+    ensures { λ r. ⌜ saidFault r ≡ faultOf key (saidTyped typed) ⌝ }
 {
     match typed {
         Typed::Is(_) => Fault::Clear,
@@ -148,7 +151,7 @@ fn typed_fault(key: u32, typed: Typed) -> Fault
 }
 
 fn located_fault(key: u32, located: Located) -> Fault
-    ensures { λ r. ⌜ r ≡ locatedFault key located ⌝ }
+    ensures { λ r. ⌜ saidFault r ≡ faultOf key (saidLocated located) ⌝ }
 {
     match located {
         Located::Is(_) => Fault::Clear,
@@ -158,7 +161,7 @@ fn located_fault(key: u32, located: Located) -> Fault
 
 // A location is an address for a variable, an offset for all others.
 fn location_fault(which: Record, block: &[u8], e: Endian, key: u32) -> Fault
-    ensures { λ r. ⌜ r ≡ locationFault which key e (now (block .entry)) ⌝ }
+    ensures { λ r. ⌜ saidFault r ≡ faultOf key (locationOf which e (now (block .entry))) ⌝ }
 {
     match which {
         Record::Member => located_fault(key, process_offset(block, e)),
@@ -174,7 +177,7 @@ fn location_fault(which: Record, block: &[u8], e: Endian, key: u32) -> Fault
 
 // What the value says: a type, a location, or nothing that could be wrong.
 fn content_fault(s: &[u8], which: Record, run: Run, attribute: Attribute) -> Fault
-    ensures { λ r. ⌜ r ≡ contentFault which run (now (s .entry)) attribute ⌝ }
+    ensures { λ r. ⌜ saidFault r ≡ contentFault which run (now (s .entry)) attribute ⌝ }
 {
     let ends = run.ends;
     let e = ends.section;
@@ -191,7 +194,7 @@ fn content_fault(s: &[u8], which: Record, run: Run, attribute: Attribute) -> Fau
 }
 
 fn form_fault(s: &[u8], roles: Roles, which: Record, run: Run, attribute: Attribute) -> Fault
-    ensures { λ r. ⌜ r ≡ formFault roles which run (now (s .entry)) attribute ⌝ }
+    ensures { λ r. ⌜ saidFault r ≡ formFault roles which run (now (s .entry)) attribute ⌝ }
 {
     let number = attribute.number;
     if is_form(expected_form(roles, number), number) {
@@ -209,7 +212,7 @@ pub(crate) fn attribute_fault(
     run: Run,
     attribute: Attribute,
 ) -> Fault
-    ensures { λ r. ⌜ r ≡ attributeFault roles which run (now (s .entry)) attribute ⌝ }
+    ensures { λ r. ⌜ saidFault r ≡ attributeFault roles which run (now (s .entry)) attribute ⌝ }
 {
     if takes(roles, which, attribute.number) {
         form_fault(s, roles, which, run, attribute)
@@ -227,7 +230,7 @@ pub(crate) fn scan_from(
     run: Run,
     from: usize,
 ) -> Scan
-    ensures { λ r. ⌜ r ≡ scanFrom roles which run (now (s .entry)) (now (attrs .entry)) from (run .count - from) ⌝ }
+    ensures { λ r. ⌜ saidScan r ≡ scanFrom roles which run (now (s .entry)) (now (attrs .entry)) from (run .count - from) ⌝ }
 {
     let mut j = from;
     let first = run.first as usize;
@@ -256,7 +259,7 @@ pub(crate) fn attributes_fault(
     run: Run,
 ) -> Fault
     requires { ⌜ Plain which ⌝ }
-    ensures { λ r. ⌜ r ≡ faultsFrom (faultAt roles which run (now (s .entry)) (now (attrs .entry))) 0 (run .count) ⌝ }
+    ensures { λ r. ⌜ saidFault r ≡ faultsFrom (faultAt roles which run (now (s .entry)) (now (attrs .entry))) 0 (run .count) ⌝ }
 {
     match scan_from(s, roles, attrs, which, run, 0) {
         Scan::Stop(_) => Fault::Clear,

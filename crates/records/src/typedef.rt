@@ -35,9 +35,12 @@ ghost use mathlib.Core.Path.{_≡_};
 ghost use Rattle.tables.specs.Table.{table};
 ghost use Rattle.links.specs.Inside.Links.{Rows};
 ghost use Rattle.links.specs.Inside.Children.{Asked};
-ghost use Rattle.records.specs.Typedef.{firstFilling, typedefName, typedefType, typedefWith, typedefFields, typedefEnd, specifiedRow};
-ghost use Rattle.records.specs.Typedef.{specifiedBy, specified, typedefRun, typedefAt, processTypedefTag};
-ghost use Rattle.records.specs.Inside.Typedef.{pauseFrom};
+ghost use Rattle.blocks.specs.Types.{saidTyped};
+ghost use Rattle.records.specs.Scan.{runOf};
+ghost use Rattle.records.specs.Typedef.{saidTypedefRead, typeNeeded, specifiedBy, specified, typedefEnd, typedefRun, typedefAt};
+ghost use Rattle.records.specs.Typedef.{processTypedefTag};
+ghost use Rattle.records.specs.Inside.Typedef.{saidSpecified, saidPause, firstFilling, typedefName, typedefType, knownOf, typedefWith};
+ghost use Rattle.records.specs.Inside.Typedef.{typedefFields, pauseFrom};
 
 pub struct Typedef {
     pub name: Text,
@@ -94,7 +97,7 @@ fn typedef_name(own: Name, filling: Filling) -> Name
 }
 
 fn typedef_type(s: &[u8], attrs: &[u32], run: Run, own: Found, filling: Filling) -> Typed
-    ensures { λ r. ⌜ r ≡ typedefType (now (s .entry)) (now (attrs .entry)) run own filling ⌝ }
+    ensures { λ r. ⌜ saidTyped r ≡ typeNeeded (run .key) (typedefType (now (s .entry)) (now (attrs .entry)) run own filling) ⌝ }
 {
     match own {
         Found::At(k) => type_by(s, attrs, run, Found::At(k)),
@@ -109,7 +112,7 @@ fn typedef_type(s: &[u8], attrs: &[u32], run: Run, own: Found, filling: Filling)
 }
 
 fn typedef_with(s: &[u8], attrs: &[u32], run: Run, name: Text, filling: Filling) -> TypedefRead
-    ensures { λ r. ⌜ r ≡ typedefWith (now (s .entry)) (now (attrs .entry)) run filling name ⌝ }
+    ensures { λ r. ⌜ saidTypedefRead r ≡ typedefWith (run .key) (knownOf (now (s .entry)) (now (attrs .entry)) run filling) name ⌝ }
 {
     let own = last_from(attrs, run.first, run.count, Sought::Type);
     match typedef_type(s, attrs, run, own, filling) {
@@ -119,7 +122,7 @@ fn typedef_with(s: &[u8], attrs: &[u32], run: Run, name: Text, filling: Filling)
 }
 
 fn typedef_fields(s: &[u8], attrs: &[u32], run: Run, filling: Filling) -> TypedefRead
-    ensures { λ r. ⌜ r ≡ typedefFields (now (s .entry)) (now (attrs .entry)) run filling ⌝ }
+    ensures { λ r. ⌜ saidTypedefRead r ≡ typedefFields (run .key) (knownOf (now (s .entry)) (now (attrs .entry)) run filling) ⌝ }
 {
     match typedef_name(last_name(s, attrs, run, NAME), filling) {
         Name::Is(name) => typedef_with(s, attrs, run, name, filling),
@@ -138,7 +141,10 @@ fn typedef_end(
     filling: Filling,
 ) -> TypedefRead
     requires { ⌜ Asked (now rows) n i ⌝ }
-    ensures { λ r. ⌜ r ≡ typedefEnd settings (now (s .entry)) (now (rows .entry)) (now (attrs .entry)) n i filling ⌝ }
+    ensures { λ r. ⌜
+        saidTypedefRead r ≡ typedefEnd settings (now (s .entry)) (now (rows .entry)) (now (attrs .entry)) n i
+        (knownOf (now (s .entry)) (now (attrs .entry)) (runOf (settings .endian) (now (rows .entry)) i) filling)
+        ⌝ }
 {
     let e = settings.endian;
     match childless_fault(s, e, rows, attrs, n, i) {
@@ -153,7 +159,7 @@ fn typedef_end(
 // A specification must name a typedef's row: 11, 10 past the limit, 12.
 fn specified_by(settings: Settings, rows: &[u32], n: usize, levels: usize, key: u32) -> Specified
     requires { ⌜ Rows (now rows) n ⌝ }
-    ensures { λ r. ⌜ r ≡ specifiedBy settings (now (rows .entry)) n levels key ⌝ }
+    ensures { λ r. ⌜ saidSpecified r ≡ specifiedBy settings (now (rows .entry)) n levels key ⌝ }
 {
     match find_row(rows, n, key) {
         Found::At(row) => {
@@ -181,7 +187,7 @@ fn specification_at(
     k: u32,
 ) -> Specified
     requires { ⌜ Rows (now rows) n ⌝ }
-    ensures { λ r. ⌜ r ≡ specified settings (now (s .entry)) (now (rows .entry)) (now (attrs .entry)) n run levels k ⌝ }
+    ensures { λ r. ⌜ saidSpecified r ≡ specified settings (now (s .entry)) (now (rows .entry)) (now (attrs .entry)) n run levels k ⌝ }
 {
     let attribute = attribute_at(attrs, run.first as usize + k as usize);
     let roles = settings.roles;
@@ -207,7 +213,7 @@ fn pause_from(
     from: usize,
 ) -> Pause
     requires { ⌜ Rows (now rows) n ⌝ }
-    ensures { λ r. ⌜ r ≡ pauseFrom settings (now (s .entry)) (now (rows .entry)) (now (attrs .entry)) n run levels from ⌝ }
+    ensures { λ r. ⌜ saidPause r ≡ pauseFrom settings (now (s .entry)) (now (rows .entry)) (now (attrs .entry)) n run levels from ⌝ }
 {
     let roles = settings.roles;
     match scan_from(s, roles, attrs, Record::Typedef, run, from) {
@@ -235,7 +241,7 @@ fn typedef_run(
     i: usize,
 ) -> TypedefRead
     requires { ⌜ Asked (now rows) n i ⌝ }
-    ensures { λ r. ⌜ r ≡ typedefRun settings (now (s .entry)) (now (rows .entry)) (now (attrs .entry)) n levels i ⌝ }
+    ensures { λ r. ⌜ saidTypedefRead r ≡ typedefRun settings (now (s .entry)) (now (rows .entry)) (now (attrs .entry)) n levels i ⌝ }
 {
     let e = settings.endian;
     let run = run_of(e, rows, i);
@@ -272,7 +278,7 @@ fn typedef_at(
     i: usize,
 ) -> TypedefRead
     requires { ⌜ Asked (now rows) n i ⌝ }
-    ensures { λ r. ⌜ r ≡ typedefAt settings (now (s .entry)) (now (rows .entry)) (now (attrs .entry)) n i ⌝ }
+    ensures { λ r. ⌜ saidTypedefRead r ≡ typedefAt settings (now (s .entry)) (now (rows .entry)) (now (attrs .entry)) n i ⌝ }
 {
     match kind_fault(settings, rows, i, Record::Typedef) {
         Fault::Clear => typedef_run(s, settings, rows, attrs, n, SPECIFICATION_LIMIT, i),
@@ -292,7 +298,7 @@ pub fn process_typedef_tag(
     key: u32,
 ) -> TypedefRead
     ensures { λ r. ⌜
-        r ≡ processTypedefTag (table (now (s .entry)) settings (now (vendors .entry)) (now (sizes .entry)) (now (rows .entry))
+        saidTypedefRead r ≡ processTypedefTag (table (now (s .entry)) settings (now (vendors .entry)) (now (sizes .entry)) (now (rows .entry))
         (now (attrs .entry)) counts) key
         ⌝ }
 {

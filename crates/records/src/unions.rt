@@ -33,7 +33,10 @@ ghost use mathlib.Core.Path.{_≡_};
 ghost use Rattle.tables.specs.Table.{table};
 ghost use Rattle.lent.specs.Outcome.{Given};
 ghost use Rattle.links.specs.Inside.Children.{Asked};
-ghost use Rattle.records.specs.Unions.{ignored, unionSized, membersFrom, rowMembers, unionAt, unionInto, processUnionTag};
+ghost use Rattle.records.specs.Unions.{saidUnionRead, ignored, unionSized, membersFrom, rowMembers, unionAt, unionInto};
+ghost use Rattle.records.specs.Inside.Unions.{saidUnionWhole};
+ghost use Rattle.records.specs.Unions.{processUnionTag};
+ghost use Rattle.records.specs.Inside.Counted.{saidCounted};
 ghost use Rattle.records.specs.Inside.Unions.{TakeAsked, TakesMember, EndsAt, MembersStored, UnionStored};
 ghost use Rattle.links.specs.Inside.Kids.{kidsOf};
 ghost use Rattle.tables.specs.Row.{rowAt};
@@ -88,7 +91,8 @@ fn take_child(
 ) -> Counted
     requires { ⌜ TakeAsked (now rows) n c k ⌝ }
     ensures { λ r. ⌜
-        TakesMember settings (now (s .entry)) (now (rows .entry)) (now (attrs .entry)) n key c k r (now (room .entry)) (now (room .exit))
+        TakesMember settings (now (s .entry)) (now (rows .entry)) (now (attrs .entry)) n key c k (saidCounted r) (now (room .entry))
+        (now (room .exit))
         ⌝ }
 {
     let row = row_at(rows, c);
@@ -120,7 +124,8 @@ fn take_children(
     requires { ⌜ EndsAt (settings .endian) (now s) (now rows) (now attrs) n i ⌝ }
     ensures { λ r. ⌜
         MembersStored (membersFrom settings (now (s .entry)) (now (rows .entry)) (now (attrs .entry)) n (rowAt (now (rows .entry)) i .key)
-        (kidsOf (settings .endian) (now (s .entry)) (now (rows .entry)) (now (attrs .entry)) n i)) r (now (room .entry)) (now (room .exit))
+        (kidsOf (settings .endian) (now (s .entry)) (now (rows .entry)) (now (attrs .entry)) n i)) (saidCounted r) (now (room .entry))
+        (now (room .exit))
         ⌝ }
 {
     let e = settings.endian;
@@ -160,7 +165,8 @@ fn union_members(
 ) -> Counted
     requires { ⌜ Asked (now rows) n i ⌝ }
     ensures { λ r. ⌜
-        MembersStored (rowMembers settings (now (s .entry)) (now (rows .entry)) (now (attrs .entry)) n i) r (now (room .entry)) (now (room .exit))
+        MembersStored (rowMembers settings (now (s .entry)) (now (rows .entry)) (now (attrs .entry)) n i) (saidCounted r) (now (room .entry))
+        (now (room .exit))
         ⌝ }
 {
     let e = settings.endian;
@@ -172,7 +178,7 @@ fn union_members(
 }
 
 fn union_sized(s: &[u8], attrs: &[u32], run: Run, members: usize) -> UnionWhole
-    ensures { λ r. ⌜ r ≡ unionSized (now (s .entry)) (now (attrs .entry)) run members ⌝ }
+    ensures { λ r. ⌜ saidUnionWhole r ≡ unionSized (now (s .entry)) (now (attrs .entry)) run members ⌝ }
 {
     match needs(last_word(s, attrs, run, BYTE_SIZE), run.key) {
         Needed::Is(size) => UnionWhole::Is(Union {
@@ -197,7 +203,8 @@ fn read_union(
     requires { ⌜ Asked (now rows) n i ⌝ }
     ensures { λ r. ⌜
         UnionStored (unionAt settings (now (s .entry)) (now (rows .entry)) (now (attrs .entry)) n i)
-        (rowMembers settings (now (s .entry)) (now (rows .entry)) (now (attrs .entry)) n i) r (now (room .entry)) (now (room .exit))
+        (rowMembers settings (now (s .entry)) (now (rows .entry)) (now (attrs .entry)) n i) (saidUnionWhole r) (now (room .entry))
+        (now (room .exit))
         ⌝ }
 {
     match head_fault(s, settings, rows, attrs, i, Record::Union) {
@@ -223,7 +230,7 @@ pub fn union_at(
     i: usize,
 ) -> UnionWhole
     requires { ⌜ Asked (now rows) n i ⌝ }
-    ensures { λ r. ⌜ r ≡ unionAt settings (now (s .entry)) (now (rows .entry)) (now (attrs .entry)) n i ⌝ }
+    ensures { λ r. ⌜ saidUnionWhole r ≡ unionAt settings (now (s .entry)) (now (rows .entry)) (now (attrs .entry)) n i ⌝ }
 {
     let mut room = [0u64; 0];
     read_union(s, settings, rows, attrs, n, i, &mut room)
@@ -241,8 +248,8 @@ fn give_union(
 ) -> UnionRead
     requires { ⌜ Asked (now rows) n i ⌝ }
     ensures { λ r. ⌜
-        Given (unionInto (now (room .entry)) (rowMembers settings (now (s .entry)) (now (rows .entry)) (now (attrs .entry)) n i)
-        (unionAt settings (now (s .entry)) (now (rows .entry)) (now (attrs .entry)) n i)) r (now (room .exit))
+        Given (unionInto settings (now (s .entry)) (now (rows .entry)) (now (attrs .entry)) n (now (room .entry)) i) (saidUnionRead r)
+        (now (room .exit))
         ⌝ }
 {
     match union_at(s, settings, rows, attrs, n, i) {
@@ -272,7 +279,7 @@ pub fn process_union_tag(
 ) -> UnionRead
     ensures { λ r. ⌜
         Given (processUnionTag (table (now (s .entry)) settings (now (vendors .entry)) (now (sizes .entry)) (now (rows .entry))
-        (now (attrs .entry)) counts) key (now (room .entry))) r (now (room .exit))
+        (now (attrs .entry)) counts) key (now (room .entry))) (saidUnionRead r) (now (room .exit))
         ⌝ }
 {
     match row_of(s, settings, vendors, sizes, rows, attrs, counts, key) {

@@ -22,7 +22,7 @@ use tables::row::row_at;
 ghost use mathlib.Core.Path.{_≡_};
 ghost use Rattle.tables.specs.Table.{table};
 ghost use Rattle.links.specs.Inside.Children.{Asked};
-ghost use Rattle.records.specs.Variable.{variableFields, variableAt, processVariableTag};
+ghost use Rattle.records.specs.Variable.{saidVariableRead, variableFields, variableAt, processVariableTag};
 
 pub struct Variable {
     pub name: Name,
@@ -38,7 +38,7 @@ pub enum VariableRead {
 }
 
 fn variable_fields(s: &[u8], attrs: &[u32], run: Run, role: u16, local: bool) -> VariableRead
-    ensures { λ r. ⌜ r ≡ variableFields (now (s .entry)) (now (attrs .entry)) run role local ⌝ }
+    ensures { λ r. ⌜ saidVariableRead r ≡ variableFields (now (s .entry)) (now (attrs .entry)) run role local ⌝ }
 {
     match last_type(s, attrs, run) {
         Typed::Is(of) => VariableRead::Is(Variable {
@@ -62,7 +62,7 @@ fn variable_at(
     i: usize,
 ) -> VariableRead
     requires { ⌜ Asked (now rows) n i ⌝ }
-    ensures { λ r. ⌜ r ≡ variableAt settings (now (s .entry)) (now (rows .entry)) (now (attrs .entry)) n i ⌝ }
+    ensures { λ r. ⌜ saidVariableRead r ≡ variableAt settings (now (s .entry)) (now (rows .entry)) (now (attrs .entry)) n i ⌝ }
 {
     match front_fault(s, settings, rows, attrs, n, i, Record::Variable) {
         Fault::Clear => {
@@ -88,7 +88,7 @@ pub fn process_variable_tag(
     key: u32,
 ) -> VariableRead
     ensures { λ r. ⌜
-        r ≡ processVariableTag (table (now (s .entry)) settings (now (vendors .entry)) (now (sizes .entry)) (now (rows .entry))
+        saidVariableRead r ≡ processVariableTag (table (now (s .entry)) settings (now (vendors .entry)) (now (sizes .entry)) (now (rows .entry))
         (now (attrs .entry)) counts) key
         ⌝ }
 {

@@ -1,4 +1,5 @@
 -- What follows from `Elements`, for each way that the code comes to an answer; and what a list in its slots comes to.
+use Rattle.format.proofs.Laws.Said.{Of, given-is, given-refused}
 use Prim.Native.Nat.{ℕ, zero, suc, _+_, _-_, _*_, _≤_, _<_}
 use native.Mathlib.Nat.{add-zero, mul-one, suc-mul, zero-mul, ne-of-lt, lt-of-not-le}
 use native.Mathlib.Numerals.{add-one}
@@ -19,16 +20,18 @@ use Rattle.numbers.specs.declared.Endian.{Endian}
 use Rattle.numbers.specs.declared.Endian.the-variants.{Big}
 use Rattle.numbers.specs.declared.signed.ReadSigned.{ReadSigned}
 use Rattle.numbers.specs.declared.signed.ReadSigned.the-variants as signed
+use Rattle.format.specs.Said.{Said, gives, refuses, refuse, refusal, _>>=_, placed}
 use Rattle.format.specs.declared.refusal.Refusal.{Refusal}
 use Rattle.format.specs.declared.refusal.Reason.the-variants as reason
 use Rattle.attributes.specs.Text.{zeroFrom}
 use Rattle.attributes.proofs.Laws.Text.{zero-after}
-use Rattle.tables.specs.Tests.{refusedAt}
+use Rattle.tables.specs.Inside.Keyed.{refusedAt}
 use Rattle.lent.proofs.Laws.Stores.{sets-append, sets-out}
 use Rattle.records.proofs.Laws.Fields.{by-told}
-use Rattle.records.specs.Elements.{listWidth, valueAt, namedFrom, nameFrom, valued, elementAt, Listed, Elements, are, missing, elementsThen, elementThen, elementsFrom, elementsIn, valuesOf, namesOf}
-use Rattle.records.specs.Inside.Elements.{slotOf, valueWords, nameWords, listedAs, ElementsStored, storeAll, storeValues, storeNames, asLists, countFrom, StoredFrom}
-use Rattle.records.specs.Enumeration.{listed, reversed}
+use Rattle.records.specs.Elements.{listWidth, valueAt, namedFrom, nameFrom, valued, elementAt, Listed, elementThen, elementsFrom, elementsIn, valuesOf, namesOf}
+use Rattle.records.specs.Inside.Elements.{slotOf, valueWords, nameWords, listedAs, ElementsStored, storeAll, storeValues, storeNames, elementsBefore, countFrom, StoredFrom}
+use Rattle.records.specs.Inside.Counted.{saidCounted}
+use Rattle.records.specs.Enumeration.{reversed}
 use Rattle.records.specs.declared.fields.Word.{Word}
 use Rattle.records.specs.declared.fields.Word.the-variants as word
 use Rattle.records.specs.declared.counted.Counted.the-variants as counted
@@ -278,58 +281,50 @@ module _ (slots : Slots) (xs : List Listed) where
 
 -- ---- the loop over a list: what is left comes to the whole
 
--- elements read before others
-unfoldable pub withBefore : List Listed → Elements → Elements
-withBefore xs (are ys) = are (xs ++ ys)
-withBefore xs missing = missing
+pub before-none : (l : Said (List Listed)) → elementsBefore [] l ≡ l
+unfolding elementsBefore _>>=_
+before-none (gives ys) = refl
+before-none (refuses number place counts) = refl
 
-before-none : (l : Elements) → withBefore [] l ≡ l
-unfolding withBefore
-before-none (are ys) = refl
-before-none missing = refl
+pub before-before : (xs ys : List Listed) (l : Said (List Listed)) → elementsBefore (xs ++ ys) l ≡ elementsBefore xs (elementsBefore ys l)
+unfolding elementsBefore _>>=_
+before-before xs ys (gives zs) = ap gives (append-assoc xs ys zs)
+before-before xs ys (refuses number place counts) = refl
 
-before-then : (xs : List Listed) (x : Listed) (l : Elements) → withBefore xs (elementsThen x l) ≡ withBefore (xs ++ (x ∷ [])) l
-unfolding withBefore elementsThen
-before-then xs x (are ys) = ap are (sym (append-assoc xs (x ∷ []) ys))
-before-then xs x missing = refl
-
-are-same : {xs ys : List Listed} → are xs ≡ are ys → xs ≡ ys
-are-same p = cc
-
-listed-are : (key : ℕ) (l : Elements) {xs : List Listed} → asLists key l ≡ listed xs → l ≡ are xs
-unfolding asLists
-listed-are key (are ys) p = cc
-listed-are key missing p = let z : _≡_ {A = ℕ} 0 1 = cc in absurd (omega arith)
+-- a value is the same at any place
+pub placed-given : {A : Type 0} (key : ℕ) (d : Said A) {x : A} → placed key d ≡ gives x → d ≡ gives x
+unfolding placed
+placed-given key (gives y) p = p
+placed-given key (refuses number place counts) p = absurd (given-refused (sym p))
 
 module _ (width : ℕ) (e : Endian) (base : ℕ) (block : List ℕ) where
-  abbrev from : ℕ → ℕ → Elements
+  abbrev from : ℕ → ℕ → Said (List Listed)
   from turns at = elementsFrom width e base block turns at
 
   from-turn : (turns at : ℕ) → at < length block → from (suc turns) at ≡ elementThen base (λ k. from turns k) (elementAt width e block at)
   unfolding elementsFrom
   from-turn turns at h = rw (lt-ltb at (length block) h, elementsFrom)
 
-  from-end : (turns at : ℕ) → length block ≤ at → from turns at ≡ are []
+  from-end : (turns at : ℕ) → length block ≤ at → from turns at ≡ gives []
   unfolding elementsFrom
   from-end zero at h = refl
   from-end (suc turns) at h = rw (le-ltb at (length block) h, elementsFrom)
 
   -- an element has at least a byte
-  abbrev Few : ℕ → Elements → Type 0
-  Few n (are xs) = length xs ≤ n
-  Few n missing = Unit
+  abbrev Few : ℕ → Said (List Listed) → Type 0
+  Few n l = Of (λ xs. length xs ≤ n) l
 
-  then-few : (n : ℕ) (x : Listed) (l : Elements) → Few n l → Few (suc n) (elementsThen x l)
-  unfolding elementsThen
-  then-few n x (are xs) h = omega arith
-  then-few n x missing h = tt
+  then-few : (n : ℕ) (x : Listed) (l : Said (List Listed)) → Few n l → Few (suc n) (elementsBefore (x ∷ []) l)
+  unfolding elementsBefore _>>=_
+  then-few n x (gives xs) h = omega arith
+  then-few n x (refuses number place counts) h = tt
 
-  more-few : (n : ℕ) (l : Elements) → Few n l → Few (suc n) l
-  more-few n (are xs) h = omega arith
-  more-few n missing h = tt
+  more-few : (n : ℕ) (l : Said (List Listed)) → Few n l → Few (suc n) l
+  more-few n (gives xs) h = omega arith
+  more-few n (refuses number place counts) h = tt
 
-  element-few : (n : ℕ) (next : ℕ → Elements) (x : Element) → ((k : ℕ) → Few n (next k)) → Few (suc n) (elementThen base next x)
-  unfolding elementThen
+  element-few : (n : ℕ) (next : ℕ → Said (List Listed)) (x : Element) → ((k : ℕ) → Few n (next k)) → Few (suc n) (elementThen base next x)
+  unfolding elementThen elementsBefore
   element-few n next (element.Is v place len k) h = then-few n (listedAs v (base + place) len) (next k) (h k)
   element-few n next (element.Name k) h = more-few n (next k) (h k)
   element-few n next element.Missing h = tt
@@ -345,7 +340,7 @@ module _ (width : ℕ) (e : Endian) (base : ℕ) (block : List ℕ) where
             (element-few turns (λ k. from turns k) (elementAt width e block at) (λ k. from-few turns k))
       ]
 
-  pub elements-few : {xs : List Listed} → elementsIn width e base block ≡ are xs → length xs ≤ length block
+  pub elements-few : {xs : List Listed} → elementsIn width e base block ≡ gives xs → length xs ≤ length block
   unfolding elementsIn
   elements-few p = subst (Few (length block)) p (from-few (length block) 0)
 
@@ -360,7 +355,7 @@ module _ (width : ℕ) (e : Endian) (base : ℕ) (block : List ℕ) where
       pub few : length xs ≤ at
       pub values-are : values ≡ storeValues slots k xs values₀
       pub names-are : names ≡ storeNames slots k xs names₀
-      pub rest : withBefore xs (elementsFrom width e base block turns at) ≡ elementsIn width e base block
+      pub rest : elementsBefore xs (elementsFrom width e base block turns at) ≡ elementsIn width e base block
 
     pub loop-begin : (values : List ℤ) (names : List ℕ) → Loop values values names names 0 k
     unfolding elementsIn storeAll
@@ -384,44 +379,41 @@ module _ (width : ℕ) (e : Endian) (base : ℕ) (block : List ℕ) where
       pub loop-names : length names ≡ length names₀
       loop-names = ap length (w .names-are) ∙ store-length nameWords 2 slots k (w .xs) names₀
 
-      pub loop-done : (key : ℕ) → length block ≤ at → StoredFrom (asLists key (elementsIn width e base block)) slots k (counted.Count count) values₀ values names₀ names
-      unfolding asLists countFrom withBefore
+      pub loop-done : (key : ℕ) → length block ≤ at → StoredFrom (placed key (elementsIn width e base block)) slots k (counted.Count count) values₀ values names₀ names
+      unfolding saidCounted countFrom elementsBefore placed _>>=_
       loop-done key h =
-          let all : elementsIn width e base block ≡ are (w .xs) =
-          sym (w .rest) ∙ ap (withBefore (w .xs)) (from-end (w .turns) at h) ∙ ap are (append-nil (w .xs))
+          let all : elementsIn width e base block ≡ gives (w .xs) =
+          sym (w .rest) ∙ ap (elementsBefore (w .xs)) (from-end (w .turns) at h) ∙ ap gives (append-nil (w .xs))
           in
           record {
-            answer-is = ap counted.Count (w .total) ∙ ap (λ (l : Elements). countFrom k (asLists key l)) (sym all);
-            values-are = λ ys p. w .values-are ∙ ap (λ (zs : List Listed). storeValues slots k zs values₀) (are-same (sym all ∙ listed-are key (elementsIn width e base block) p));
-            names-are = λ ys p. w .names-are ∙ ap (λ (zs : List Listed). storeNames slots k zs names₀) (are-same (sym all ∙ listed-are key (elementsIn width e base block) p));
+            answer-is = ap gives (w .total) ∙ ap (λ (l : Said (List Listed)). countFrom k (placed key l)) (sym all);
+            values-are = λ ys p. w .values-are ∙ ap (λ (zs : List Listed). storeValues slots k zs values₀) (given-is (sym all ∙ placed-given key (elementsIn width e base block) p));
+            names-are = λ ys p. w .names-are ∙ ap (λ (zs : List Listed). storeNames slots k zs names₀) (given-is (sym all ∙ placed-given key (elementsIn width e base block) p));
           }
 
       module _ (inside : at < length block) {told : Element} (is : told ≡ elementAt width e block at) where
         ahead : Ahead block at told
         ahead = subst (Ahead block at) (sym is) (element-ahead width e block at)
 
-        turn : withBefore (w .xs) (elementThen base (λ n. from (w .turns - 1) n) told) ≡ elementsIn width e base block
+        turn : elementsBefore (w .xs) (elementThen base (λ n. from (w .turns - 1) n) told) ≡ elementsIn width e base block
         turn =
             let fuel : length block ≤ at + w .turns = w .fuel in
             let one : suc (w .turns - 1) ≡ w .turns = omega arith in
-            ap (λ (x : Element). withBefore (w .xs) (elementThen base (λ n. from (w .turns - 1) n) x)) is
-            ∙ ap (withBefore (w .xs)) (sym (from-turn (w .turns - 1) at inside) ∙ ap (λ (n : ℕ). from n at) one) ∙ w .rest
+            ap (λ (x : Element). elementsBefore (w .xs) (elementThen base (λ n. from (w .turns - 1) n) x)) is
+            ∙ ap (elementsBefore (w .xs)) (sym (from-turn (w .turns - 1) at inside) ∙ ap (λ (n : ℕ). from n at) one) ∙ w .rest
 
         pub loop-missing : (key : ℕ) → told ≡ element.Missing → {why : Refusal} → why ≡ refusedAt key reason.Block
-            → StoredFrom (asLists key (elementsIn width e base block)) slots k (counted.Refused why) values₀ values names₀ names
-        unfolding asLists countFrom withBefore elementThen
+            → StoredFrom (placed key (elementsIn width e base block)) slots k (counted.Refused why) values₀ values names₀ names
+        unfolding saidCounted countFrom elementsBefore elementThen placed _>>=_
         loop-missing key p q =
-            let all : missing ≡ elementsIn width e base block =
-            ap (λ (x : Element). withBefore (w .xs) (elementThen base (λ n. from (w .turns - 1) n) x)) (sym p) ∙ turn
+            let all : refuse reason.Block 0 ≡ elementsIn width e base block =
+            ap (λ (x : Element). elementsBefore (w .xs) (elementThen base (λ n. from (w .turns - 1) n) x)) (sym p) ∙ turn
             in
             record {
-              answer-is = ap counted.Refused q ∙ ap (λ (l : Elements). countFrom k (asLists key l)) all;
-              values-are = λ ys r. never (all ∙ listed-are key (elementsIn width e base block) r);
-              names-are = λ ys r. never (all ∙ listed-are key (elementsIn width e base block) r);
+              answer-is = ap refusal q ∙ ap (λ (l : Said (List Listed)). countFrom k (placed key l)) all;
+              values-are = λ ys r. absurd (given-refused (sym (all ∙ placed-given key (elementsIn width e base block) r)));
+              names-are = λ ys r. absurd (given-refused (sym (all ∙ placed-given key (elementsIn width e base block) r)));
             }
-          where
-            never : {A : Type 0} {ys : List Listed} → missing ≡ are ys → A
-            never r = let z : _≡_ {A = ℕ} 0 1 = cc in absurd (omega arith)
 
         module _ {next : ℕ} (p : told ≡ element.Name next) where
           pub name-less : length block - next < length block - at
@@ -443,7 +435,7 @@ module _ (width : ℕ) (e : Endian) (base : ℕ) (block : List ℕ) where
                 few = omega arith;
                 values-are = w .values-are;
                 names-are = w .names-are;
-                rest = ap (λ (x : Element). withBefore (w .xs) (elementThen base (λ n. from (w .turns - 1) n) x)) (sym p) ∙ turn;
+                rest = ap (λ (x : Element). elementsBefore (w .xs) (elementThen base (λ n. from (w .turns - 1) n) x)) (sym p) ∙ turn;
               }
 
         module _ {value : ℤ} {place len next : ℕ} (p : told ≡ element.Is value place len next) where
@@ -462,7 +454,7 @@ module _ (width : ℕ) (e : Endian) (base : ℕ) (block : List ℕ) where
 
           pub element-again : {slot : ℕ} {values′ : List ℤ} {names′ : List ℕ} {v : ℤ} → slot ≡ slotOf slots count → v ≡ value
               → ElementsStored slot (listedAs v (base + place) len) values values′ names names′ → Loop values₀ values′ names₀ names′ next (count + 1)
-          unfolding elementThen
+          unfolding elementThen elementsBefore
           element-again {slot} at-slot same stored =
               let x : Listed = listedAs value (base + place) len in
               let forward : at < next = facts .1 in
@@ -489,6 +481,6 @@ module _ (width : ℕ) (e : Endian) (base : ℕ) (block : List ℕ) where
                     ∙ sym (store-one nameWords 2 slots (k + length (w .xs)) x (storeNames slots k (w .xs) names₀))
                     ∙ sym (store-append nameWords 2 slots k (w .xs) (x ∷ []) names₀);
                 rest =
-                    sym (before-then (w .xs) x (from (w .turns - 1) next))
-                    ∙ ap (λ (y : Element). withBefore (w .xs) (elementThen base (λ n. from (w .turns - 1) n) y)) (sym p) ∙ turn;
+                    before-before (w .xs) (x ∷ []) (from (w .turns - 1) next)
+                    ∙ ap (λ (y : Element). elementsBefore (w .xs) (elementThen base (λ n. from (w .turns - 1) n) y)) (sym p) ∙ turn;
               }

@@ -4,19 +4,22 @@ use native.Mathlib.Nat.{sub-zero}
 use native.Mathlib.Omega.{arith}
 use mathlib.Core.Path.{_≡_, refl, sym, ap, _∙_, subst}
 use mathlib.Core.Bool.{Bool, true, false, cond, _&&_}
-use mathlib.Core.List.{List, [], _++_, append-assoc, append-nil}
+use mathlib.Core.List.{List, [], _∷_, _++_, append-nil}
 use lib.ListN.{length, take, drop, length-drop, length-append}
 use lib.Seq.{length-take-le, sets}
 use lib.Dec.{leb}
 use lib.IntN.{ℤ}
 use Rattle.tables.specs.Table.{table}
-use Rattle.lent.specs.Outcome.{Outcomes, BothGiven, outcomes}
+use Rattle.lent.specs.Outcome.{Outcomes, BothGiven}
 use Rattle.numbers.proofs.Laws.Tests.{cond-all}
 use Rattle.numbers.specs.Value.{valueOf, there}
 use Rattle.numbers.proofs.Laws.Value.{there-inside, read-all}
 use Rattle.numbers.specs.declared.Endian.{Endian}
 use Rattle.format.specs.AttributeKind as attribute
 use Rattle.format.specs.Limits.{sectionLimit}
+use Rattle.format.specs.Refusal.{numberOf}
+use Rattle.format.specs.Said.{Said, gives, refuses, refusal, _>>=_, _>>_, placed, inRooms, fillsRooms}
+use Rattle.format.proofs.Laws.Said.{case-said, goes-past, goes-in-both, Of, given-is, given-refused}
 use Rattle.format.specs.declared.settings.Settings.{Settings}
 use Rattle.format.specs.declared.settings.Producer.{Producer}
 use Rattle.format.specs.declared.refusal.Refusal.{Refusal}
@@ -26,25 +29,25 @@ use Rattle.tables.specs.declared.row.Attr.{Attr}
 use Rattle.tables.specs.declared.find.Found.{Found}
 use Rattle.tables.specs.declared.row.Counts.{Counts}
 use Rattle.links.specs.Links.{childWalk}
-use Rattle.tables.specs.Keyed.{inRowOfKey}
-use Rattle.tables.proofs.Laws.Keyed.{in-row, no-row, keyed-short}
+use Rattle.tables.specs.Keyed.{rowOf}
+use Rattle.tables.specs.Inside.Keyed.{saidKeyed}
+use Rattle.tables.proofs.Laws.Keyed.{keyed-short}
 use Rattle.links.proofs.Laws.Typed.{keyed-asked}
 use Rattle.tables.specs.declared.keyed.Keyed.{Keyed}
 use Rattle.tables.specs.declared.keyed.Keyed.the-variants as keyed
 use Rattle.records.specs.Taken.{special}
 use Rattle.records.specs.Scan.{runOf, attributeAt, attributeFault, numberAt, faultAt}
-use Rattle.records.specs.Inside.Scan.{scanFrom}
+use Rattle.records.specs.Inside.Scan.{saidFault, saidScan, scanFrom}
 use Rattle.records.proofs.Laws.Scan.{Before, Stopped, FaultMet, scan-stop, scan-refused}
-use Rattle.records.specs.Fields.{lastFrom, wordBy}
-use Rattle.records.proofs.Laws.Fields.{byte-sized-all}
-use Rattle.records.specs.Front.{kindFault, childlessFault, unless}
-use Rattle.records.proofs.Laws.Front.{unless-clear, unless-refused}
-use Rattle.records.proofs.Laws.Record.{fields-clear}
-use Rattle.records.specs.Elements.{Listed, Elements, are, missing, listWidth, elementsIn, valuesOf, namesOf}
-use Rattle.records.specs.Inside.Elements.{valueWords, nameWords, storeAll, Addable, asLists, elementsBefore, countFrom, storeValues, storeNames, StoredFrom}
-use Rattle.records.proofs.Laws.Elements.{width-few, elements-few, store-append, store-length, values-forwards, names-forwards, values-backwards, names-backwards}
-use Rattle.records.specs.Enumeration.{Lists, listed, listsRefused, joined, sizeBefore, listAt, listsFrom, enumerationIs, enumerationSized, rowLists, enumerationEnd, listedBy, enumerationAt, isGcc, reversed, inOrder, listInto, enumerationInto, processEnumerationTag}
-use Rattle.records.specs.Inside.Enumeration.{Countable, Stepping, AskedShort, oneList, restFrom, Advanced, Steps, EnumerationStored}
+use Rattle.records.specs.Fields.{lastFrom, nameOf, wordBy, wordOf, wordNeeded}
+use Rattle.records.specs.Front.{kindFault, childlessFault}
+use Rattle.records.proofs.Laws.Record.{fields-said}
+use Rattle.records.specs.Elements.{Listed, listWidth, elementsIn, valuesOf, namesOf}
+use Rattle.records.specs.Inside.Elements.{valueWords, nameWords, storeAll, Addable, elementsBefore, countFrom, storeValues, storeNames, StoredFrom}
+use Rattle.records.specs.Inside.Counted.{saidCounted}
+use Rattle.records.proofs.Laws.Elements.{width-few, before-none, before-before, placed-given, elements-few, store-append, store-length, values-forwards, names-forwards, values-backwards, names-backwards}
+use Rattle.records.specs.Enumeration.{saidEnumerationRead, sizeBefore, listAt, listsFrom, enumerationSized, rowLists, enumerationAt, isGcc, reversed, inOrder, enumerationInto}
+use Rattle.records.specs.Inside.Enumeration.{saidEnumerationWhole, Countable, Stepping, AskedShort, oneList, restFrom, Advanced, Steps, enumerationEnd, EnumerationStored}
 use Rattle.records.specs.declared.taken.Record.the-variants as record′
 use Rattle.records.specs.declared.scan.Run.{Run}
 use Rattle.records.specs.declared.scan.Attribute.{Attribute}
@@ -53,6 +56,7 @@ use Rattle.records.specs.declared.scan.Fault.the-variants as fault
 use Rattle.records.specs.declared.scan.Scan.{Scan}
 use Rattle.records.specs.declared.scan.Scan.the-variants as scan
 use Rattle.records.specs.declared.fields.Sought.the-variants as sought
+use Rattle.records.specs.declared.fields.Name.{Name}
 use Rattle.records.specs.declared.fields.Word.{Word}
 use Rattle.records.specs.declared.counted.Counted.{Counted}
 use Rattle.records.specs.declared.counted.Counted.the-variants as counted
@@ -61,7 +65,6 @@ use Rattle.records.specs.declared.enumeration.Enumeration.{Enumeration}
 use Rattle.records.specs.declared.enumeration.EnumerationWhole.{EnumerationWhole}
 use Rattle.records.specs.declared.enumeration.EnumerationWhole.the-variants as whole
 use Rattle.records.specs.declared.enumeration.EnumerationRead.the-variants as read
-use Rattle.records.specs.declared.enumeration.EnumerationRead.{EnumerationRead}
 use Rattle.records.specs.declared.enumeration.Step.{Step}
 use Rattle.records.specs.declared.enumeration.Step.the-variants as step
 
@@ -89,111 +92,111 @@ unfolding blockAt
 block-short e w s at =
     read-all (λ n. partAt s (at + w) n) [] e w s at (λ b. length b ≤ length s) (λ t. part-short s (at + w) (valueOf e w s at)) (λ t. omega arith)
 
-pub told-listed : (k : ℕ) (lists : Lists) {more : ℕ} → countFrom k lists ≡ counted.Count more → (xs : List Listed) × (lists ≡ listed xs) × (more ≡ k + length xs)
-unfolding countFrom
-told-listed k (listed xs) {more} p = let same : counted.Count (k + length xs) ≡ counted.Count more = p in (xs, refl, cc)
-told-listed k (listsRefused why) p = let z : _≡_ {A = ℕ} 0 1 = cc in absurd (omega arith)
+-- what was counted was listed
 
-pub told-refused : (k : ℕ) (lists : Lists) {why : Refusal} → countFrom k lists ≡ counted.Refused why → lists ≡ listsRefused why
-unfolding countFrom
-told-refused k (listed xs) p = let z : _≡_ {A = ℕ} 0 1 = cc in absurd (omega arith)
-told-refused k (listsRefused why′) {why} p = let same : counted.Refused why′ ≡ counted.Refused why = p in cc
+counted-listed : (k : ℕ) (lists : Said (List Listed)) {more : ℕ} → gives more ≡ countFrom k lists → (xs : List Listed) × (lists ≡ gives xs) × (more ≡ k + length xs)
+unfolding countFrom _>>=_
+counted-listed k (gives xs) p = (xs, refl, given-is p)
+counted-listed k (refuses number place counts) p = absurd (given-refused p)
 
-pub stored-as : {lists lists′ : Lists} (slots : Slots) (k : ℕ) (r : Counted) {values values′ : List ℤ} {names names′ : List ℕ} → lists ≡ lists′
+counted-refused : (k : ℕ) (lists : Said (List Listed)) {number place : ℕ} {counts : List ℕ} → refuses number place counts ≡ countFrom k lists
+    → lists ≡ refuses number place counts
+unfolding countFrom _>>=_
+counted-refused k (gives xs) p = absurd (given-refused (sym p))
+counted-refused k (refuses number′ place′ counts′) {number} {place} {counts} p =
+    let same : _≡_ {A = Said ℕ} (refuses number place counts) (refuses number′ place′ counts′) = p in cc
+
+module _ {lists : Said (List Listed)} {slots : Slots} {k : ℕ} {r : Counted} {values values′ : List ℤ} {names names′ : List ℕ}
+    (stored : StoredFrom lists slots k r values values′ names names′) where
+  told-listed : {more : ℕ} → r ≡ counted.Count more → (xs : List Listed) × (lists ≡ gives xs) × (more ≡ k + length xs)
+  unfolding saidCounted
+  told-listed p = counted-listed k lists (case-said saidCounted (stored .answer-is) p)
+
+  told-refused : {why : Refusal} → r ≡ counted.Refused why → lists ≡ refusal why
+  unfolding saidCounted
+  told-refused p = counted-refused k lists (case-said saidCounted (stored .answer-is) p)
+
+stored-as : {lists lists′ : Said (List Listed)} (slots : Slots) (k : ℕ) (r : Counted) {values values′ : List ℤ} {names names′ : List ℕ} → lists ≡ lists′
     → StoredFrom lists slots k r values values′ names names′ → StoredFrom lists′ slots k r values values′ names names′
-stored-as slots k r {values} {values′} {names} {names′} p = subst (λ (l : Lists). StoredFrom l slots k r values values′ names names′) p
+stored-as slots k r {values} {values′} {names} {names′} p = subst (λ (l : Said (List Listed)). StoredFrom l slots k r values values′ names names′) p
 
-stored-refused : {lists : Lists} (slots : Slots) (k : ℕ) {why : Refusal} (values values′ : List ℤ) (names names′ : List ℕ) → lists ≡ listsRefused why
+stored-refused : {lists : Said (List Listed)} (slots : Slots) (k : ℕ) {why : Refusal} (values values′ : List ℤ) (names names′ : List ℕ) → refusal why ≡ lists
     → StoredFrom lists slots k (counted.Refused why) values values′ names names′
-unfolding countFrom
+unfolding saidCounted countFrom _>>=_
 stored-refused slots k values values′ names names′ p =
-    record { answer-is = ap (countFrom k) (sym p); values-are = λ xs q. never (sym p ∙ q); names-are = λ xs q. never (sym p ∙ q) }
-  where
-    never : {A : Type 0} {why : Refusal} {xs : List Listed} → listsRefused why ≡ listed xs → A
-    never q = let z : _≡_ {A = ℕ} 0 1 = cc in absurd (omega arith)
+    record {
+      answer-is = ap (countFrom k) p;
+      values-are = λ xs q. absurd (given-refused (sym (p ∙ q)));
+      names-are = λ xs q. absurd (given-refused (sym (p ∙ q)));
+    }
 
-module _ (settings : Settings) (s attrs : List ℕ) (run : Run) (j : ℕ) {a : Attribute} (at : a ≡ attributeAt attrs (run .first + j))
-    {told : Fault} (is : told ≡ attributeFault (settings .roles) record′.Enumeration run s a) where
-  judged : told ≡ faultAt (settings .roles) record′.Enumeration run s attrs j
+module _ (s attrs : List ℕ) (run : Run) (j : ℕ) {size : Word} {width : ℕ} {attr : Attr} {block : List ℕ} (q : size ≡ sizeBefore s attrs run j)
+    (w : width ≡ listWidth size) (r : attr ≡ attrAt attrs (run .first + j)) (b : block ≡ blockAt (run .ends .«data») 4 s (attr .value)) where
+  pub list-is : placed (run .key) (elementsIn width (run .ends .section) (attr .value + 4) block) ≡ listAt s attrs run j
+  unfolding listAt attributeAt
+  list-is =
+      ap (λ (n : ℕ). placed (run .key) (elementsIn n (run .ends .section) (attr .value + 4) block)) (w ∙ ap listWidth q)
+      ∙ ap (λ (x : List ℕ). placed (run .key) (elementsIn (listWidth (sizeBefore s attrs run j)) (run .ends .section) (attr .value + 4) x)) b
+      ∙ ap (λ (x : Attr). placed (run .key) (elementsIn (listWidth (sizeBefore s attrs run j)) (run .ends .section) (x .value + 4) (blockAt (run .ends .«data») 4 s (x .value)))) r
+
+  -- the count of elements stays small: fewer bytes in a block than the section's limit, and attributes are counted in 32 bits
+  pub list-addable : (count : ℕ) → Countable s j count → j < 2 ^ 32 → attr .value < 2 ^ 32 → Addable (attr .value + 4) width block count
+  list-addable count c few small =
+      let short : length s < sectionLimit = c .short in
+      let before : count ≤ j * sectionLimit = c .few in
+      let inside : length block ≤ length s = subst (λ (x : List ℕ). length x ≤ length s) (sym b) (block-short (run .ends .«data») 4 s (attr .value)) in
+      let narrow : width ≤ 4 = subst (λ (n : ℕ). n ≤ 4) (sym w) (width-few size) in
+      record { place-small = omega arith; width-small = omega arith; count-small = omega arith }
+
+module _ (settings : Settings) (s attrs : List ℕ) (run : Run) (j : ℕ) {a : Attribute} (at : a ≡ attributeAt attrs (run .first + j)) where
+  judged : {f : Said Unit} → f ≡ attributeFault (settings .roles) record′.Enumeration run s a → f ≡ faultAt (settings .roles) record′.Enumeration run s attrs j
   unfolding faultAt
-  judged = is ∙ ap (attributeFault (settings .roles) record′.Enumeration run s) at
+  judged is = is ∙ ap (attributeFault (settings .roles) record′.Enumeration run s) at
 
-  pub list-refused : (slots : Slots) (count : ℕ) {why : Refusal} (values : List ℤ) (names : List ℕ) → told ≡ fault.Refused why
-      → StoredFrom (oneList settings s attrs run j) slots count (counted.Refused why) values values names names
-  unfolding oneList
-  list-refused slots count values names p = stored-refused slots count values values names names (sym (unless-refused judged listsRefused _ p))
+  module _ {told : Fault} (is : saidFault told ≡ attributeFault (settings .roles) record′.Enumeration run s a) where
+    pub list-refused : (slots : Slots) (count : ℕ) {why : Refusal} (values : List ℤ) (names : List ℕ) → told ≡ fault.Refused why
+        → StoredFrom (oneList settings s attrs run j) slots count (counted.Refused why) values values names names
+    unfolding oneList saidFault _>>_
+    list-refused slots count values names p = stored-refused slots count values values names names (goes-past saidFault (judged is) p _ refl)
 
-  module _ {size : Word} {width : ℕ} {attr : Attr} {block : List ℕ} (q : size ≡ sizeBefore s attrs run j) (w : width ≡ listWidth size)
-      (r : attr ≡ attrAt attrs (run .first + j)) (b : block ≡ blockAt (run .ends .«data») 4 s (attr .value)) where
-    list-is : elementsIn width (run .ends .section) (attr .value + 4) block ≡ listAt s attrs run j
-    unfolding listAt attributeAt
-    list-is =
-        ap (λ (n : ℕ). elementsIn n (run .ends .section) (attr .value + 4) block) (w ∙ ap listWidth q)
-        ∙ ap (λ (x : List ℕ). elementsIn (listWidth (sizeBefore s attrs run j)) (run .ends .section) (attr .value + 4) x) b
-        ∙ ap (λ (x : Attr). elementsIn (listWidth (sizeBefore s attrs run j)) (run .ends .section) (x .value + 4) (blockAt (run .ends .«data») 4 s (x .value))) r
-
-    pub list-clear : (slots : Slots) (count : ℕ) (c : Counted) {values values′ : List ℤ} {names names′ : List ℕ} → told ≡ fault.Clear
-        → StoredFrom (asLists (run .key) (elementsIn width (run .ends .section) (attr .value + 4) block)) slots count c values values′ names names′
+    pub list-clear : (slots : Slots) (count : ℕ) (c : Counted) {lists : Said (List Listed)} {values values′ : List ℤ} {names names′ : List ℕ} → told ≡ fault.Clear
+        → lists ≡ listAt s attrs run j → StoredFrom lists slots count c values values′ names names′
         → StoredFrom (oneList settings s attrs run j) slots count c values values′ names names′
-    unfolding oneList
-    list-clear slots count c p = stored-as slots count c (unless-clear judged listsRefused p (ap (asLists (run .key)) list-is))
-
-    -- the count of elements stays small: fewer bytes in a block than the section's limit, and attributes are counted in 32 bits
-    pub list-addable : (count : ℕ) → Countable s j count → j < 2 ^ 32 → attr .value < 2 ^ 32 → Addable (attr .value + 4) width block count
-    list-addable count c few small =
-        let short : length s < sectionLimit = c .short in
-        let before : count ≤ j * sectionLimit = c .few in
-        let inside : length block ≤ length s = subst (λ (x : List ℕ). length x ≤ length s) (sym b) (block-short (run .ends .«data») 4 s (attr .value)) in
-        let narrow : width ≤ 4 = subst (λ (n : ℕ). n ≤ 4) (sym w) (width-few size) in
-        record { place-small = omega arith; width-small = omega arith; count-small = omega arith }
+    unfolding oneList saidFault _>>_
+    list-clear slots count c p h = stored-as slots count c (goes-past saidFault (judged is) p _ h)
 
 -- ---- up to and with the next list
 
-none-before : (l : Lists) → elementsBefore [] l ≡ l
-unfolding elementsBefore
-none-before (listed ys) = refl
-none-before (listsRefused why) = refl
-
-before-before : (xs ys : List Listed) (l : Lists) → elementsBefore (xs ++ ys) l ≡ elementsBefore xs (elementsBefore ys l)
-unfolding elementsBefore
-before-before xs ys (listed zs) = ap listed (append-assoc xs ys zs)
-before-before xs ys (listsRefused why) = refl
-
 -- those of one attribute, and of what follows
-unfoldable withRest : Lists → Lists → Lists
-withRest (listed xs) rest = elementsBefore xs rest
-withRest (listsRefused why) rest = listsRefused why
+abbrev withRest : Said (List Listed) → Said (List Listed) → Said (List Listed)
+withRest l rest = l >>= λ (xs : List Listed). elementsBefore xs rest
 
-joined-rest : (key : ℕ) (l : Elements) (rest : Lists) → joined key l rest ≡ withRest (asLists key l) rest
-unfolding joined withRest asLists elementsBefore
-joined-rest key (are xs) (listed ys) = refl
-joined-rest key (are xs) (listsRefused why) = refl
-joined-rest key missing rest = refl
-
-unless-rest : (f : Fault) (l rest : Lists) → unless f listsRefused (withRest l rest) ≡ withRest (unless f listsRefused l) rest
-unfolding unless withRest
-unless-rest fault.Clear l rest = refl
-unless-rest (fault.Refused why) l rest = refl
+test-rest : (f : Said Unit) (l rest : Said (List Listed)) → (f >> withRest l rest) ≡ withRest (f >> l) rest
+unfolding _>>=_ _>>_
+test-rest (gives x) l rest = refl
+test-rest (refuses number place counts) l rest = refl
 
 module _ (settings : Settings) (s attrs : List ℕ) (run : Run) where
-  abbrev rest : ℕ → Lists
+  abbrev rest : ℕ → Said (List Listed)
   rest j = restFrom settings s attrs run j
 
   abbrev own : ℕ → Bool
   own j = special record′.Enumeration (numberAt (settings .roles) record′.Enumeration run s attrs j)
 
-  abbrev faulty : ℕ → Fault
+  abbrev faulty : ℕ → Said Unit
   faulty j = faultAt (settings .roles) record′.Enumeration run s attrs j
 
-  rest-end : (j : ℕ) → run .count ≤ j → rest j ≡ listed []
+  rest-end : (j : ℕ) → run .count ≤ j → rest j ≡ gives []
   unfolding restFrom listsFrom
   rest-end j h = let none : run .count - j ≡ 0 = omega arith in ap (listsFrom settings s attrs run j) none
 
-  turn : (j m : ℕ) → own j ≡ false → faulty j ≡ fault.Clear → listsFrom settings s attrs run j (suc m) ≡ listsFrom settings s attrs run (suc j) m
-  unfolding listsFrom unless
-  turn j m t p = rw (p, t, listsFrom)
+  turn : (j m : ℕ) → own j ≡ false → faulty j ≡ gives tt → listsFrom settings s attrs run j (suc m) ≡ listsFrom settings s attrs run (suc j) m
+  unfolding listsFrom elementsBefore _>>=_ _>>_
+  turn j m t p =
+      let here : listsFrom settings s attrs run j (suc m) ≡ elementsBefore [] (listsFrom settings s attrs run (suc j) m) = rw (p, t, listsFrom) in
+      here ∙ before-none (listsFrom settings s attrs run (suc j) m)
 
-  over : (d j m : ℕ) → ((k : ℕ) → j ≤ k → k < j + d → own k ≡ false) → ((k : ℕ) → j ≤ k → k < j + d → faulty k ≡ fault.Clear)
+  over : (d j m : ℕ) → ((k : ℕ) → j ≤ k → k < j + d → own k ≡ false) → ((k : ℕ) → j ≤ k → k < j + d → faulty k ≡ gives tt)
       → listsFrom settings s attrs run j (d + m) ≡ listsFrom settings s attrs run (j + d) m
   over zero j m plain clear =
       let many : zero + m ≡ m = omega arith in
@@ -217,13 +220,10 @@ module _ (settings : Settings) (s attrs : List ℕ) (run : Run) where
       ∙ ap (λ (x : ℕ). listsFrom settings s attrs run x (run .count - k)) place
 
   own-turn : (j m : ℕ) → own j ≡ true → listsFrom settings s attrs run j (suc m) ≡ withRest (oneList settings s attrs run j) (listsFrom settings s attrs run (suc j) m)
-  unfolding listsFrom oneList
+  unfolding listsFrom oneList elementsBefore
   own-turn j m t =
-      let here : listsFrom settings s attrs run j (suc m) ≡ unless (faulty j) listsRefused (joined (run .key) (listAt s attrs run j) (listsFrom settings s attrs run (suc j) m)) =
-      rw (t, listsFrom)
-      in
-      here ∙ ap (unless (faulty j) listsRefused) (joined-rest (run .key) (listAt s attrs run j) (listsFrom settings s attrs run (suc j) m))
-      ∙ unless-rest (faulty j) (asLists (run .key) (listAt s attrs run j)) (listsFrom settings s attrs run (suc j) m)
+      let here : listsFrom settings s attrs run j (suc m) ≡ (faulty j >> withRest (listAt s attrs run j) (listsFrom settings s attrs run (suc j) m)) = rw (t, listsFrom) in
+      here ∙ test-rest (faulty j) (listAt s attrs run j) (listsFrom settings s attrs run (suc j) m)
 
   rest-own : (j : ℕ) → j < run .count → own j ≡ true → rest j ≡ withRest (oneList settings s attrs run j) (rest (j + 1))
   unfolding restFrom
@@ -233,27 +233,27 @@ module _ (settings : Settings) (s attrs : List ℕ) (run : Run) where
       ap (listsFrom settings s attrs run j) many ∙ own-turn j (run .count - (j + 1)) t
       ∙ ap (λ (x : ℕ). withRest (oneList settings s attrs run j) (listsFrom settings s attrs run x (run .count - (j + 1)))) place
 
-  fault-turn : (j m : ℕ) {why : Refusal} → faulty j ≡ fault.Refused why → listsFrom settings s attrs run j (suc m) ≡ listsRefused why
-  unfolding listsFrom unless
+  fault-turn : (j m : ℕ) {number place : ℕ} {counts : List ℕ} → faulty j ≡ refuses number place counts
+      → listsFrom settings s attrs run j (suc m) ≡ refuses number place counts
+  unfolding listsFrom _>>_
   fault-turn j m p = rw (p, listsFrom)
 
-  rest-fault : (j : ℕ) {why : Refusal} → j < run .count → faulty j ≡ fault.Refused why → rest j ≡ listsRefused why
+  rest-fault : (j : ℕ) {number place : ℕ} {counts : List ℕ} → j < run .count → faulty j ≡ refuses number place counts → rest j ≡ refuses number place counts
   unfolding restFrom
   rest-fault j h p =
       let many : run .count - j ≡ suc (run .count - (j + 1)) = omega arith in
       ap (listsFrom settings s attrs run j) many ∙ fault-turn j (run .count - (j + 1)) p
 
-  listed-here : (f : Fault) (l : Elements) {xs : List Listed} → unless f listsRefused (asLists (run .key) l) ≡ listed xs → l ≡ are xs
-  unfolding unless asLists
-  listed-here fault.Clear (are ys) p = cc
-  listed-here fault.Clear missing p = let z : _≡_ {A = ℕ} 0 1 = cc in absurd (omega arith)
-  listed-here (fault.Refused why) l p = let z : _≡_ {A = ℕ} 0 1 = cc in absurd (omega arith)
+  listed-here : (f : Said Unit) (l : Said (List Listed)) {xs : List Listed} → (f >> l) ≡ gives xs → l ≡ gives xs
+  unfolding _>>_
+  listed-here (gives x) l p = p
+  listed-here (refuses number place counts) l p = absurd (given-refused (sym p))
 
-  list-few : (j : ℕ) {xs : List Listed} → oneList settings s attrs run j ≡ listed xs → length xs ≤ length s
+  list-few : (j : ℕ) {xs : List Listed} → oneList settings s attrs run j ≡ gives xs → length xs ≤ length s
   unfolding oneList listAt
   list-few j {xs} p =
       let few : length xs ≤ length (blockAt (run .ends .«data») 4 s (attributeAt attrs (run .first + j) .value)) =
-      elements-few _ _ _ _ (listed-here (faulty j) (listAt s attrs run j) p)
+      elements-few _ _ _ _ (placed-given (run .key) _ (listed-here (faulty j) (listAt s attrs run j) p))
       in
       let inside : length (blockAt (run .ends .«data») 4 s (attributeAt attrs (run .first + j) .value)) ≤ length s =
       block-short (run .ends .«data») 4 s (attributeAt attrs (run .first + j) .value)
@@ -261,10 +261,11 @@ module _ (settings : Settings) (s attrs : List ℕ) (run : Run) where
       omega arith
 
   module _ {j count : ℕ} (w : Stepping s run j count) {told : Scan}
-      (is : told ≡ scanFrom (settings .roles) record′.Enumeration run s attrs j (run .count - j)) where
+      (is : saidScan told ≡ scanFrom (settings .roles) record′.Enumeration run s attrs j (run .count - j)) where
     module _ {at : ℕ} (p : told ≡ scan.Stop at) where
       stop : Stopped (settings .roles) record′.Enumeration run s attrs j (run .count - j) at
-      stop = scan-stop (settings .roles) record′.Enumeration run s attrs (sym is ∙ p)
+      unfolding saidScan
+      stop = scan-stop (settings .roles) record′.Enumeration run s attrs (sym (case-said saidScan is p))
 
       past : rest j ≡ rest at
       past =
@@ -283,7 +284,7 @@ module _ (settings : Settings) (s attrs : List ℕ) (run : Run) where
             added = [];
             forward = omega arith;
             inside = omega arith;
-            left = past ∙ sym (none-before (rest at));
+            left = past ∙ sym (before-none (rest at));
             counted = omega arith;
             few = omega arith;
             values-are = refl;
@@ -302,11 +303,9 @@ module _ (settings : Settings) (s attrs : List ℕ) (run : Run) where
         here = let inside : j < run .count = w .inside in past ∙ rest-own at h (stop .own (omega arith))
 
         pub step-list : {more : ℕ} → r ≡ counted.Count more → Advanced settings s attrs run slots j count (at + 1) more values values′ names names′
-        unfolding withRest
+        unfolding _>>=_
         step-list {more} q =
-            let found : (xs : List Listed) × (oneList settings s attrs run at ≡ listed xs) × (more ≡ count + length xs) =
-            told-listed count (oneList settings s attrs run at) (sym (stored .answer-is) ∙ q)
-            in
+            let found : (xs : List Listed) × (oneList settings s attrs run at ≡ gives xs) × (more ≡ count + length xs) = told-listed stored q in
             let from : j ≤ at = stop .from in
             let few : count ≤ j * sectionLimit = w .countable .few in
             let short : length s < sectionLimit = w .countable .short in
@@ -316,22 +315,22 @@ module _ (settings : Settings) (s attrs : List ℕ) (run : Run) where
               added = found .0;
               forward = omega arith;
               inside = omega arith;
-              left = here ∙ ap (λ (l : Lists). withRest l (rest (at + 1))) (found .1);
+              left = here ∙ ap (λ (l : Said (List Listed)). withRest l (rest (at + 1))) (found .1);
               counted = total;
               few = omega arith;
               values-are = stored .values-are (found .0) (found .1);
               names-are = stored .names-are (found .0) (found .1);
             }
 
-        pub step-list-refused : {why : Refusal} → r ≡ counted.Refused why → rest j ≡ listsRefused why
-        unfolding withRest
-        step-list-refused q =
-            here ∙ ap (λ (l : Lists). withRest l (rest (at + 1))) (told-refused count (oneList settings s attrs run at) (sym (stored .answer-is) ∙ q))
+        pub step-list-refused : {why : Refusal} → r ≡ counted.Refused why → rest j ≡ refusal why
+        unfolding _>>=_
+        step-list-refused q = here ∙ ap (λ (l : Said (List Listed)). withRest l (rest (at + 1))) (told-refused stored q)
 
-    pub step-refused : {why : Refusal} → told ≡ scan.Refused why → rest j ≡ listsRefused why
+    pub step-refused : {why : Refusal} → told ≡ scan.Refused why → rest j ≡ refusal why
+    unfolding saidScan
     step-refused {why} p =
-        let met : (k : ℕ) × FaultMet (settings .roles) record′.Enumeration run s attrs j (run .count - j) k why =
-        scan-refused (settings .roles) record′.Enumeration run s attrs (sym is ∙ p)
+        let met : (k : ℕ) × FaultMet (settings .roles) record′.Enumeration run s attrs j (run .count - j) k (numberOf (why .reason)) (why .place) [] =
+        scan-refused (settings .roles) record′.Enumeration run s attrs (sym (case-said saidScan is p))
         in
         let inside : j < run .count = w .inside in
         let within : met .0 < j + (run .count - j) = met .1 .within in
@@ -360,7 +359,7 @@ module _ (settings : Settings) (s attrs : List ℕ) (run : Run) where
           total = refl;
           values-are = refl;
           names-are = refl;
-          left = none-before (listsFrom settings s attrs run 0 (run .count - 0)) ∙ ap (listsFrom settings s attrs run 0) (sub-zero (run .count));
+          left = before-none (listsFrom settings s attrs run 0 (run .count - 0)) ∙ ap (listsFrom settings s attrs run 0) (sub-zero (run .count));
         }
 
     module _ {values₀ values : List ℤ} {names₀ names : List ℕ} {j count : ℕ} (w : ListsLoop slots values₀ values names₀ names j count) where
@@ -374,28 +373,25 @@ module _ (settings : Settings) (s attrs : List ℕ) (run : Run) where
       lists-stepping short h = record { countable = record { short = short; few = w .few }; inside = h }
 
       pub lists-done : run .count ≤ j → StoredFrom (listsFrom settings s attrs run 0 (run .count)) slots 0 (counted.Count count) values₀ values names₀ names
-      unfolding countFrom elementsBefore
+      unfolding saidCounted countFrom elementsBefore _>>=_
       lists-done h =
-          let all : listsFrom settings s attrs run 0 (run .count) ≡ listed (w .xs) =
-          sym (w .left) ∙ ap (elementsBefore (w .xs)) (rest-end j h) ∙ ap listed (append-nil (w .xs))
+          let all : listsFrom settings s attrs run 0 (run .count) ≡ gives (w .xs) =
+          sym (w .left) ∙ ap (elementsBefore (w .xs)) (rest-end j h) ∙ ap gives (append-nil (w .xs))
           in
           let total : count ≡ 0 + length (w .xs) = omega (arith, w .total) in
           record {
-            answer-is = ap counted.Count total ∙ ap (countFrom 0) (sym all);
-            values-are = λ ys p. w .values-are ∙ ap (λ (zs : List Listed). storeValues slots 0 zs values₀) (same (sym all ∙ p));
-            names-are = λ ys p. w .names-are ∙ ap (λ (zs : List Listed). storeNames slots 0 zs names₀) (same (sym all ∙ p));
+            answer-is = ap gives total ∙ ap (countFrom 0) (sym all);
+            values-are = λ ys p. w .values-are ∙ ap (λ (zs : List Listed). storeValues slots 0 zs values₀) (given-is (sym all ∙ p));
+            names-are = λ ys p. w .names-are ∙ ap (λ (zs : List Listed). storeNames slots 0 zs names₀) (given-is (sym all ∙ p));
           }
-        where
-          same : {xs ys : List Listed} → listed xs ≡ listed ys → xs ≡ ys
-          same p = cc
 
       module _ (told : Step) (values′ : List ℤ) (names′ : List ℕ) (steps : Steps settings s attrs run slots j count told values values′ names names′) where
         pub lists-refused : {why : Refusal} → told ≡ step.Refused why
             → StoredFrom (listsFrom settings s attrs run 0 (run .count)) slots 0 (counted.Refused why) values₀ values′ names₀ names′
-        unfolding elementsBefore
+        unfolding elementsBefore _>>=_
         lists-refused {why} p =
-            let here : rest j ≡ listsRefused why = subst (λ (x : Step). Steps settings s attrs run slots j count x values values′ names names′) p steps in
-            stored-refused slots 0 values₀ values′ names₀ names′ (sym (w .left) ∙ ap (elementsBefore (w .xs)) here)
+            let here : rest j ≡ refusal why = subst (λ (x : Step). Steps settings s attrs run slots j count x values values′ names names′) p steps in
+            stored-refused slots 0 values₀ values′ names₀ names′ (ap (elementsBefore (w .xs)) (sym here) ∙ w .left)
 
         module _ {at more : ℕ} (p : told ≡ step.Next at more) where
           advanced : Advanced settings s attrs run slots j count at more values values′ names names′
@@ -452,38 +448,47 @@ module _ (producer : Producer) (xs : List Listed) {gcc : Bool} (g : gcc ≡ isGc
 
 -- ---- no children, and a ByteSize
 
-module _ (settings : Settings) (s rows attrs : List ℕ) (n i : ℕ) where
-  pub end-clear : (members : ℕ) {told : Fault} {run : Run} {r : EnumerationWhole} → told ≡ childlessFault rows i (childWalk (settings .endian) s rows attrs n i)
-      → told ≡ fault.Clear → run ≡ runOf (settings .endian) rows i → r ≡ enumerationSized s attrs run members → r ≡ enumerationEnd settings s rows attrs n i members
-  unfolding enumerationEnd
-  end-clear members is p q h = fields-clear whole.Refused (λ (x : Run). enumerationSized s attrs x members) is p q h
+pub sized-whole : (s attrs : List ℕ) (run : Run) (many size : ℕ) {name : Name} → name ≡ nameOf s attrs run attribute.Name
+    → saidEnumerationWhole (whole.Is (record { name = name; «byte_size» = size; members = many }))
+    ≡ gives (record { name = nameOf s attrs run attribute.Name; «byte_size» = size; members = many })
+unfolding saidEnumerationWhole
+sized-whole s attrs run many size p = ap (λ (x : Name). gives (record { name = x; «byte_size» = size; members = many })) p
 
-  pub end-refused : (members : ℕ) {told : Fault} {why : Refusal} → told ≡ childlessFault rows i (childWalk (settings .endian) s rows attrs n i)
-      → told ≡ fault.Refused why → whole.Refused why ≡ enumerationEnd settings s rows attrs n i members
+module _ (settings : Settings) (s rows attrs : List ℕ) (n i : ℕ) where
+  abbrev childless : Said Unit
+  childless = childlessFault rows i (childWalk (settings .endian) s rows attrs n i)
+
+  pub end-clear : (many : ℕ) {told : Fault} {run : Run} {z : Said Enumeration} → saidFault told ≡ childlessFault rows i (childWalk (settings .endian) s rows attrs n i)
+      → told ≡ fault.Clear → run ≡ runOf (settings .endian) rows i → z ≡ enumerationSized s attrs run many → z ≡ enumerationEnd settings s rows attrs n i many
   unfolding enumerationEnd
-  end-refused members is p = unless-refused is whole.Refused _ p
+  end-clear many is p q h = fields-said (λ (x : Run). enumerationSized s attrs x many) is p q h
 
   -- ---- the whole
 
-  abbrev at : EnumerationWhole
+  abbrev at : Said Enumeration
   at = enumerationAt settings s rows attrs n i
 
-  abbrev lists : Lists
+  abbrev lists : Said (List Listed)
   lists = rowLists settings s rows attrs n i
 
-  is-not : {A : Type 0} {why : Refusal} {e : Enumeration} → whole.Refused why ≡ whole.Is e → A
-  is-not p = let z : _≡_ {A = ℕ} 0 1 = cc in absurd (omega arith)
+  abbrev by : Said (List Listed) → Said Enumeration
+  by l = l >>= λ (xs : List Listed). enumerationEnd settings s rows attrs n i (length xs)
 
-  whole-refused : (slots : Slots) {why : Refusal} (values values′ : List ℤ) (names names′ : List ℕ) → whole.Refused why ≡ at
+  whole-refused : (slots : Slots) {why : Refusal} (values values′ : List ℤ) (names names′ : List ℕ) → refusal why ≡ at
       → EnumerationStored at lists slots (whole.Refused why) values values′ names names′
+  unfolding saidEnumerationWhole
   whole-refused slots values values′ names names′ p =
-      record { answer-is = p; values-are = λ e q xs r. is-not (p ∙ q); names-are = λ e q xs r. is-not (p ∙ q) }
+      record {
+        answer-is = p;
+        values-are = λ e q xs r. absurd (given-refused (sym (p ∙ q)));
+        names-are = λ e q xs r. absurd (given-refused (sym (p ∙ q)));
+      }
 
-  module _ {told : Fault} (is : told ≡ kindFault settings rows record′.Enumeration i) where
+  module _ {told : Fault} (is : saidFault told ≡ kindFault settings rows record′.Enumeration i) where
     pub whole-kind : (slots : Slots) {why : Refusal} (values : List ℤ) (names : List ℕ) → told ≡ fault.Refused why
         → EnumerationStored (enumerationAt settings s rows attrs n i) (rowLists settings s rows attrs n i) slots (whole.Refused why) values values names names
-    unfolding enumerationAt
-    whole-kind slots values names p = whole-refused slots values values names names (unless-refused is whole.Refused _ p)
+    unfolding enumerationAt saidFault _>>_
+    whole-kind slots values names p = whole-refused slots values values names names (goes-past saidFault is p _ refl)
 
     module _ (p : told ≡ fault.Clear) {run : Run} (q : run ≡ runOf (settings .endian) rows i) (slots : Slots) {r : Counted}
         {values values′ : List ℤ} {names names′ : List ℕ}
@@ -492,119 +497,101 @@ module _ (settings : Settings) (s rows attrs : List ℕ) (n i : ℕ) where
       unfolding rowLists
       lists-are = ap (λ (x : Run). listsFrom settings s attrs x 0 (x .count)) q
 
-      by-lists : {l : Lists} → lists ≡ l → {a : EnumerationWhole} → a ≡ listedBy settings s rows attrs n i l → a ≡ at
-      unfolding enumerationAt
-      by-lists h k = unless-clear is whole.Refused p (k ∙ ap (listedBy settings s rows attrs n i) (sym h))
+      by-lists : {l : Said (List Listed)} → listsFrom settings s attrs run 0 (run .count) ≡ l → {z : Said Enumeration} → z ≡ by l → z ≡ at
+      unfolding enumerationAt enumerationEnd saidFault _>>_
+      by-lists h k = goes-past saidFault is p _ (k ∙ ap by (sym h ∙ lists-are))
 
-      pub whole-counted : {members : ℕ} {a : EnumerationWhole} → r ≡ counted.Count members → a ≡ enumerationEnd settings s rows attrs n i members
+      pub whole-counted : {many : ℕ} {a : EnumerationWhole} → r ≡ counted.Count many → saidEnumerationWhole a ≡ enumerationEnd settings s rows attrs n i many
           → EnumerationStored (enumerationAt settings s rows attrs n i) (rowLists settings s rows attrs n i) slots a values values′ names names′
-      unfolding listedBy
-      whole-counted {members} c h =
-          let found : (xs : List Listed) × (listsFrom settings s attrs run 0 (run .count) ≡ listed xs) × (members ≡ 0 + length xs) =
-          told-listed 0 (listsFrom settings s attrs run 0 (run .count)) (sym (stored .answer-is) ∙ c)
-          in
-          let many : members ≡ length (found .0) = omega (arith, found .2) in
+      unfolding _>>=_
+      whole-counted {many} c h =
+          let found : (xs : List Listed) × (listsFrom settings s attrs run 0 (run .count) ≡ gives xs) × (many ≡ 0 + length xs) = told-listed stored c in
+          let same : many ≡ length (found .0) = omega (arith, found .2) in
           record {
-            answer-is = by-lists (sym lists-are ∙ found .1) (h ∙ ap (enumerationEnd settings s rows attrs n i) many);
+            answer-is = by-lists (found .1) (h ∙ ap (enumerationEnd settings s rows attrs n i) same);
             values-are = λ e t xs l. stored .values-are xs (lists-are ∙ l);
             names-are = λ e t xs l. stored .names-are xs (lists-are ∙ l);
           }
 
       pub whole-unread : {why : Refusal} → r ≡ counted.Refused why
           → EnumerationStored (enumerationAt settings s rows attrs n i) (rowLists settings s rows attrs n i) slots (whole.Refused why) values values′ names names′
-      unfolding listedBy
-      whole-unread c =
-          whole-refused slots values values′ names names′
-          (by-lists (sym lists-are ∙ told-refused 0 (listsFrom settings s attrs run 0 (run .count)) (sym (stored .answer-is) ∙ c)) refl)
+      unfolding _>>=_
+      whole-unread c = whole-refused slots values values′ names names′ (by-lists (told-refused stored c) refl)
 
   -- ---- into the rooms
 
   -- an enumeration has as many members as elements are listed
-  abbrev Members : Lists → EnumerationWhole → Type 0
-  Members l (whole.Is e) = (xs : List Listed) × (l ≡ listed xs) × (e .members ≡ length xs)
-  Members l (whole.Refused why) = Unit
+  abbrev Members : Said (List Listed) → Said Enumeration → Type 0
+  Members l a = Of (λ (e : Enumeration). (xs : List Listed) × (l ≡ gives xs) × (e .members ≡ length xs)) a
 
-  unless-members : (f : Fault) (l : Lists) (a : EnumerationWhole) → Members l a → Members l (unless f whole.Refused a)
-  unfolding unless
-  unless-members fault.Clear l a m = m
-  unless-members (fault.Refused why) l a m = tt
+  past-members : (f : Said Unit) (l : Said (List Listed)) (a : Said Enumeration) → Members l a → Members l (f >> a)
+  unfolding _>>_
+  past-members (gives x) l a m = m
+  past-members (refuses number place counts) l a m = tt
 
-  by-members : (l : Lists) → Members l (listedBy settings s rows attrs n i l)
-  unfolding listedBy enumerationEnd enumerationSized
-  by-members (listed xs) =
-      unless-members (childlessFault rows i (childWalk (settings .endian) s rows attrs n i)) (listed xs)
-      (enumerationSized s attrs (runOf (settings .endian) rows i) (length xs))
-      (byte-sized-all whole.Refused (enumerationIs (length xs)) s attrs (runOf (settings .endian) rows i) (Members (listed xs)) (λ name size. (xs, refl, refl)) (λ why. tt))
-  by-members (listsRefused why) = tt
+  sized-members : (xs : List Listed) (size : Said ℕ) (name : Name)
+      → Members (gives xs) (size >>= λ (k : ℕ). gives (record { name = name; «byte_size» = k; members = length xs }))
+  unfolding _>>=_
+  sized-members xs (gives k) name = (xs, refl, refl)
+  sized-members xs (refuses number place counts) name = tt
 
-  pub members-listed : {e : Enumeration} → enumerationAt settings s rows attrs n i ≡ whole.Is e
-      → (xs : List Listed) × (rowLists settings s rows attrs n i ≡ listed xs) × (e .members ≡ length xs)
-  unfolding enumerationAt
-  members-listed p =
-      subst (Members lists) p
-      (unless-members (kindFault settings rows record′.Enumeration i) lists (listedBy settings s rows attrs n i lists) (by-members lists))
+  by-members : (l : Said (List Listed)) → Members l (by l)
+  unfolding enumerationEnd enumerationSized _>>=_
+  by-members (gives xs) =
+      past-members childless (gives xs) (enumerationSized s attrs (runOf (settings .endian) rows i) (length xs))
+      (sized-members xs (wordNeeded (runOf (settings .endian) rows i .key) (wordOf s attrs (runOf (settings .endian) rows i) attribute.ByteSize))
+      (nameOf s attrs (runOf (settings .endian) rows i) attribute.Name))
+  by-members (refuses number place counts) = tt
 
-  module _ {told : EnumerationWhole} (is : told ≡ enumerationAt settings s rows attrs n i) (values : List ℤ) (names : List ℕ) where
-    pub given-refused : {why : Refusal} → told ≡ whole.Refused why
-        → BothGiven (enumerationInto (settings .producer) values names (rowLists settings s rows attrs n i) (enumerationAt settings s rows attrs n i)) (read.Refused why) values names
-    unfolding enumerationInto
-    given-refused {why} p =
-        subst (λ (x : EnumerationWhole). BothGiven (enumerationInto (settings .producer) values names lists x) (read.Refused why) values names) (sym p ∙ is)
-        (record { answer-is = refl; first-is = refl; second-is = refl })
+  pub members-listed : {e : Enumeration} → enumerationAt settings s rows attrs n i ≡ gives e
+      → (xs : List Listed) × (rowLists settings s rows attrs n i ≡ gives xs) × (e .members ≡ length xs)
+  unfolding enumerationAt enumerationEnd
+  members-listed p = subst (Members lists) p (past-members (kindFault settings rows record′.Enumeration i) lists (by lists) (by-members lists))
 
+  module _ {told : EnumerationWhole} (is : saidEnumerationWhole told ≡ enumerationAt settings s rows attrs n i) (values : List ℤ) (names : List ℕ) where
     module _ {e : Enumeration} (p : told ≡ whole.Is e) where
+      found : (xs : List Listed) × (rowLists settings s rows attrs n i ≡ gives xs) × (e .members ≡ length xs)
+      unfolding saidEnumerationWhole
+      found = members-listed (sym (case-said saidEnumerationWhole is p))
+
+      abbrev filled : Bool → List Listed → Outcomes (Said Enumeration) ℤ ℕ
+      filled fits xs =
+          fillsRooms fits e (e .members ∷ []) (valuesOf (inOrder (settings .producer) xs)) (namesOf (inOrder (settings .producer) xs)) values names
+
+      -- the room decides
+      by-room : {fits : Bool} → leb (e .members) (length values) && leb (e .members) (length names / 2) ≡ fits → {z : Said Enumeration} {values′ : List ℤ} {names′ : List ℕ}
+          → BothGiven (filled fits (found .0)) z values′ names′ → BothGiven (enumerationInto settings s rows attrs n values names i) z values′ names′
+      unfolding enumerationInto saidEnumerationWhole inRooms
+      by-room t {z} {values′} {names′} h =
+          goes-in-both saidEnumerationWhole is p values names _
+          (subst (λ (l : Said (List Listed)). BothGiven (inRooms values names l (filled (leb (e .members) (length values) && leb (e .members) (length names / 2)))) z values′ names′)
+          (sym (found .1)) (subst (λ (b : Bool). BothGiven (filled b (found .0)) z values′ names′) (sym t) h))
+
       pub given-room : leb (e .members) (length values) && leb (e .members) (length names / 2) ≡ false
-          → BothGiven (enumerationInto (settings .producer) values names (rowLists settings s rows attrs n i) (enumerationAt settings s rows attrs n i)) (read.Room (e .members)) values names
-      unfolding enumerationInto
-      given-room t =
-          subst (λ (x : EnumerationWhole). BothGiven (enumerationInto (settings .producer) values names lists x) (read.Room (e .members)) values names) (sym p ∙ is)
-          (subst (λ (b : Bool). BothGiven (cond b (listInto (settings .producer) values names lists (read.Is e)) (outcomes (read.Room (e .members)) values names)) (read.Room (e .members)) values names)
-          (sym t) (record { answer-is = refl; first-is = refl; second-is = refl }))
+          → BothGiven (enumerationInto settings s rows attrs n values names i) (saidEnumerationRead (read.Room (e .members))) values names
+      unfolding saidEnumerationRead fillsRooms
+      given-room t = by-room t (record { answer-is = refl; first-is = refl; second-is = refl })
 
       pub given-members : leb (e .members) (length values) && leb (e .members) (length names / 2) ≡ true → {gcc : Bool} → gcc ≡ isGcc (settings .producer)
           → {r : EnumerationWhole} {values′ : List ℤ} {names′ : List ℕ}
           → EnumerationStored (enumerationAt settings s rows attrs n i) (rowLists settings s rows attrs n i) (record { reversed = gcc; total = e .members }) r values values′ names names′
-          → BothGiven (enumerationInto (settings .producer) values names (rowLists settings s rows attrs n i) (enumerationAt settings s rows attrs n i)) (read.Is e) values′ names′
-      unfolding enumerationInto listInto
-      given-members t {gcc} g {r} {values′} {names′} stored =
-          let found : (xs : List Listed) × (lists ≡ listed xs) × (e .members ≡ length xs) = members-listed (sym is ∙ p) in
-          let xs : List Listed = found .0 in
-          subst (λ (x : EnumerationWhole). BothGiven (enumerationInto (settings .producer) values names lists x) (read.Is e) values′ names′) (sym p ∙ is)
-          (subst (λ (b : Bool). BothGiven (cond b (listInto (settings .producer) values names lists (read.Is e)) (outcomes (read.Room (e .members)) values names)) (read.Is e) values′ names′) (sym t)
-          (subst (λ (l : Lists). BothGiven (listInto (settings .producer) values names l (read.Is e)) (read.Is e) values′ names′) (sym (found .1))
+          → BothGiven (enumerationInto settings s rows attrs n values names i) (saidEnumerationRead (read.Is e)) values′ names′
+      unfolding saidEnumerationWhole saidEnumerationRead fillsRooms
+      given-members t g stored =
+          let here : enumerationAt settings s rows attrs n i ≡ gives e = sym (case-said saidEnumerationWhole is p) in
+          by-room t
           (record {
             answer-is = refl;
-            first-is = stored .values-are e (sym is ∙ p) xs (found .1) ∙ values-ordered (settings .producer) xs g (found .2) values;
-            second-is = stored .names-are e (sym is ∙ p) xs (found .1) ∙ names-ordered (settings .producer) xs g (found .2) names;
-          })))
+            first-is = stored .values-are e here (found .0) (found .1) ∙ values-ordered (settings .producer) (found .0) g (found .2) values;
+            second-is = stored .names-are e here (found .0) (found .1) ∙ names-ordered (settings .producer) (found .0) g (found .2) names;
+          })
 
 -- ---- the enumeration of a key
 
-module _ (settings : Settings) (vendors sizes s rows attrs : List ℕ) (counts : Counts) (key : ℕ) {told : Keyed}
-    (is : told ≡ inRowOfKey (table s settings vendors sizes rows attrs counts) key keyed.Refused keyed.Row) (values : List ℤ) (names : List ℕ) where
-  abbrev inRooms : ℕ → Outcomes EnumerationRead ℤ ℕ
-  inRooms i = enumerationInto (settings .producer) values names (rowLists settings s rows attrs (counts .rows) i) (enumerationAt settings s rows attrs (counts .rows) i)
-
-  abbrev nothing : Refusal → Outcomes EnumerationRead ℤ ℕ
-  nothing why = record { answer = read.Refused why; first = values; second = names }
-
-  pub tag-asked : {i : ℕ} → told ≡ keyed.Row i → AskedShort s rows (counts .rows) i
-  tag-asked p =
-      record {
-        asked = keyed-asked settings vendors sizes s rows attrs counts key is p;
-        short = keyed-short settings vendors sizes s rows attrs counts key is p;
-      }
-
-  pub tag-there : {i : ℕ} {r : EnumerationRead} {values′ : List ℤ} {names′ : List ℕ} → told ≡ keyed.Row i
-      → BothGiven (enumerationInto (settings .producer) values names (rowLists settings s rows attrs (counts .rows) i) (enumerationAt settings s rows attrs (counts .rows) i)) r values′ names′
-      → BothGiven (processEnumerationTag (table s settings vendors sizes rows attrs counts) key values names) r values′ names′
-  unfolding processEnumerationTag
-  tag-there {r = r} {values′ = values′} {names′ = names′} p =
-      subst (λ (o : Outcomes EnumerationRead ℤ ℕ). BothGiven o r values′ names′) (in-row settings vendors sizes s rows attrs counts key is nothing inRooms p)
-
-  pub tag-refused : {why : Refusal} → told ≡ keyed.Refused why
-      → BothGiven (processEnumerationTag (table s settings vendors sizes rows attrs counts) key values names) (read.Refused why) values names
-  unfolding processEnumerationTag
-  tag-refused {why} p =
-      subst (λ (o : Outcomes EnumerationRead ℤ ℕ). BothGiven o (read.Refused why) values names) (no-row settings vendors sizes s rows attrs counts key is nothing inRooms p)
-      (record { answer-is = refl; first-is = refl; second-is = refl })
+pub tag-asked : (settings : Settings) (vendors sizes s rows attrs : List ℕ) (counts : Counts) (key : ℕ) {told : Keyed}
+    → saidKeyed told ≡ rowOf (table s settings vendors sizes rows attrs counts) key → {i : ℕ} → told ≡ keyed.Row i → AskedShort s rows (counts .rows) i
+tag-asked settings vendors sizes s rows attrs counts key is p =
+    record {
+      asked = keyed-asked settings vendors sizes s rows attrs counts key is p;
+      short = keyed-short settings vendors sizes s rows attrs counts key is p;
+    }

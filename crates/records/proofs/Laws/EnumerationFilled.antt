@@ -1,4 +1,5 @@
 -- Where `process_enumeration_tag` answers with an enumeration, the rooms begin with its members, as many as it says, and what lies behind is as it was.
+use Rattle.format.proofs.Laws.Said.{given-is, given-refused}
 use Prim.Native.Nat.{ℕ, _*_, _/_, _≤_}
 use native.Mathlib.Omega.{arith}
 use mathlib.Core.Path.{_≡_, refl, sym, ap, _∙_, subst}
@@ -14,22 +15,15 @@ use Rattle.lent.proofs.Laws.Filled.{sets-filled}
 use Rattle.lent.specs.Outcome.{Outcomes, BothGiven}
 use Rattle.format.specs.declared.settings.Settings.{Settings}
 use Rattle.format.specs.declared.settings.Producer.{Producer}
-use Rattle.format.specs.declared.refusal.Refusal.{Refusal}
 use Rattle.tables.specs.declared.row.Counts.{Counts}
-use Rattle.tables.specs.Keyed.{inRowOfKey}
-use Rattle.tables.proofs.Laws.Keyed.{in-row, no-row}
-use Rattle.tables.specs.declared.keyed.Keyed.{Keyed}
-use Rattle.tables.specs.declared.keyed.Keyed.the-variants as keyed
+use Rattle.format.specs.Said.{Said, gives, refuses, inRooms, fillsRooms}
+use Rattle.tables.specs.Keyed.{rowOf}
 use Rattle.records.specs.Elements.{Listed, valuesOf, namesOf}
 use Rattle.records.proofs.Laws.Elements.{reversed-length}
-use Rattle.records.specs.Enumeration.{Lists, listed, isGcc, reversed, inOrder, rowLists, enumerationAt, listInto, enumerationInto, processEnumerationTag}
+use Rattle.records.specs.Enumeration.{isGcc, reversed, inOrder, rowLists, enumerationAt, enumerationInto, processEnumerationTag}
 use Rattle.records.proofs.Laws.Enumeration.{members-listed}
 use Rattle.records.specs.declared.enumeration.Enumeration.{Enumeration}
-use Rattle.records.specs.declared.enumeration.EnumerationWhole.{EnumerationWhole}
-use Rattle.records.specs.declared.enumeration.EnumerationWhole.the-variants as whole
-use Rattle.records.specs.declared.enumeration.EnumerationRead.the-variants as read
 use Rattle.records.specs.EnumerationFilled.{EnumerationFilled}
-use Rattle.records.specs.declared.enumeration.EnumerationRead.{EnumerationRead}
 
 values-length : (xs : List Listed) → length (valuesOf xs) ≡ length xs
 unfolding valuesOf
@@ -61,14 +55,14 @@ both false b p = (p, absurd-false p)
 
 module _ (settings : Settings) (vendors sizes s rows attrs : List ℕ) (counts : Counts) (key : ℕ) (values : List ℤ) (names : List ℕ) where
   module _ (e : Enumeration) (values′ : List ℤ) (names′ : List ℕ) where
-    abbrev Says : Outcomes EnumerationRead ℤ ℕ → Type 0
-    Says o = BothGiven o (read.Is e) values′ names′
+    abbrev Says : Outcomes (Said Enumeration) ℤ ℕ → Type 0
+    Says o = BothGiven o (gives e) values′ names′
 
-    module _ (i : ℕ) (row : inRowOfKey (table s settings vendors sizes rows attrs counts) key keyed.Refused keyed.Row ≡ keyed.Row i) where
+    module _ (i : ℕ) (row : rowOf (table s settings vendors sizes rows attrs counts) key ≡ gives i) where
       abbrev Result : Type 0
       Result = (xs : List Listed) × EnumerationFilled (table s settings vendors sizes rows attrs counts) key values names e values′ names′ i xs
 
-      with-members : (xs : List Listed) → rowLists settings s rows attrs (counts .rows) i ≡ listed xs → e .members ≡ length xs
+      with-members : (xs : List Listed) → rowLists settings s rows attrs (counts .rows) i ≡ gives xs → e .members ≡ length xs
           → (leb (e .members) (length values) && leb (e .members) (length names / 2)) ≡ true
           → values′ ≡ sets values 0 (valuesOf (inOrder (settings .producer) xs)) → names′ ≡ sets names 0 (namesOf (inOrder (settings .producer) xs)) → Result
       with-members xs l m fits p q =
@@ -94,57 +88,44 @@ module _ (settings : Settings) (vendors sizes s rows attrs : List ℕ) (counts :
             },
           )
 
-      abbrev rooms : EnumerationWhole → Outcomes EnumerationRead ℤ ℕ
-      rooms w = enumerationInto (settings .producer) values names (rowLists settings s rows attrs (counts .rows) i) w
+      abbrev fits : Enumeration → Bool
+      fits e′ = leb (e′ .members) (length values) && leb (e′ .members) (length names / 2)
 
-      by-fit : (e′ : Enumeration) → enumerationAt settings s rows attrs (counts .rows) i ≡ whole.Is e′ → (b : Bool)
-          → (leb (e′ .members) (length values) && leb (e′ .members) (length names / 2)) ≡ b
-          → Says (cond b (listInto (settings .producer) values names (rowLists settings s rows attrs (counts .rows) i) (read.Is e′))
-          (record { answer = read.Room (e′ .members); first = values; second = names })) → Result
-      unfolding listInto
-      by-fit e′ p true t g =
-          let found : (xs : List Listed) × (rowLists settings s rows attrs (counts .rows) i ≡ listed xs) × (e′ .members ≡ length xs) =
+      abbrev filled : Enumeration → Bool → List Listed → Outcomes (Said Enumeration) ℤ ℕ
+      filled e′ b xs =
+          fillsRooms b e′ (e′ .members ∷ []) (valuesOf (inOrder (settings .producer) xs)) (namesOf (inOrder (settings .producer) xs)) values names
+
+      by-fit : (e′ : Enumeration) (xs : List Listed) → rowLists settings s rows attrs (counts .rows) i ≡ gives xs → e′ .members ≡ length xs → (b : Bool) → fits e′ ≡ b
+          → Says (filled e′ b xs) → Result
+      unfolding fillsRooms
+      by-fit e′ xs l m true t g =
+          let one : e ≡ e′ = given-is (g .answer-is) in
+          with-members xs l (ap (λ (x : Enumeration). x .members) one ∙ m) (ap fits one ∙ t) (g .first-is) (g .second-is)
+      by-fit e′ xs l m false t g = absurd (given-refused (g .answer-is))
+
+      by-whole : (a : Said Enumeration) → enumerationAt settings s rows attrs (counts .rows) i ≡ a
+          → Says (inRooms values names a (λ (e′ : Enumeration). inRooms values names (rowLists settings s rows attrs (counts .rows) i) (filled e′ (fits e′)))) → Result
+      unfolding inRooms
+      by-whole (gives e′) p g =
+          let found : (xs : List Listed) × (rowLists settings s rows attrs (counts .rows) i ≡ gives xs) × (e′ .members ≡ length xs) =
           members-listed settings s rows attrs (counts .rows) i p
           in
-          let g′ : Says (listInto (settings .producer) values names (listed (found .0)) (read.Is e′)) =
-          subst (λ (l : Lists). Says (listInto (settings .producer) values names l (read.Is e′))) (found .1) g
-          in
-          let same : read.Is e ≡ read.Is e′ = g′ .answer-is in
-          let one : e ≡ e′ = cc in
-          with-members (found .0) (found .1) (ap (λ (x : Enumeration). x .members) one ∙ found .2)
-          (ap (λ (x : Enumeration). leb (x .members) (length values) && leb (x .members) (length names / 2)) one ∙ t) (g′ .first-is) (g′ .second-is)
-      by-fit e′ p false t g =
-          let other : read.Is e ≡ read.Room (e′ .members) = g .answer-is in
-          let z : _≡_ {A = ℕ} 0 1 = cc in
-          absurd (omega arith)
+          by-fit e′ (found .0) (found .1) (found .2) (fits e′) refl
+          (subst (λ (l : Said (List Listed)). Says (inRooms values names l (filled e′ (fits e′)))) (found .1) g)
+      by-whole (refuses number place counts′) p g = absurd (given-refused (g .answer-is))
 
-      by-whole : (w : EnumerationWhole) → enumerationAt settings s rows attrs (counts .rows) i ≡ w → Says (rooms w) → Result
-      unfolding enumerationInto
-      by-whole (whole.Is e′) p g = by-fit e′ p (leb (e′ .members) (length values) && leb (e′ .members) (length names / 2)) refl g
-      by-whole (whole.Refused why) p g =
-          let other : read.Is e ≡ read.Refused why = g .answer-is in
-          let z : _≡_ {A = ℕ} 0 1 = cc in
-          absurd (omega arith)
-
-    abbrev nothing : Refusal → Outcomes EnumerationRead ℤ ℕ
-    nothing why = record { answer = read.Refused why; first = values; second = names }
-
-    abbrev inRooms : ℕ → Outcomes EnumerationRead ℤ ℕ
-    inRooms i = enumerationInto (settings .producer) values names (rowLists settings s rows attrs (counts .rows) i) (enumerationAt settings s rows attrs (counts .rows) i)
-
-    by-row : (told : Keyed) → told ≡ inRowOfKey (table s settings vendors sizes rows attrs counts) key keyed.Refused keyed.Row
-        → Says (inRowOfKey (table s settings vendors sizes rows attrs counts) key nothing inRooms) → (i : ℕ) × (xs : List Listed) × EnumerationFilled (table s settings vendors sizes rows attrs counts) key values names e values′ names′ i xs
-    by-row (keyed.Row i) is g =
-        let told : Says (inRooms i) = subst Says (sym (in-row settings vendors sizes s rows attrs counts key is nothing inRooms refl)) g in
-        let r : (xs : List Listed) × EnumerationFilled (table s settings vendors sizes rows attrs counts) key values names e values′ names′ i xs = by-whole i (sym is) (enumerationAt settings s rows attrs (counts .rows) i) refl told in
+    by-row : (d : Said ℕ) → rowOf (table s settings vendors sizes rows attrs counts) key ≡ d
+        → Says (inRooms values names d (enumerationInto settings s rows attrs (counts .rows) values names))
+        → (i : ℕ) × (xs : List Listed) × EnumerationFilled (table s settings vendors sizes rows attrs counts) key values names e values′ names′ i xs
+    unfolding inRooms enumerationInto
+    by-row (gives i) is g =
+        let r : (xs : List Listed) × EnumerationFilled (table s settings vendors sizes rows attrs counts) key values names e values′ names′ i xs =
+        by-whole i is (enumerationAt settings s rows attrs (counts .rows) i) refl g
+        in
         (i, r .0, r .1)
-    by-row (keyed.Refused why) is g =
-        let told : Says (nothing why) = subst Says (sym (no-row settings vendors sizes s rows attrs counts key is nothing inRooms refl)) g in
-        let other : read.Is e ≡ read.Refused why = told .answer-is in
-        let z : _≡_ {A = ℕ} 0 1 = cc in
-        absurd (omega arith)
+    by-row (refuses number place counts′) is g = absurd (given-refused (g .answer-is))
 
-    pub enumeration-filled : BothGiven (processEnumerationTag (table s settings vendors sizes rows attrs counts) key values names) (read.Is e) values′ names′
+    pub enumeration-filled : BothGiven (processEnumerationTag (table s settings vendors sizes rows attrs counts) key values names) (gives e) values′ names′
         → (i : ℕ) × (xs : List Listed) × EnumerationFilled (table s settings vendors sizes rows attrs counts) key values names e values′ names′ i xs
     unfolding processEnumerationTag
-    enumeration-filled g = by-row (inRowOfKey (table s settings vendors sizes rows attrs counts) key keyed.Refused keyed.Row) refl g
+    enumeration-filled g = by-row (rowOf (table s settings vendors sizes rows attrs counts) key) refl g

@@ -15,18 +15,18 @@ use Rattle.attributes.specs.Text.{zeroFrom}
 use Rattle.attributes.specs.Parts.{blockAt}
 use Rattle.blocks.specs.Location.{processOffset, processAddress}
 use Rattle.blocks.specs.Types.{processType}
-use Rattle.blocks.specs.declared.location.Located.{Located}
-use Rattle.blocks.specs.declared.location.Located.the-variants as located
-use Rattle.blocks.specs.declared.types.Typed.{Typed}
-use Rattle.blocks.specs.declared.types.Typed.the-variants as typed
-use Rattle.tables.specs.Tests.{refusedAt}
+use Rattle.tables.specs.Inside.Keyed.{refusedAt}
 use Rattle.tables.specs.declared.find.Found.{Found}
 use Rattle.tables.specs.declared.find.Found.the-variants as found
 use Rattle.links.specs.Typed.{wordAt}
-use Rattle.links.specs.declared.typed.Value.{Value}
+use Rattle.links.specs.Maybe.{Maybe}
+use Rattle.records.specs.Inside.Fields.{wordSaid, saidNeeded}
 use Rattle.records.proofs.Laws.Taken.{by-case, test-passed, test-failed}
 use Rattle.records.specs.Scan.{attributeAt}
-use Rattle.records.specs.Fields.{isSought, lastFrom, lastOf, textOf, nameBy, nameOf, replaced, typeBy, typeOf, asOffset, offsetIn, offsetBy, offsetField, asAddress, addressIn, addressBy, addressField, asWord, wordIn, wordBy, wordOf, needed, withByteSize, byteSized, visibilityBy, visibilityIn, visibilityOf}
+use Rattle.format.specs.Said.{Said, gives, refusal, _>>=_, placed}
+use Rattle.format.proofs.Laws.Said.{goes-on}
+use Rattle.blocks.specs.declared.types.Type.{«Type»}
+use Rattle.records.specs.Fields.{isSought, lastFrom, lastOf, textOf, nameBy, nameOf, attributeNeeded, typeBy, typeOf, locationBlock, offsetField, asAddress, addressBy, addressField, asWord, wordIn, wordBy, wordOf, wordNeeded, nameNeeded, visibilityBy, visibilityIn, visibilityOf}
 use Rattle.records.specs.declared.scan.Run.{Run}
 use Rattle.records.specs.declared.scan.Attribute.{Attribute}
 use Rattle.records.specs.declared.fields.Sought.{Sought}
@@ -37,7 +37,6 @@ use Rattle.records.specs.declared.fields.Name.the-variants as name
 use Rattle.records.specs.declared.fields.Word.{Word}
 use Rattle.records.specs.declared.fields.Word.the-variants as word
 use Rattle.records.specs.declared.fields.Needed.{Needed}
-use Rattle.records.specs.declared.fields.Needed.the-variants as need
 use Rattle.records.specs.declared.fields.Visibility.{Visibility}
 use Rattle.records.specs.declared.fields.Visibility.the-variants as visibility
 
@@ -103,64 +102,46 @@ word-last s attrs run number is h = h ∙ ap (wordBy s attrs run) is
 
 -- ---- types
 
-pub replaced-refused : (key : ℕ) {t : Typed} {why why′ : Refusal} → t ≡ typed.Refused why → why′ ≡ refusedAt key (why .reason)
-    → typed.Refused why′ ≡ replaced key t
-unfolding replaced
-replaced-refused key p q = ap typed.Refused q ∙ ap (replaced key) (sym p)
-
 module _ (s attrs : List ℕ) (run : Run) {told : Found} where
-  pub type-there : {k : ℕ} {a : Attribute} {t r : Typed} → told ≡ found.At k → a ≡ attributeAt attrs k
-      → t ≡ processType (run .ends) s (a .number) (a .value) → r ≡ replaced (run .key) t → r ≡ typeBy s attrs run told
-  unfolding typeBy
+  pub type-there : {k : ℕ} {a : Attribute} {d z : Said «Type»} → told ≡ found.At k → a ≡ attributeAt attrs k
+      → d ≡ processType (run .ends) s (a .number) (a .value) → z ≡ placed (run .key) d → z ≡ typeBy s attrs run told
+  unfolding typeBy attributeNeeded _>>=_
   type-there p q h g =
-      g ∙ ap (replaced (run .key)) (h ∙ ap (λ (x : Attribute). processType (run .ends) s (x .number) (x .value)) q) ∙ ap (typeBy s attrs run) (sym p)
+      g ∙ ap (placed (run .key)) (h ∙ ap (λ (x : Attribute). processType (run .ends) s (x .number) (x .value)) q) ∙ ap (typeBy s attrs run) (sym p)
 
-  pub type-none : {why : Refusal} → told ≡ found.Nothing → why ≡ refusedAt (run .key) reason.Missing → typed.Refused why ≡ typeBy s attrs run told
-  unfolding typeBy
-  type-none p q = ap typed.Refused q ∙ ap (typeBy s attrs run) (sym p)
+  pub type-none : {why : Refusal} → told ≡ found.Nothing → why ≡ refusedAt (run .key) reason.Missing → refusal why ≡ typeBy s attrs run told
+  unfolding typeBy attributeNeeded _>>=_
+  type-none p q = ap refusal q ∙ ap (typeBy s attrs run) (sym p)
 
-pub type-last : (s attrs : List ℕ) (run : Run) {told : Found} {t : Typed} → told ≡ lastOf sought.Type attrs run → t ≡ typeBy s attrs run told
-    → t ≡ typeOf s attrs run
+pub type-last : (s attrs : List ℕ) (run : Run) {told : Found} {z : Said «Type»} → told ≡ lastOf sought.Type attrs run → z ≡ typeBy s attrs run told
+    → z ≡ typeOf s attrs run
 unfolding typeOf
 type-last s attrs run is h = h ∙ ap (typeBy s attrs run) is
 
 -- ---- locations
 
-module _ (run : Run) (block : List ℕ) {told : Located} where
-  pub offset-is : told ≡ processOffset (run .ends .section) block → {x : ℕ} → told ≡ located.Is x → need.Is x ≡ offsetIn run block
-  unfolding offsetIn asOffset
-  offset-is is p = ap (asOffset (run .key)) (sym p ∙ is)
-
-  pub offset-refused : told ≡ processOffset (run .ends .section) block → {why why′ : Refusal} → told ≡ located.Refused why
-      → why′ ≡ refusedAt (run .key) (why .reason) → need.Refused why′ ≡ offsetIn run block
-  unfolding offsetIn asOffset
-  offset-refused is p q = ap need.Refused q ∙ ap (asOffset (run .key)) (sym p ∙ is)
-
-  pub address-is : told ≡ processAddress (run .ends .section) block → {x : ℕ} → told ≡ located.Is x → word.Is x ≡ addressIn run block
-  unfolding addressIn asAddress
-  address-is is p = ap asAddress (sym p ∙ is)
-
-  pub address-refused : told ≡ processAddress (run .ends .section) block → {why : Refusal} → told ≡ located.Refused why → word.Nothing ≡ addressIn run block
-  unfolding addressIn asAddress
-  address-refused is p = ap asAddress (sym p ∙ is)
-
 module _ (s attrs : List ℕ) (run : Run) {told : Found} (is : told ≡ lastOf (sought.Number attribute.Location) attrs run) where
   module _ {k : ℕ} {a : Attribute} {block : List ℕ} (p : told ≡ found.At k) (q : a ≡ attributeAt attrs k)
       (b : block ≡ blockAt (run .ends .«data») 2 s (a .value)) where
-    block-is : block ≡ blockAt (run .ends .«data») 2 s (attributeAt attrs k .value)
+    block-is : block ≡ locationBlock s run (attributeAt attrs k)
+    unfolding locationBlock
     block-is = b ∙ ap (λ (x : Attribute). blockAt (run .ends .«data») 2 s (x .value)) q
 
-    pub offset-there : {n : Needed} → n ≡ offsetIn run block → n ≡ offsetField s attrs run
-    unfolding offsetField offsetBy
-    offset-there h = by-told (offsetBy s attrs run) is p (h ∙ ap (offsetIn run) block-is)
+    pub offset-there : {z : Said ℕ} → z ≡ placed (run .key) (processOffset (run .ends .section) block) → z ≡ offsetField s attrs run
+    unfolding offsetField attributeNeeded _>>=_
+    offset-there h =
+        by-told (λ (x : Found). attributeNeeded attrs (run .key) x >>= λ a. placed (run .key) (processOffset (run .ends .section) (locationBlock s run a))) is p
+        (h ∙ ap (λ (x : List ℕ). placed (run .key) (processOffset (run .ends .section) x)) block-is)
 
-    pub address-there : {w : Word} → w ≡ addressIn run block → w ≡ addressField s attrs run
+    pub address-there : {w : Word} → w ≡ asAddress (processAddress (run .ends .section) block) → w ≡ addressField s attrs run
     unfolding addressField addressBy
-    address-there h = by-told (addressBy s attrs run) is p (h ∙ ap (addressIn run) block-is)
+    address-there h = by-told (addressBy s attrs run) is p (h ∙ ap (λ (x : List ℕ). asAddress (processAddress (run .ends .section) x)) block-is)
 
-  pub offset-none : {why : Refusal} → told ≡ found.Nothing → why ≡ refusedAt (run .key) reason.Missing → need.Refused why ≡ offsetField s attrs run
-  unfolding offsetField offsetBy
-  offset-none p q = by-told (offsetBy s attrs run) is p (ap need.Refused q)
+  pub offset-none : {why : Refusal} → told ≡ found.Nothing → why ≡ refusedAt (run .key) reason.Missing → refusal why ≡ offsetField s attrs run
+  unfolding offsetField attributeNeeded _>>=_
+  offset-none p q =
+      by-told (λ (x : Found). attributeNeeded attrs (run .key) x >>= λ a. placed (run .key) (processOffset (run .ends .section) (locationBlock s run a))) is p
+      (ap refusal q)
 
   pub address-none : told ≡ found.Nothing → word.Nothing ≡ addressField s attrs run
   unfolding addressField addressBy
@@ -168,18 +149,24 @@ module _ (s attrs : List ℕ) (run : Run) {told : Found} (is : told ≡ lastOf (
 
 -- ---- numbers
 
-pub word-in : (s : List ℕ) (run : Run) {a b : Attribute} {form : FormKind} {v : Value} {w : Word} → a ≡ b → form ≡ formOf (a .number)
-    → v ≡ wordAt form s (record { at = a .value; ends = run .ends }) → w ≡ asWord v → w ≡ wordIn s run b
-unfolding wordIn
+pub word-in : (s : List ℕ) (run : Run) {a b : Attribute} {form : FormKind} {v : Said (Maybe ℕ)} {w : Word} → a ≡ b → form ≡ formOf (a .number)
+    → v ≡ gives (wordAt form s (record { at = a .value; ends = run .ends })) → w ≡ wordSaid v → w ≡ wordIn s run b
+unfolding wordIn wordSaid
 word-in s run {a} p f v h =
-    h ∙ ap asWord (v ∙ ap (λ (x : FormKind). wordAt x s (record { at = a .value; ends = run .ends })) f) ∙ ap (wordIn s run) p
+    h ∙ ap wordSaid (v ∙ ap (λ (x : FormKind). gives (wordAt x s (record { at = a .value; ends = run .ends }))) f) ∙ ap (wordIn s run) p
 
-pub needed-none : (key : ℕ) {w : Word} {why : Refusal} → w ≡ word.Nothing → why ≡ refusedAt key reason.Missing → need.Refused why ≡ needed key w
-unfolding needed
-needed-none key p q = ap need.Refused q ∙ ap (needed key) (sym p)
+pub needed-none : (key : ℕ) {w : Word} {why : Refusal} → w ≡ word.Nothing → why ≡ refusedAt key reason.Missing → refusal why ≡ wordNeeded key w
+unfolding wordNeeded
+needed-none key p q = ap refusal q ∙ ap (wordNeeded key) (sym p)
 
-pub needed-told : (key : ℕ) {told : Needed} {w v : Word} → w ≡ v → told ≡ needed key w → told ≡ needed key v
-needed-told key p is = is ∙ ap (needed key) p
+-- a number that was looked up and is needed
+pub word-needed : (key : ℕ) {z : Said ℕ} {w v : Word} → w ≡ v → z ≡ wordNeeded key w → z ≡ wordNeeded key v
+word-needed key p is = is ∙ ap (wordNeeded key) p
+
+-- a name that was looked up and is needed
+pub name-needed : (key : ℕ) {told x y : Name} → told ≡ x → told ≡ y → {A : Type 0} (next : Text → Said A) {z : Said A} → z ≡ (nameNeeded key y >>= next)
+    → z ≡ (nameNeeded key x >>= next)
+name-needed key is p next h = goes-on (nameNeeded key) (ap (nameNeeded key) is) p next h
 
 -- ---- visibility
 
@@ -205,26 +192,3 @@ module _ (attrs : List ℕ) (run : Run) {told : Found} (is : told ≡ lastOf sou
   pub visibility-none : told ≡ found.Nothing → visibility.Public ≡ visibilityOf attrs run
   unfolding visibilityOf visibilityIn
   visibility-none p = by-told (visibilityIn attrs) is p refl
-
--- ---- a name, and a ByteSize that is needed
-
-module _ {A : Type 0} (refused : Refusal → A) (answer : Name → ℕ → A) (s attrs : List ℕ) (run : Run) where
-  module _ {w : Word} {told : Needed} (q : w ≡ wordOf s attrs run attribute.ByteSize) (is : told ≡ needed (run .key) w) where
-    pub byte-size-there : {size : ℕ} {n : Name} → told ≡ need.Is size → n ≡ nameOf s attrs run attribute.Name → answer n size ≡ byteSized refused answer s attrs run
-    unfolding byteSized withByteSize
-    byte-size-there {size} p h = by-told (withByteSize refused answer s attrs run) (needed-told (run .key) q is) p (ap (λ (x : Name). answer x size) h)
-
-    pub byte-size-missing : {why : Refusal} → told ≡ need.Refused why → refused why ≡ byteSized refused answer s attrs run
-    unfolding byteSized withByteSize
-    byte-size-missing p = by-told (withByteSize refused answer s attrs run) (needed-told (run .key) q is) p refl
-
-  -- what holds of both answers
-  with-byte-size : (P : A → Type 0) → ((n : Name) (size : ℕ) → P (answer n size)) → ((why : Refusal) → P (refused why))
-      → (x : Needed) → P (withByteSize refused answer s attrs run x)
-  unfolding withByteSize
-  with-byte-size P f g (need.Is size) = f (nameOf s attrs run attribute.Name) size
-  with-byte-size P f g (need.Refused why) = g why
-
-  pub byte-sized-all : (P : A → Type 0) → ((n : Name) (size : ℕ) → P (answer n size)) → ((why : Refusal) → P (refused why)) → P (byteSized refused answer s attrs run)
-  unfolding byteSized
-  byte-sized-all P f g = with-byte-size P f g (needed (run .key) (wordOf s attrs run attribute.ByteSize))

@@ -12,7 +12,7 @@ use Rattle.format.specs.declared.settings.Producer.{Producer}
 use Rattle.format.specs.declared.refusal.Refusal.{Refusal}
 use Rattle.format.specs.declared.refusal.Reason.the-variants as reason
 use Rattle.tables.specs.Row.{rowAt}
-use Rattle.tables.specs.Tests.{refusedAt}
+use Rattle.tables.specs.Inside.Keyed.{refusedAt}
 use Rattle.tables.specs.declared.row.Row.{Row}
 use Rattle.links.specs.Links.{childWalk, nonNull}
 use Rattle.links.specs.Inside.Kids.{rowsMet}
@@ -21,32 +21,16 @@ use Rattle.links.proofs.Laws.Kids.{walk-kids, counted-walk, counted-kids, endle
 use Rattle.links.specs.declared.children.Kids.{Kids}
 use Rattle.links.specs.declared.children.Kids.the-variants.{Count, Endless}
 use Rattle.records.proofs.Laws.Taken.{by-case, test-passed, test-failed}
-use Rattle.records.specs.Scan.{orElse, runOf, faultAt, faultsFrom}
-use Rattle.records.specs.Front.{isMwcc, kindTaken, kindFault, childlessFault, headOf, unless}
+use Rattle.format.specs.Said.{Said, gives, refusal, must, _>>_}
+use Rattle.format.proofs.Laws.Said.{goes-past}
+use Rattle.records.specs.Scan.{runOf, faultAt, faultsFrom}
+use Rattle.records.specs.Inside.Scan.{saidFault}
+use Rattle.records.specs.Front.{isMwcc, kindTaken, kindFault, childlessFault, headOf}
 use Rattle.records.specs.declared.taken.Record.{Record}
 use Rattle.records.specs.declared.taken.Record.the-variants.{Variable}
 use Rattle.records.specs.declared.scan.Run.{Run}
 use Rattle.records.specs.declared.scan.Fault.{Fault}
 use Rattle.records.specs.declared.scan.Fault.the-variants.{Clear, Refused}
-
--- ---- after a fault
-
-module _ {told fault : Fault} (is : told ≡ fault) where
-  pub or-else-clear : {next r : Fault} → told ≡ Clear → r ≡ next → r ≡ orElse fault next
-  unfolding orElse
-  or-else-clear {next} p h = h ∙ ap (λ (f : Fault). orElse f next) (sym p ∙ is)
-
-  pub or-else-refused : (next : Fault) {why : Refusal} → told ≡ Refused why → Refused why ≡ orElse fault next
-  unfolding orElse
-  or-else-refused next p = ap (λ (f : Fault). orElse f next) (sym p ∙ is)
-
-  pub unless-clear : {A : Type 0} (refused : Refusal → A) {answer r : A} → told ≡ Clear → r ≡ answer → r ≡ unless fault refused answer
-  unfolding unless
-  unless-clear refused {answer} p h = h ∙ ap (λ (f : Fault). unless f refused answer) (sym p ∙ is)
-
-  pub unless-refused : {A : Type 0} (refused : Refusal → A) (answer : A) {why : Refusal} → told ≡ Refused why → refused why ≡ unless fault refused answer
-  unfolding unless
-  unless-refused refused answer p = ap (λ (f : Fault). unless f refused answer) (sym p ∙ is)
 
 -- ---- the kind of a row
 
@@ -63,25 +47,26 @@ module _ (settings : Settings) (rows : List ℕ) (which : Record) (i : ℕ) {row
   kind-is : b ≡ kindTaken (settings .producer) which (rowAt rows i .kind)
   kind-is = is ∙ ap (λ (x : Row). kindTaken (settings .producer) which (x .kind)) at
 
-  pub kind-right : b ≡ true → Clear ≡ kindFault settings rows which i
-  unfolding kindFault
+  pub kind-right : b ≡ true → gives tt ≡ kindFault settings rows which i
+  unfolding kindFault must
   kind-right t = test-passed kind-is _ t refl
 
-  pub kind-wrong : {why : Refusal} → b ≡ false → why ≡ refusedAt (row .key) reason.Kind → Refused why ≡ kindFault settings rows which i
-  unfolding kindFault
-  kind-wrong t p = test-failed kind-is _ t (ap Refused (p ∙ ap (λ (x : Row). refusedAt (x .key) reason.Kind) at))
+  pub kind-wrong : {why : Refusal} → b ≡ false → why ≡ refusedAt (row .key) reason.Kind → refusal why ≡ kindFault settings rows which i
+  unfolding kindFault must
+  kind-wrong t p = test-failed kind-is _ t (ap refusal (p ∙ ap (λ (x : Row). refusedAt (x .key) reason.Kind) at))
 
 -- ---- kind, then attributes
 
-module _ (settings : Settings) (s rows attrs : List ℕ) (which : Record) (i : ℕ) {told : Fault} (is : told ≡ kindFault settings rows which i) where
-  pub head-clear : {run : Run} {r : Fault} → told ≡ Clear → run ≡ runOf (settings .endian) rows i
-      → r ≡ faultsFrom (faultAt (settings .roles) which run s attrs) 0 (run .count) → r ≡ headOf settings s rows attrs which i
-  unfolding headOf
-  head-clear p q h = or-else-clear is p (h ∙ ap (λ (x : Run). faultsFrom (faultAt (settings .roles) which x s attrs) 0 (x .count)) q)
+module _ (settings : Settings) (s rows attrs : List ℕ) (which : Record) (i : ℕ) {told : Fault} (is : saidFault told ≡ kindFault settings rows which i) where
+  pub head-clear : {run : Run} {z : Said Unit} → told ≡ Clear → run ≡ runOf (settings .endian) rows i
+      → z ≡ faultsFrom (faultAt (settings .roles) which run s attrs) 0 (run .count) → z ≡ headOf settings s rows attrs which i
+  unfolding headOf saidFault _>>_
+  head-clear p q h =
+      goes-past saidFault is p _ (h ∙ ap (λ (x : Run). faultsFrom (faultAt (settings .roles) which x s attrs) 0 (x .count)) q)
 
-  pub head-refused : {why : Refusal} → told ≡ Refused why → Refused why ≡ headOf settings s rows attrs which i
-  unfolding headOf
-  head-refused p = or-else-refused is _ p
+  pub head-refused : {why : Refusal} → told ≡ Refused why → refusal why ≡ headOf settings s rows attrs which i
+  unfolding headOf saidFault _>>_
+  head-refused p = goes-past saidFault is p _ refl
 
 -- ---- no children
 
@@ -90,22 +75,22 @@ module _ (e : Endian) (s rows attrs : List ℕ) (n i : ℕ) {told : Kids} (is : 
     count-met : k ≡ length (nonNull rows (rowsMet (childWalk e s rows attrs n i)))
     count-met = counted-kids e s rows attrs n i is p ∙ ap length (walk-kids e s rows attrs n i (counted-walk e s rows attrs n i is p))
 
-    pub childless : k ≡ 0 → Clear ≡ childlessFault rows i (childWalk e s rows attrs n i)
-    unfolding childlessFault
+    pub childless : k ≡ 0 → gives tt ≡ childlessFault rows i (childWalk e s rows attrs n i)
+    unfolding childlessFault must
     childless h =
         by-case (childlessFault rows i) (counted-walk e s rows attrs n i is p)
         (test-passed refl _ (eq-eqb (length (nonNull rows (rowsMet (childWalk e s rows attrs n i)))) 0 (sym count-met ∙ h)) refl)
 
     pub has-children : {row : Row} {why : Refusal} → (k ≡ 0 → ⊥) → row ≡ rowAt rows i → why ≡ refusedAt (row .key) reason.Child
-        → Refused why ≡ childlessFault rows i (childWalk e s rows attrs n i)
-    unfolding childlessFault
+        → refusal why ≡ childlessFault rows i (childWalk e s rows attrs n i)
+    unfolding childlessFault must
     has-children h at q =
         by-case (childlessFault rows i) (counted-walk e s rows attrs n i is p)
         (test-failed refl _ (ne-eqb (length (nonNull rows (rowsMet (childWalk e s rows attrs n i)))) 0 (λ z. h (count-met ∙ z)))
-        (ap Refused (q ∙ ap (λ (x : Row). refusedAt (x .key) reason.Child) at)))
+        (ap refusal (q ∙ ap (λ (x : Row). refusedAt (x .key) reason.Child) at)))
 
   pub endless-children : {row : Row} {why : Refusal} → told ≡ Endless → row ≡ rowAt rows i → why ≡ refusedAt (row .key) reason.Link
-      → Refused why ≡ childlessFault rows i (childWalk e s rows attrs n i)
-  unfolding childlessFault
+      → refusal why ≡ childlessFault rows i (childWalk e s rows attrs n i)
+  unfolding childlessFault must
   endless-children p at q =
-      by-case (childlessFault rows i) (endless-walk e s rows attrs n i is p) (ap Refused (q ∙ ap (λ (x : Row). refusedAt (x .key) reason.Link) at))
+      by-case (childlessFault rows i) (endless-walk e s rows attrs n i is p) (ap refusal (q ∙ ap (λ (x : Row). refusedAt (x .key) reason.Link) at))

@@ -1,68 +1,30 @@
 -- Where a union is read, its members are there: as many as it says, their records one after the other at the front of the room, and what lies behind is as it was.
+use Rattle.format.proofs.Laws.Said.{given-is, room-given, fill-given}
 use Prim.Native.Nat.{ℕ, _+_, _*_, _/_, _≤_}
 use native.Mathlib.Omega.{arith}
-use mathlib.Core.Path.{_≡_, refl, sym, ap, ap₂, _∙_, subst}
-use mathlib.Core.Bool.{Bool, true, false, cond}
+use mathlib.Core.Path.{_≡_, refl, sym, ap, _∙_, subst}
+use mathlib.Core.Bool.{Bool, true}
 use mathlib.Core.List.{List, [], _∷_, _++_}
 use lib.ListN.{length, length-append}
 use lib.Seq.{sets}
 use lib.Dec.{leb}
-use borrow.Author.Tests.{leb-true, le-leb}
-use Rattle.tables.specs.Table.{table}
+use borrow.Author.Tests.{leb-true}
+use Rattle.tables.specs.Table.{Table, table}
 use Rattle.lent.proofs.Laws.Filled.{sets-filled}
 use Rattle.lent.specs.Outcome.{Outcome, Given}
+use Rattle.format.specs.Said.{Said, gives, inRoom, fillsRoom}
 use Rattle.format.specs.declared.settings.Settings.{Settings}
 use Rattle.tables.specs.declared.row.Counts.{Counts}
-use Rattle.tables.specs.Keyed.{inRowOfKey}
-use Rattle.tables.proofs.Laws.Keyed.{in-row, no-row, keyed-key}
-use Rattle.links.proofs.Laws.Typed.{keyed-asked}
-use Rattle.tables.specs.declared.keyed.Keyed.{Keyed}
+use Rattle.tables.specs.Keyed.{rowOf}
+use Rattle.tables.specs.Inside.Keyed.{saidKeyed}
+use Rattle.tables.proofs.Laws.Keyed.{keyed-there, keyed-key}
 use Rattle.tables.specs.declared.keyed.Keyed.the-variants as keyed
 use Rattle.records.specs.MemberWords.{memberWidth, memberWords}
 use Rattle.records.proofs.Laws.MemberWords.{words-wide}
-use Rattle.records.specs.Unions.{Placed, Members, members, membersRefused, rowMembers, unionAt, membersWords, membersInto, unionInto, processUnionTag}
+use Rattle.records.specs.Unions.{Placed, rowMembers, unionAt, membersWords, unionInto, processUnionTag}
 use Rattle.records.proofs.Laws.Unions.{AsMany, union-counts}
 use Rattle.records.specs.declared.unions.Union.{Union}
-use Rattle.records.specs.declared.unions.UnionWhole.{UnionWhole}
-use Rattle.records.specs.declared.unions.UnionWhole.the-variants as whole
-use Rattle.records.specs.declared.unions.UnionRead.{UnionRead}
-use Rattle.records.specs.declared.unions.UnionRead.the-variants.{Is, Refused, Room}
 use Rattle.records.specs.UnionFilled.{UnionFilled}
-
--- ---- what the answer tells
-
-abbrev isUnion : Union → UnionRead → Type 0
-isUnion u (Is v) = v ≡ u
-isUnion u (Refused why) = ⊥
-isUnion u (Room k) = ⊥
-
-into-answer : (room : List ℕ) (all : Members) (answer : UnionRead) → membersInto room all answer .answer ≡ answer
-unfolding membersInto
-into-answer room (members ms) answer = refl
-into-answer room (membersRefused why) answer = refl
-
-module _ (room : List ℕ) (all : Members) where
-  -- a union was read whole, and its members fit
-  record Fits (w : UnionWhole) (u : Union) : Type 0 where
-    read : w ≡ whole.Is u
-    room-enough : u .members ≤ length room / memberWidth
-
-  fits-by : (v : Union) {u : Union} (b : Bool) → leb (v .members) (length room / memberWidth) ≡ b
-      → cond b (membersInto room all (Is v)) (record { answer = Room (v .members); room = room }) .answer ≡ Is u → Fits (whole.Is v) u
-  fits-by v {u} true h p =
-      let same : v ≡ u = subst (isUnion u) (sym p ∙ into-answer room all (Is v)) refl in
-      record {
-        read = ap whole.Is same;
-        room-enough = subst (λ (x : Union). x .members ≤ length room / memberWidth) same (leb-true (v .members) (length room / memberWidth) h);
-      }
-  fits-by v {u} false h p = absurd (subst (isUnion u) (sym p) refl)
-
-  fits : (w : UnionWhole) {u : Union} → unionInto room all w .answer ≡ Is u → Fits w u
-  unfolding unionInto
-  fits (whole.Is v) p = fits-by v (leb (v .members) (length room / memberWidth)) refl p
-  fits (whole.Refused why) {u} p = absurd (subst (isUnion u) (sym p) refl)
-
--- ---- what the room holds
 
 words-long : (ms : List Placed) → length (membersWords ms) ≡ length ms * memberWidth
 unfolding membersWords
@@ -75,64 +37,71 @@ words-long (m ∷ ms) =
     in
     omega arith
 
-module _ (room : List ℕ) {all : Members} {w : UnionWhole} {u : Union} (f : Fits room all w u) (these : AsMany all u) where
-  long : length (membersWords (these .list)) ≡ u .members * memberWidth
-  long = words-long (these .list) ∙ ap (λ (k : ℕ). k * memberWidth) (these .many)
-
-  filled-room : unionInto room all w .room ≡ sets room 0 (membersWords (these .list))
-  unfolding unionInto membersInto
-  filled-room =
-      let enough : u .members ≤ length room / memberWidth = f .room-enough in
-      ap₂ (λ (x : Members) (y : UnionWhole). unionInto room x y .room) (these .are) (f .read)
-      ∙ ap (λ (b : Bool). cond b (membersInto room (members (these .list)) (Is u)) (record { answer = Room (u .members); room = room }) .room) (le-leb (u .members) (length room / memberWidth) enough)
-
 -- ---- the theorem
 
-module _ (settings : Settings) (vendors sizes s rows attrs : List ℕ) (counts : Counts) (key : ℕ) (room : List ℕ) {r : UnionRead} {room′ : List ℕ} {u : Union}
-    (g : Given (processUnionTag (table s settings vendors sizes rows attrs counts) key room) r room′) (p : r ≡ Is u) where
-  abbrev all : ℕ → Members
-  all i = rowMembers settings s rows attrs (counts .rows) i
+module _ (settings : Settings) (vendors sizes s rows attrs : List ℕ) (counts : Counts) (key : ℕ) (room : List ℕ) where
+  abbrev t : Table
+  t = table s settings vendors sizes rows attrs counts
 
-  abbrev union : ℕ → UnionWhole
+  abbrev union : ℕ → Said Union
   union i = unionAt settings s rows attrs (counts .rows) i
 
-  abbrev end : ℕ
-  end = u .members * memberWidth
+  abbrev members : ℕ → Said (List Placed)
+  members i = rowMembers settings s rows attrs (counts .rows) i
 
-  by-key : (told : Keyed) → told ≡ inRowOfKey (table s settings vendors sizes rows attrs counts) key keyed.Refused keyed.Row
-      → UnionFilled settings s rows attrs (counts .rows) key u room room′
-  unfolding processUnionTag
-  by-key (keyed.Row i) is =
-      let same : unionInto room (all i) (union i) ≡ processUnionTag (table s settings vendors sizes rows attrs counts) key room =
-      in-row settings vendors sizes s rows attrs counts key is (λ why. record { answer = Refused why; room = room })
-      (λ j. unionInto room (all j) (union j)) refl
+  abbrev into : ℕ → Outcome (Said Union) ℕ
+  into i = unionInto settings s rows attrs (counts .rows) room i
+
+  abbrev fitting : Union → Bool
+  fitting v = leb (v .members) (length room / memberWidth)
+
+  abbrev filling : Union → List Placed → Outcome (Said Union) ℕ
+  filling v ms = fillsRoom (fitting v) v (v .members ∷ []) (membersWords ms) room
+
+  -- a row's union was read whole, and its members fit
+  record Fits (i : ℕ) (u : Union) (room′ : List ℕ) : Type 0 where
+    read : union i ≡ gives u
+    list : List Placed
+    are : members i ≡ gives list
+    room-enough : u .members ≤ length room / memberWidth
+    after : room′ ≡ sets room 0 (membersWords list)
+
+  fits : (i : ℕ) {u : Union} {room′ : List ℕ} → Given (into i) (gives u) room′ → Fits i u room′
+  unfolding unionInto
+  fits i {u} {room′} g =
+      let whole : (v : Union) × (union i ≡ gives v) × Given (inRoom room (members i) (filling v)) (gives u) room′ =
+      room-given room (union i) (λ v. inRoom room (members i) (filling v)) g
       in
-      let f : Fits room (all i) (union i) u =
-      fits room (all i) (union i)
-      (ap (λ (o : Outcome UnionRead ℕ). o .answer) same ∙ sym (g .answer-is) ∙ p)
-      in
-      let these : AsMany (all i) u = union-counts settings s rows attrs (counts .rows) i (f .read) in
-      let room-for : u .members ≤ length room / memberWidth = f .room-enough in
-      let enough : end ≤ length room = omega arith in
-      let after : room′ ≡ sets room 0 (membersWords (these .list)) =
-      g .room-is ∙ sym (ap (λ (o : Outcome UnionRead ℕ). o .room) same) ∙ filled-room room f these
+      let v : Union = whole .0 in
+      let all : (ms : List Placed) × (members i ≡ gives ms) × Given (filling v ms) (gives u) room′ = room-given room (members i) (filling v) (whole .2) in
+      let full : (fitting v ≡ true) × (u ≡ v) × (room′ ≡ sets room 0 (membersWords (all .0))) =
+      fill-given (fitting v) v (v .members ∷ []) (membersWords (all .0)) room (all .2)
       in
       record {
-        row = i;
-        there = keyed-asked settings vendors sizes s rows attrs counts key is refl .there;
-        key-is = keyed-key settings vendors sizes s rows attrs counts key is refl;
-        union-is = f .read;
-        list = these .list;
-        are = these .are;
-        many = these .many;
-        filled = sets-filled (membersWords (these .list)) end room (long room f these) enough after;
+        read = whole .1 ∙ ap gives (sym (full .1));
+        list = all .0;
+        are = all .1;
+        room-enough = subst (λ (x : Union). x .members ≤ length room / memberWidth) (sym (full .1)) (leb-true (v .members) (length room / memberWidth) (full .0));
+        after = full .2;
       }
-  by-key (keyed.Refused why) is =
-      let same : record { answer = Refused why; room = room } ≡ processUnionTag (table s settings vendors sizes rows attrs counts) key room =
-      no-row settings vendors sizes s rows attrs counts key is (λ w. record { answer = Refused w; room = room })
-      (λ j. unionInto room (all j) (union j)) refl
-      in
-      absurd (subst (isUnion u) (sym p ∙ g .answer-is ∙ sym (ap (λ (o : Outcome UnionRead ℕ). o .answer) same)) refl)
 
-  pub union-filled : UnionFilled settings s rows attrs (counts .rows) key u room room′
-  union-filled = by-key (inRowOfKey (table s settings vendors sizes rows attrs counts) key keyed.Refused keyed.Row) refl
+  pub union-filled : {u : Union} {room′ : List ℕ} → Given (processUnionTag (table s settings vendors sizes rows attrs counts) key room) (gives u) room′
+      → UnionFilled settings s rows attrs (counts .rows) key u room room′
+  unfolding processUnionTag saidKeyed
+  union-filled {u} {room′} g =
+      let found : (i : ℕ) × (rowOf t key ≡ gives i) × Given (into i) (gives u) room′ = room-given room (rowOf t key) into g in
+      let f : Fits (found .0) u room′ = fits (found .0) (found .2) in
+      let these : AsMany (members (found .0)) u = union-counts settings s rows attrs (counts .rows) (found .0) (f .read) in
+      let many : length (f .list) ≡ u .members = ap length (given-is (sym (f .are) ∙ these .are)) ∙ these .many in
+      let room-for : u .members ≤ length room / memberWidth = f .room-enough in
+      let enough : u .members * memberWidth ≤ length room = omega arith in
+      record {
+        row = found .0;
+        there = keyed-there settings vendors sizes s rows attrs counts key {told = keyed.Row (found .0)} (sym (found .1)) refl;
+        key-is = keyed-key settings vendors sizes s rows attrs counts key {told = keyed.Row (found .0)} (sym (found .1)) refl;
+        union-is = f .read;
+        list = f .list;
+        are = f .are;
+        many = many;
+        filled = sets-filled (membersWords (f .list)) (u .members * memberWidth) room (words-long (f .list) ∙ ap (λ (k : ℕ). k * memberWidth) many) enough (f .after);
+      }

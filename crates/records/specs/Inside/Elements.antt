@@ -6,12 +6,10 @@ use mathlib.Core.List.{List, [], _∷_, _++_}
 use lib.ListN.{length}
 use lib.Seq.{sets}
 use lib.IntN.{ℤ}
-use Rattle.format.specs.declared.refusal.Reason.the-variants as reason
-use Rattle.tables.specs.Tests.{refusedAt}
-use Rattle.records.specs.Elements.{Listed, Elements, are, missing}
-use Rattle.records.specs.Enumeration.{Lists, listed, listsRefused}
+use Rattle.format.specs.Said.{Said, gives, _>>=_}
+use Rattle.records.specs.Elements.{Listed}
+use Rattle.records.specs.Inside.Counted.{saidCounted}
 use Rattle.records.specs.declared.counted.Counted.{Counted}
-use Rattle.records.specs.declared.counted.Counted.the-variants as counted
 use Rattle.records.specs.declared.elements.Slots.{Slots}
 
 -- ---- an element in its slot
@@ -56,23 +54,20 @@ pub record Addable (base width : ℕ) (block : List ℕ) (k : ℕ) : Type 0 wher
   pub width-small : length block + width < 2 ^ 64
   pub count-small : k + length block < 2 ^ 64
 
--- what a list comes to; 17 at the row where bytes are missing
-unfoldable pub asLists : ℕ → Elements → Lists
-asLists key (are xs) = listed xs
-asLists key missing = listsRefused (refusedAt key reason.Block)
-
 -- so many elements, and what follows
-unfoldable pub elementsBefore : List Listed → Lists → Lists
-elementsBefore xs (listed ys) = listed (xs ++ ys)
-elementsBefore xs (listsRefused why) = listsRefused why
+unfoldable pub elementsBefore : List Listed → Said (List Listed) → Said (List Listed)
+elementsBefore xs lists = do
+  ys ← lists
+  gives (xs ++ ys)
 
--- how many there are after k others; or the refusal
-unfoldable pub countFrom : ℕ → Lists → Counted
-countFrom k (listed xs) = counted.Count (k + length xs)
-countFrom k (listsRefused why) = counted.Refused why
+-- how many there are after k others
+unfoldable pub countFrom : ℕ → Said (List Listed) → Said ℕ
+countFrom k lists = do
+  xs ← lists
+  gives (k + length xs)
 
 -- lists from number k on in their slots; of the rooms something is said only where all were read
-pub record StoredFrom (lists : Lists) (slots : Slots) (k : ℕ) (r : Counted) (values values′ : List ℤ) (names names′ : List ℕ) : Type 0 where
-  pub answer-is : r ≡ countFrom k lists
-  pub values-are : (xs : List Listed) → lists ≡ listed xs → values′ ≡ storeValues slots k xs values
-  pub names-are : (xs : List Listed) → lists ≡ listed xs → names′ ≡ storeNames slots k xs names
+pub record StoredFrom (lists : Said (List Listed)) (slots : Slots) (k : ℕ) (r : Counted) (values values′ : List ℤ) (names names′ : List ℕ) : Type 0 where
+  pub answer-is : saidCounted r ≡ countFrom k lists
+  pub values-are : (xs : List Listed) → lists ≡ gives xs → values′ ≡ storeValues slots k xs values
+  pub names-are : (xs : List Listed) → lists ≡ gives xs → names′ ≡ storeNames slots k xs names

@@ -1,4 +1,9 @@
-use Rattle.records.proofs.Laws.Enumeration.{given-members, given-room, given-refused}
+use mathlib.Core.Path.{refl}
+use Rattle.format.specs.Said.{inRooms}
+use Rattle.format.proofs.Laws.Said.{goes-in-both}
+use Rattle.records.specs.Enumeration.{saidEnumerationRead, enumerationInto}
+use Rattle.records.specs.Inside.Enumeration.{saidEnumerationWhole}
+use Rattle.records.proofs.Laws.Enumeration.{given-members, given-room}
 use borrow.Author.Needs.{needs}
 use Prim.Native.Nat.{_-_}
 use Rattle.records.proofs.enumeration.give_enumeration.Statement.{statement}
@@ -11,7 +16,8 @@ returns-2 : tie.Need-returns-2
 returns-2 c = given-room _ _ _ _ _ _ (c .before .before .before .before .before .before .enumeration-at .ensures) _ _ (c .before .before .before .before .found .given .1) (c .if1 .left)
 
 returns-3 : tie.Need-returns-3
-returns-3 c = given-refused _ _ _ _ _ _ (c .before .before .before .enumeration-at .ensures) _ _ (c .before .why .given .1)
+unfolding enumerationInto saidEnumerationWhole saidEnumerationRead inRooms
+returns-3 c = goes-in-both saidEnumerationWhole (c .before .before .before .enumeration-at .ensures) (c .before .why .given .1) _ _ _ (record { answer-is = refl; first-is = refl; second-is = refl })
 
 pub give-enumeration-spec : {M : Type 1} → statement M
 give-enumeration-spec =

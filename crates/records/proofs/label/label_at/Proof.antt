@@ -1,6 +1,9 @@
-use Rattle.records.specs.Label.{labelAt, labelFields}
-use Rattle.records.proofs.Laws.Record.{fields-clear}
-use Rattle.records.proofs.Laws.Front.{unless-refused}
+use Rattle.format.specs.Said.{_>>_}
+use Rattle.format.proofs.Laws.Said.{goes-past}
+use Rattle.records.specs.Inside.Scan.{saidFault}
+use mathlib.Core.Path.{refl}
+use Rattle.records.specs.Label.{saidLabelRead, labelAt, labelFields}
+use Rattle.records.proofs.Laws.Record.{fields-said}
 use Rattle.records.proofs.Laws.Scan.{plain-label}
 use borrow.Author.Needs.{needs}
 use Rattle.records.proofs.label.label_at.Statement.{statement}
@@ -11,11 +14,11 @@ front-fault-requires c κs = record { plain = plain-label; asked = c .before .be
 
 returns : tie.Need-returns
 unfolding labelAt
-returns c = fields-clear _ (labelFields _ _) (c .before .before .before .before .front-fault .ensures) (c .before .before .enum-told .given .1) (c .before .run-of .ensures) (c .label-fields .ensures)
+returns c = fields-said (labelFields _ _) (c .before .before .before .before .front-fault .ensures) (c .before .before .enum-told .given .1) (c .before .run-of .ensures) (c .label-fields .ensures)
 
 returns-2 : tie.Need-returns-2
-unfolding labelAt
-returns-2 c = unless-refused (c .before .before .before .front-fault .ensures) _ _ (c .before .why .given .1)
+unfolding labelAt saidLabelRead saidFault _>>_
+returns-2 c = goes-past saidFault (c .before .before .before .front-fault .ensures) (c .before .why .given .1) _ refl
 
 pub label-at-spec : {M : Type 1} → statement M
 label-at-spec =

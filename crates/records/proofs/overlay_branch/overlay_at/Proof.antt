@@ -1,7 +1,10 @@
+use Rattle.format.specs.Said.{_>>_}
+use Rattle.format.proofs.Laws.Said.{goes-past}
+use Rattle.records.specs.Inside.Scan.{saidFault}
+use mathlib.Core.Path.{refl}
 use Rattle.records.specs.declared.scan.Run.{Run}
-use Rattle.records.specs.OverlayBranch.{overlayAt, overlayFields}
-use Rattle.records.proofs.Laws.Record.{fields-clear}
-use Rattle.records.proofs.Laws.Front.{unless-refused}
+use Rattle.records.specs.OverlayBranch.{saidOverlayBranchRead, overlayAt, overlayFields}
+use Rattle.records.proofs.Laws.Record.{fields-said}
 use Rattle.records.proofs.Laws.Scan.{plain-overlay-branch}
 use borrow.Author.Needs.{needs}
 use denote.Ref.{now}
@@ -13,11 +16,11 @@ head-fault-requires c κs = plain-overlay-branch
 
 returns : tie.Need-returns
 unfolding overlayAt
-returns c = fields-clear _ (λ (x : Run). overlayFields (now (c .before .before .before .before .before .before .before .before .before .args .s)) (now (c .before .before .before .before .before .before .before .before .before .args .attrs)) x (c .before .before .before .before .before .before .before .before .before .args .settings .roles)) (c .before .before .before .before .before .head-fault .ensures) (c .before .before .before .enum-told .given .1) (c .before .before .run-of .ensures) (c .overlay-fields .ensures)
+returns c = fields-said (λ (x : Run). overlayFields (now (c .before .before .before .before .before .before .before .before .before .args .s)) (now (c .before .before .before .before .before .before .before .before .before .args .attrs)) x (c .before .before .before .before .before .before .before .before .before .args .settings .roles)) (c .before .before .before .before .before .head-fault .ensures) (c .before .before .before .enum-told .given .1) (c .before .before .run-of .ensures) (c .overlay-fields .ensures)
 
 returns-2 : tie.Need-returns-2
-unfolding overlayAt
-returns-2 c = unless-refused (c .before .before .before .head-fault .ensures) _ _ (c .before .why .given .1)
+unfolding overlayAt saidOverlayBranchRead saidFault _>>_
+returns-2 c = goes-past saidFault (c .before .before .before .head-fault .ensures) (c .before .why .given .1) _ refl
 
 pub overlay-at-spec : {M : Type 1} → statement M
 overlay-at-spec =

@@ -1,17 +1,21 @@
-use Rattle.records.proofs.Laws.Fields.{by-told, needed-told}
-use Rattle.records.specs.OverlayBranch.{startTaken, overlayBegun}
-use borrow.Author.Needs.{needs}
+use Rattle.format.specs.Said.{_>>=_}
+use Rattle.format.proofs.Laws.Said.{goes-on}
+use Rattle.records.specs.Inside.Fields.{saidNeeded}
+use Rattle.records.specs.OverlayBranch.{saidOverlayBranchRead}
+use Rattle.records.specs.Inside.OverlayBranch.{overlayBegun}
+use Rattle.records.proofs.Laws.Fields.{word-needed}
 use mathlib.Core.Path.{refl}
+use borrow.Author.Needs.{needs}
 use Rattle.records.proofs.overlay_branch.overlay_begun.Statement.{statement}
 use Rattle.records.proofs.overlay_branch.overlay_begun.Tie as tie
 
 returns : tie.Need-returns
-unfolding overlayBegun startTaken
-returns c = by-told (startTaken _ _ _ _ _) (needed-told _ (c .before .before .before .before .before .last-word .ensures) (c .before .before .before .before .needs .ensures)) (c .before .before .start .given .1) (c .overlay-ended .ensures)
+unfolding overlayBegun saidNeeded _>>=_
+returns c = goes-on saidNeeded (word-needed _ (c .before .before .before .before .before .last-word .ensures) (c .before .before .before .before .needs .ensures)) (c .before .before .start .given .1) _ (c .overlay-ended .ensures)
 
 returns-2 : tie.Need-returns-2
-unfolding overlayBegun startTaken
-returns-2 c = by-told (startTaken _ _ _ _ _) (needed-told _ (c .before .before .before .before .last-word .ensures) (c .before .before .before .needs .ensures)) (c .before .why .given .1) refl
+unfolding overlayBegun saidOverlayBranchRead saidNeeded _>>=_
+returns-2 c = goes-on saidNeeded (word-needed _ (c .before .before .before .before .last-word .ensures) (c .before .before .before .needs .ensures)) (c .before .why .given .1) _ refl
 
 pub overlay-begun-spec : {M : Type 1} → statement M
 overlay-begun-spec =

@@ -1,6 +1,8 @@
-use Rattle.records.specs.PtrToMember.{processPtrToMemberTag}
-use Rattle.records.proofs.Laws.Record.{record-there}
-use Rattle.tables.proofs.Laws.Keyed.{no-row}
+use Rattle.format.specs.Said.{_>>=_}
+use Rattle.format.proofs.Laws.Said.{goes-on}
+use Rattle.tables.specs.Inside.Keyed.{saidKeyed}
+use Rattle.records.specs.PtrToMember.{saidPtrToMemberRead, processPtrToMemberTag}
+use mathlib.Core.Path.{refl}
 use Rattle.links.proofs.Laws.Typed.{keyed-asked}
 use borrow.Author.Needs.{needs}
 use Rattle.records.proofs.ptr_to_member.process_ptr_to_member_tag.Statement.{statement}
@@ -10,12 +12,12 @@ ptr-to-member-at-requires : tie.Need-ptr-to-member-at-requires
 ptr-to-member-at-requires c κs = keyed-asked _ _ _ _ _ _ _ _ (c .before .before .before .row-of .ensures) (c .before .i .given .1)
 
 returns : tie.Need-returns
-unfolding processPtrToMemberTag
-returns c = record-there _ _ _ _ _ _ _ _ _ _ (c .before .before .before .before .row-of .ensures) (c .before .before .i .given .1) (c .ptr-to-member-at .ensures)
+unfolding processPtrToMemberTag saidKeyed _>>=_
+returns c = goes-on saidKeyed (c .before .before .before .before .row-of .ensures) (c .before .before .i .given .1) _ (c .ptr-to-member-at .ensures)
 
 returns-2 : tie.Need-returns-2
-unfolding processPtrToMemberTag
-returns-2 c = no-row _ _ _ _ _ _ _ _ (c .before .before .before .row-of .ensures) _ _ (c .before .why .given .1)
+unfolding processPtrToMemberTag saidPtrToMemberRead saidKeyed _>>=_
+returns-2 c = goes-on saidKeyed (c .before .before .before .row-of .ensures) (c .before .why .given .1) _ refl
 
 pub process-ptr-to-member-tag-spec : {M : Type 1} → statement M
 process-ptr-to-member-tag-spec =

@@ -1,6 +1,9 @@
-use Rattle.records.specs.PtrToMember.{ptrAt, ptrFields}
-use Rattle.records.proofs.Laws.Record.{fields-clear}
-use Rattle.records.proofs.Laws.Front.{unless-refused}
+use Rattle.format.specs.Said.{_>>_}
+use Rattle.format.proofs.Laws.Said.{goes-past}
+use Rattle.records.specs.Inside.Scan.{saidFault}
+use mathlib.Core.Path.{refl}
+use Rattle.records.specs.PtrToMember.{saidPtrToMemberRead, ptrAt, ptrFields}
+use Rattle.records.proofs.Laws.Record.{fields-said}
 use Rattle.records.proofs.Laws.Scan.{plain-ptr-to-member}
 use borrow.Author.Needs.{needs}
 use Rattle.records.proofs.ptr_to_member.ptr_to_member_at.Statement.{statement}
@@ -11,11 +14,11 @@ front-fault-requires c κs = record { plain = plain-ptr-to-member; asked = c .be
 
 returns : tie.Need-returns
 unfolding ptrAt
-returns c = fields-clear _ (ptrFields _ _) (c .before .before .before .before .front-fault .ensures) (c .before .before .enum-told .given .1) (c .before .run-of .ensures) (c .ptr-fields .ensures)
+returns c = fields-said (ptrFields _ _) (c .before .before .before .before .front-fault .ensures) (c .before .before .enum-told .given .1) (c .before .run-of .ensures) (c .ptr-fields .ensures)
 
 returns-2 : tie.Need-returns-2
-unfolding ptrAt
-returns-2 c = unless-refused (c .before .before .before .front-fault .ensures) _ _ (c .before .why .given .1)
+unfolding ptrAt saidPtrToMemberRead saidFault _>>_
+returns-2 c = goes-past saidFault (c .before .before .before .front-fault .ensures) (c .before .why .given .1) _ refl
 
 pub ptr-to-member-at-spec : {M : Type 1} → statement M
 ptr-to-member-at-spec =

@@ -1,3 +1,4 @@
+use Rattle.records.specs.Typedef.{saidTypedefRead}
 use Rattle.records.proofs.Laws.Typedef.{Loop, begin, done, ended, refused-here, level-left, row-asked, place-there, forward, again, refused-below}
 use borrow.Author.Needs.{needs}
 use native.Mathlib.Omega.{arith}
@@ -61,19 +62,21 @@ typedef-run-loop-again : (t : ℕ) → typedef-run-lts.Need-loop-again (G t) (ty
 typedef-run-loop-again t c = again _ _ _ _ _ _ _ _ (c .before .before .before .before .before .before .before .before .before .before .loop .inv) (c .before .before .before .before .before .before .before .before .pause-from .ensures) (c .before .before .before .before .before .before .at .given .1) (c .before .before .before .before .typedef-run .ensures) (c .before .before .next .given .1) (c .first-filling .ensures)
 
 typedef-run-returns : (t : ℕ) → typedef-run-lts.Need-returns (G t) (typedef-run-at t) typedef-run.Post typedef-run-Inv-loop typedef-run-μ-loop
+unfolding saidTypedefRead
 typedef-run-returns t c = refused-below _ _ _ _ _ _ _ _ (c .before .before .before .before .before .before .before .before .before .loop .inv) (c .before .before .before .before .before .before .before .pause-from .ensures) (c .before .before .before .before .before .at .given .1) (c .before .before .before .typedef-run .ensures) (c .before .why .given .1)
 
 typedef-run-loop-again-2 : (t : ℕ) → typedef-run-lts.Need-loop-again-2 (G t) (typedef-run-at t) typedef-run.Post typedef-run-Inv-loop typedef-run-μ-loop
 typedef-run-loop-again-2 t c = ended _ _ _ _ _ _ _ _ (c .before .before .before .before .loop .inv) (c .before .before .pause-from .ensures) (c .enum-told .given .1)
 
 typedef-run-returns-2 : (t : ℕ) → typedef-run-lts.Need-returns-2 (G t) (typedef-run-at t) typedef-run.Post typedef-run-Inv-loop typedef-run-μ-loop
+unfolding saidTypedefRead
 typedef-run-returns-2 t c = refused-here _ _ _ _ _ _ _ _ (c .before .before .before .before .before .loop .inv) (c .before .before .before .pause-from .ensures) (c .before .why2 .given .1)
 
 typedef-run-typedef-end-requires : (t : ℕ) → typedef-run-lts.Need-typedef-end-requires (G t) (typedef-run-at t) typedef-run.Post typedef-run-Inv-loop typedef-run-μ-loop
 typedef-run-typedef-end-requires t c κs = c .before .before .before .before .before .before .before .pre .1
 
 typedef-run-returns-3 : (t : ℕ) → typedef-run-lts.Need-returns-3 (G t) (typedef-run-at t) typedef-run.Post typedef-run-Inv-loop typedef-run-μ-loop
-typedef-run-returns-3 t c = done _ _ _ _ _ _ _ _ (c .before .before .loop .inv) (c .before .loop-test .left) (c .typedef-end .ensures)
+typedef-run-returns-3 t c = done _ _ _ _ _ _ _ _ (c .before .before .loop .inv) (c .before .before .before .before .run-of .ensures) (c .before .loop-test .left) (c .typedef-end .ensures)
 
 pub +typedef-run-spec : {M : Type 1} → statement M
 +typedef-run-spec = close μ-typedef-run λ t. typedef-run-lts.spec (G t)

@@ -1,6 +1,5 @@
 use Rattle.records.proofs.Laws.Typedef.{filled-before, filled-now}
 use borrow.Author.Needs.{needs}
-use Prim.Native.Nat.{_-_}
 use Rattle.records.proofs.typedef.first_filling.Statement.{statement}
 use Rattle.records.proofs.typedef.first_filling.Tie as tie
 

@@ -1,6 +1,5 @@
 use Rattle.records.proofs.Laws.Typedef.{name-own, name-filled, name-missing}
 use borrow.Author.Needs.{needs}
-use Prim.Native.Nat.{_-_}
 use Rattle.records.proofs.typedef.typedef_name.Statement.{statement}
 use Rattle.records.proofs.typedef.typedef_name.Tie as tie
 

@@ -1,7 +1,6 @@
 use Rattle.format.proofs.Laws.Lookup.{unlisted}
 use Rattle.records.specs.Unions.{ignored, ignoredKinds}
 use Rattle.format.specs.Lookup.{isOn}
-use Prim.Native.Nat.{_-_}
 use mathlib.Core.Path.{sym, ap}
 use Rattle.records.proofs.unions.is_ignored.Statement.{statement}
 use Rattle.records.proofs.unions.is_ignored.Tie as tie

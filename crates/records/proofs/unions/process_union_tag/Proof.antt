@@ -1,7 +1,10 @@
 use Rattle.links.proofs.Laws.Typed.{keyed-asked}
-use Rattle.records.proofs.Laws.Unions.{union-there, union-nowhere}
+use Rattle.format.specs.Said.{inRoom}
+use Rattle.format.proofs.Laws.Said.{goes-in}
+use Rattle.tables.specs.Inside.Keyed.{saidKeyed}
+use Rattle.records.specs.Unions.{saidUnionRead, processUnionTag}
+use mathlib.Core.Path.{refl}
 use borrow.Author.Needs.{needs}
-use Prim.Native.Nat.{_-_}
 use Rattle.records.proofs.unions.process_union_tag.Statement.{statement}
 use Rattle.records.proofs.unions.process_union_tag.Tie as tie
 
@@ -9,10 +12,12 @@ give-union-requires : tie.Need-give-union-requires
 give-union-requires c κs = keyed-asked _ _ _ _ _ _ _ _ (c .before .before .before .before .row-of .ensures) (c .before .before .i .given .1)
 
 returns : tie.Need-returns
-returns c = union-there _ _ _ _ _ _ _ _ _ (c .before .before .before .before .before .before .before .row-of .ensures) (c .before .before .before .before .before .i .given .1) (c .before .before .give-union .ensures)
+unfolding processUnionTag saidKeyed inRoom
+returns c = goes-in saidKeyed (c .before .before .before .before .before .before .before .row-of .ensures) (c .before .before .before .before .before .i .given .1) _ _ (c .before .before .give-union .ensures)
 
 returns-2 : tie.Need-returns-2
-returns-2 c = union-nowhere _ _ _ _ _ _ _ _ _ (c .before .before .before .row-of .ensures) (c .before .why .given .1)
+unfolding processUnionTag saidUnionRead saidKeyed inRoom
+returns-2 c = goes-in saidKeyed (c .before .before .before .row-of .ensures) (c .before .why .given .1) _ _ (record { answer-is = refl; room-is = refl })
 
 pub process-union-tag-spec : {M : Type 1} → statement M
 process-union-tag-spec =

@@ -1,7 +1,6 @@
 use Rattle.records.proofs.Laws.Scan.{plain-union}
 use Rattle.records.proofs.Laws.Unions.{read-sized, read-refused, read-faulty}
 use borrow.Author.Needs.{needs}
-use Prim.Native.Nat.{_-_}
 use Rattle.records.proofs.unions.read_union.Statement.{statement}
 use Rattle.records.proofs.unions.read_union.Tie as tie
 

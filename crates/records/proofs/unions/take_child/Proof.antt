@@ -1,6 +1,5 @@
 use Rattle.records.proofs.Laws.Unions.{take-member, take-unread, take-type, take-other}
 use borrow.Author.Needs.{needs}
-use Prim.Native.Nat.{_-_}
 use Rattle.records.proofs.unions.take_child.Statement.{statement}
 use Rattle.records.proofs.unions.take_child.Tie as tie
 

@@ -4,7 +4,6 @@ use Rattle.links.specs.Inside.Kids.{kidsFrom, kidsOf}
 use Rattle.records.specs.Unions.{membersFrom}
 use Rattle.records.proofs.Laws.Unions.{Taking, taking-begins, taking-ends, taking-asked, taking-at, taking-ending, taking-less, taking-on, taking-refused}
 use borrow.Author.Needs.{needs}
-use Prim.Native.Nat.{_-_}
 use mathlib.Core.Path.{_∙_}
 use lib.ListN.{length}
 use Rattle.records.proofs.unions.take_children.Statement.{statement}

@@ -1,5 +1,4 @@
 use borrow.Author.Needs.{needs}
-use Prim.Native.Nat.{_-_}
 use Rattle.records.proofs.unions.union_at.Statement.{statement}
 use Rattle.records.proofs.unions.union_at.Tie as tie
 

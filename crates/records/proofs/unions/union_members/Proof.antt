@@ -1,6 +1,5 @@
 use Rattle.records.proofs.Laws.Unions.{members-ending, members-walked, members-endless}
 use borrow.Author.Needs.{needs}
-use Prim.Native.Nat.{_-_}
 use Rattle.records.proofs.unions.union_members.Statement.{statement}
 use Rattle.records.proofs.unions.union_members.Tie as tie
 

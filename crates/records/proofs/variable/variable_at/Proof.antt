@@ -1,6 +1,9 @@
-use Rattle.records.specs.Variable.{variableAt}
+use Rattle.format.specs.Said.{_>>_}
+use Rattle.format.proofs.Laws.Said.{goes-past}
+use Rattle.records.specs.Inside.Scan.{saidFault}
+use mathlib.Core.Path.{refl}
+use Rattle.records.specs.Variable.{saidVariableRead, variableAt}
 use Rattle.records.proofs.Laws.Variable.{variable-clear}
-use Rattle.records.proofs.Laws.Front.{unless-refused}
 use Rattle.records.proofs.Laws.Scan.{plain-variable}
 use borrow.Author.Needs.{needs}
 use Rattle.records.proofs.variable.variable_at.Statement.{statement}
@@ -13,8 +16,8 @@ returns : tie.Need-returns
 returns c = variable-clear _ _ _ _ _ _ (c .before .before .before .before .before .before .before .front-fault .ensures) (c .before .before .before .before .before .enum-told .given .1) (c .before .before .before .before .run-of .ensures) (c .before .before .before .row-at .ensures) (c .variable-fields .ensures)
 
 returns-2 : tie.Need-returns-2
-unfolding variableAt
-returns-2 c = unless-refused (c .before .before .before .front-fault .ensures) _ _ (c .before .why .given .1)
+unfolding variableAt saidVariableRead saidFault _>>_
+returns-2 c = goes-past saidFault (c .before .before .before .front-fault .ensures) (c .before .why .given .1) _ refl
 
 pub variable-at-spec : {M : Type 1} → statement M
 variable-at-spec =
