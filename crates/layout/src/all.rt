@@ -29,12 +29,13 @@ ghost use lib.ListN.{length};
 ghost use lib.Seq.{sets};
 ghost use Rattle.tables.specs.Table.{table};
 ghost use Rattle.lent.specs.Outcome.{BothGiven};
-ghost use Rattle.sizes.specs.Size.{typeSize};
+ghost use Rattle.sizes.specs.Size.{saidSized, typeSize};
+ghost use Rattle.layout.specs.Inside.Layout.{saidLayoutWhole};
 ghost use Rattle.sizes.specs.Inside.Size.{TableReady, typeSizeFrom};
 ghost use Rattle.sizes.specs.Inside.Known.{knownWidth};
 ghost use Rattle.layout.specs.Inside.Levels.{deepest, FillAsked};
 ghost use Rattle.sizes.specs.Inside.Kept.{AllKept};
-ghost use Rattle.layout.specs.All.{structureWidth, structuresFrom, allLayouts, layoutsInto};
+ghost use Rattle.layout.specs.All.{saidAllLayouts, structureWidth, structuresFrom, allLayouts, layoutsInto};
 ghost use Rattle.layout.specs.Inside.All.{OneMore, CountAsked, PutAsked, PutsAsked, eightWords, wholeTold, countedOn, rowStructures};
 ghost use Rattle.layout.specs.Inside.All.{WholesTold, RowCounted, AllCounted, Puts, PutAll};
 
@@ -73,7 +74,7 @@ fn one_more(counts: LayoutCounts, members: usize) -> LayoutCounts
 
 // What is kept of a layout between counting and writing: its size, or why it is refused.
 fn size_told(answer: LayoutWhole) -> Sized
-    ensures { λ r. ⌜ r ≡ wholeTold answer ⌝ }
+    ensures { λ r. ⌜ saidSized r ≡ wholeTold (saidLayoutWhole answer) ⌝ }
 {
     match answer {
         LayoutWhole::Is(found) => Sized::Is(found.size),
@@ -358,8 +359,8 @@ fn give_layouts(
     ensures { λ r. ⌜
         BothGiven (layoutsInto (now (structures .entry)) (now (members .entry))
         (structuresFrom settings (now (s .entry)) (now (rows .entry)) (now (attrs .entry)) n
-        (typeSizeFrom settings (now (sizes .entry)) (now (s .entry)) (now (rows .entry)) (now (attrs .entry)) n (now (known .entry)) 0) 0 n)) r
-        (now (structures .exit)) (now (members .exit))
+        (typeSizeFrom settings (now (sizes .entry)) (now (s .entry)) (now (rows .entry)) (now (attrs .entry)) n (now (known .entry)) 0) 0 n))
+        (saidAllLayouts r) (now (structures .exit)) (now (members .exit))
         ⌝ }
 {
     let needed = count_layouts(s, settings, sizes, rows, attrs, n, known, kept, told);
@@ -400,8 +401,8 @@ fn lay_all(
     ensures { λ r. ⌜
         BothGiven (layoutsInto (now (structures .entry)) (now (members .entry))
         (structuresFrom settings (now (s .entry)) (now (rows .entry)) (now (attrs .entry)) n
-        (typeSize settings (now (sizes .entry)) (now (s .entry)) (now (rows .entry)) (now (attrs .entry)) n deepest) 0 n)) r (now (structures .exit))
-        (now (members .exit))
+        (typeSize settings (now (sizes .entry)) (now (s .entry)) (now (rows .entry)) (now (attrs .entry)) n deepest) 0 n))
+        (saidAllLayouts r) (now (structures .exit)) (now (members .exit))
         ⌝ }
 {
     let mut kept = [0u64; KEPT_WORDS];
@@ -448,7 +449,8 @@ pub fn all_layouts(
 ) -> AllLayouts
     ensures { λ r. ⌜
         BothGiven (allLayouts (table (now (s .entry)) settings (now (vendors .entry)) (now (sizes .entry)) (now (rows .entry))
-        (now (attrs .entry)) counts) (now (structures .entry)) (now (members .entry))) r (now (structures .exit)) (now (members .exit))
+        (now (attrs .entry)) counts) (now (structures .entry)) (now (members .entry))) (saidAllLayouts r) (now (structures .exit))
+        (now (members .exit))
         ⌝ }
 {
     match test_table(s, settings, vendors, sizes, rows, attrs, counts) {

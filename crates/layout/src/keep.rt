@@ -25,14 +25,16 @@ ghost use Prim.Native.Nat.{_+_, _*_, _≤_};
 ghost use lib.ListN.{length};
 ghost use Rattle.tables.specs.Inside.Find.{Rising};
 ghost use Rattle.links.specs.Inside.Children.{Asked};
-ghost use Rattle.sizes.specs.Size.{typeSizeBy};
+ghost use Rattle.records.specs.Inside.Scan.{saidFault};
+ghost use Rattle.records.specs.Member.{saidMemberRead};
+ghost use Rattle.sizes.specs.Size.{saidSized, typeSizeBy};
 ghost use Rattle.sizes.specs.Inside.Kept.{keptWidth, rowNamed, sizeNamed, firstOf, secondOf, faultSize, PutTwo, PutRow, PutFault, KeepAsked};
 ghost use Rattle.sizes.specs.Inside.Kept.{FaultAsked, MembersKept, PartsKept};
 
 // The row of an entry that has the size, told as 10 at it; 11 where there is none.
 fn row_named(rows: &[u32], n: usize, key: u32) -> Sized
     requires { ⌜ Rising (now rows) n ⌝ }
-    ensures { λ r. ⌜ r ≡ rowNamed (now (rows .entry)) n key ⌝ }
+    ensures { λ r. ⌜ saidSized r ≡ rowNamed (now (rows .entry)) n key ⌝ }
 {
     match find_row(rows, n, key) {
         Found::At(i) => Sized::Refused(Refusal {
@@ -46,7 +48,7 @@ fn row_named(rows: &[u32], n: usize, key: u32) -> Sized
 // The size of a type, an entry that it names told by its row.
 fn type_named(sizes: &[u32], rows: &[u32], n: usize, of: Type) -> Sized
     requires { ⌜ Rising (now rows) n ⌝ }
-    ensures { λ r. ⌜ r ≡ typeSizeBy (now (sizes .entry)) (rowNamed (now (rows .entry)) n) of ⌝ }
+    ensures { λ r. ⌜ saidSized r ≡ typeSizeBy (now (sizes .entry)) (rowNamed (now (rows .entry)) n) of ⌝ }
 {
     if of.pointer {
         return Sized::Is(4);
@@ -61,7 +63,7 @@ fn type_named(sizes: &[u32], rows: &[u32], n: usize, of: Type) -> Sized
 // A member's size likewise: its own ByteSize, else its type's.
 fn size_named(sizes: &[u32], rows: &[u32], n: usize, member: Member) -> Sized
     requires { ⌜ Rising (now rows) n ⌝ }
-    ensures { λ r. ⌜ r ≡ sizeNamed (now (sizes .entry)) (now (rows .entry)) n member ⌝ }
+    ensures { λ r. ⌜ saidSized r ≡ sizeNamed (now (sizes .entry)) (now (rows .entry)) n member ⌝ }
 {
     let own = member.byte_size;
     let of = member.of;
@@ -74,7 +76,7 @@ fn size_named(sizes: &[u32], rows: &[u32], n: usize, member: Member) -> Sized
 // Two answers about row c.
 fn keep_two(kept: &mut [u64], c: usize, first: Sized, second: Sized)
     requires { ⌜ c * keptWidth + keptWidth ≤ length (now kept) ⌝ }
-    ensures { λ _. ⌜ PutTwo c first second (now (kept .entry)) (now (kept .exit)) ⌝ }
+    ensures { λ _. ⌜ PutTwo c (saidSized first) (saidSized second) (now (kept .entry)) (now (kept .exit)) ⌝ }
 {
     put_known(kept, c * KEPT, first);
     put_known(kept, c * KEPT + 1, second);
@@ -83,7 +85,10 @@ fn keep_two(kept: &mut [u64], c: usize, first: Sized, second: Sized)
 // The member at row c.
 fn keep_member(sizes: &[u32], rows: &[u32], n: usize, kept: &mut [u64], c: usize, read: MemberRead)
     requires { ⌜ Rising (now rows) n × (c * keptWidth + keptWidth ≤ length (now kept)) ⌝ }
-    ensures { λ _. ⌜ PutTwo c (firstOf read) (secondOf (now (sizes .entry)) (now (rows .entry)) n read) (now (kept .entry)) (now (kept .exit)) ⌝ }
+    ensures { λ _. ⌜
+        PutTwo c (firstOf (saidMemberRead read)) (secondOf (now (sizes .entry)) (now (rows .entry)) n (saidMemberRead read)) (now (kept .entry))
+        (now (kept .exit))
+        ⌝ }
 {
     match read {
         MemberRead::Is(member) => keep_two(
@@ -144,7 +149,7 @@ fn keep_members(
 
 // A fault in the words of known sizes.
 fn fault_size(fault: Fault) -> Sized
-    ensures { λ r. ⌜ r ≡ faultSize fault ⌝ }
+    ensures { λ r. ⌜ saidSized r ≡ faultSize (saidFault fault) ⌝ }
 {
     match fault {
         Fault::Clear => Sized::Is(0),

@@ -18,6 +18,7 @@ ghost use mathlib.Core.Bool.{false, cond};
 ghost use Prim.Native.Nat.{_*_, _≤_};
 ghost use lib.ListN.{length};
 ghost use Rattle.records.specs.Inside.Enumeration.{AskedShort};
+ghost use Rattle.sizes.specs.Size.{saidSized};
 ghost use Rattle.sizes.specs.Inside.Known.{knownWidth};
 ghost use Rattle.sizes.specs.Inside.Kept.{PartsKept, AllKept};
 ghost use Rattle.layout.specs.Inside.Levels.{deepest, lastLevel, settled, nextLevel, sizeLeft, KnownUpTo, LevelFilled, FillAsked, TakenOver};
@@ -37,7 +38,7 @@ fn last_level(rows: &[u32], n: usize, known: &mut [u64])
 
 // Only a refusal for its depth can change with a level more.
 fn is_settled(size: Sized) -> bool
-    ensures { λ r. ⌜ r ≡ settled size ⌝ }
+    ensures { λ r. ⌜ r ≡ settled (saidSized size) ⌝ }
 {
     match size {
         Sized::Is(_) => true,
@@ -62,7 +63,7 @@ fn next_size(
 ) -> Sized
     requires { ⌜ AskedShort (now s) (now rows) n i × AllKept settings (now sizes) (now s) (now rows) (now attrs) n (now known) (now kept) ⌝ }
     ensures { λ r. ⌜
-        r ≡ nextLevel settings (now (sizes .entry)) (now (s .entry)) (now (rows .entry)) (now (attrs .entry)) n (now (known .entry)) i
+        saidSized r ≡ nextLevel settings (now (sizes .entry)) (now (s .entry)) (now (rows .entry)) (now (attrs .entry)) n (now (known .entry)) i
         ⌝ }
 {
     let size = known_at(known, i);
@@ -78,7 +79,7 @@ fn next_size(
 
 // Are all settled, if those before were?
 fn also_settled(were: bool, size: Sized) -> bool
-    ensures { λ r. ⌜ r ≡ cond were (settled size) false ⌝ }
+    ensures { λ r. ⌜ r ≡ cond were (settled (saidSized size)) false ⌝ }
 {
     if were { is_settled(size) } else { false }
 }

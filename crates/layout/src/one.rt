@@ -37,11 +37,11 @@ ghost use Rattle.lent.specs.Outcome.{Given};
 ghost use Rattle.records.specs.Inside.Enumeration.{AskedShort};
 ghost use Rattle.tables.specs.Row.{rowAt};
 ghost use Rattle.links.specs.Inside.Kids.{kidsOf};
-ghost use Rattle.sizes.specs.Size.{shapeOf};
+ghost use Rattle.sizes.specs.Size.{saidSized};
 ghost use Rattle.sizes.specs.Inside.Kept.{AllKept, LayoutAsked};
 ghost use Rattle.sizes.specs.Inside.Size.{EndsShort, typeSizeFrom};
-ghost use Rattle.layout.specs.Layout.{laidWidth, laidWords, hasByteSize, sizeOrLargest, endOr, rowLay, layoutAt, layoutInto, layoutOfKey};
-ghost use Rattle.sizes.specs.Size.{isStructure};
+ghost use Rattle.layout.specs.Layout.{saidLayoutRead, laidWidth, laidWords, hasByteSize, sizeOrLargest, endOr};
+ghost use Rattle.layout.specs.Layout.{rowLay, layoutAt, layoutInto, layoutOfKey};
 ghost use Rattle.layout.specs.Inside.Layout.{laidAt, sizedLaid, childLaid, childrenLaid, structureLaid, LayAsked, Lays, WholeLaid};
 
 pub struct Layout {
@@ -93,7 +93,7 @@ fn size_or_largest(size: Word, largest: u32) -> u32
 
 // The largest end; with a ByteSize no end is taken for a size.
 fn end_or(rows: &[u32], bounded: bool, c: usize, largest: u32, offset: u32, size: u32) -> Sized
-    ensures { λ r. ⌜ r ≡ endOr bounded (rowAt (now (rows .entry)) c .key) largest (offset + size) ⌝ }
+    ensures { λ r. ⌜ saidSized r ≡ endOr bounded (rowAt (now (rows .entry)) c .key) largest (offset + size) ⌝ }
 {
     if bounded {
         Sized::Is(largest)
@@ -385,11 +385,9 @@ fn give_layout(
 ) -> LayoutRead
     requires { ⌜ AskedShort (now s) (now rows) n i × AllKept settings (now sizes) (now s) (now rows) (now attrs) n (now known) (now kept) ⌝ }
     ensures { λ r. ⌜
-        Given (layoutInto (now (room .entry)) (rowLay settings (now (s .entry)) (now (rows .entry)) (now (attrs .entry)) n
-        (typeSizeFrom settings (now (sizes .entry)) (now (s .entry)) (now (rows .entry)) (now (attrs .entry)) n (now (known .entry)) levels) i)
-        (layoutAt settings (now (s .entry)) (now (rows .entry)) (now (attrs .entry)) n
-        (typeSizeFrom settings (now (sizes .entry)) (now (s .entry)) (now (rows .entry)) (now (attrs .entry)) n (now (known .entry)) levels) i)) r
-        (now (room .exit))
+        Given (layoutInto settings (now (s .entry)) (now (rows .entry)) (now (attrs .entry)) n
+        (typeSizeFrom settings (now (sizes .entry)) (now (s .entry)) (now (rows .entry)) (now (attrs .entry)) n (now (known .entry)) levels)
+        (now (room .entry)) i) (saidLayoutRead r) (now (room .exit))
         ⌝ }
 {
     let mut none = [0u64; 0];
@@ -444,7 +442,7 @@ pub fn layout_of_key(
 ) -> LayoutRead
     ensures { λ r. ⌜
         Given (layoutOfKey (table (now (s .entry)) settings (now (vendors .entry)) (now (sizes .entry)) (now (rows .entry))
-        (now (attrs .entry)) counts) key (now (room .entry))) r (now (room .exit))
+        (now (attrs .entry)) counts) key (now (room .entry))) (saidLayoutRead r) (now (room .exit))
         ⌝ }
 {
     match row_of(s, settings, vendors, sizes, rows, attrs, counts, key) {

@@ -1,4 +1,4 @@
--- Laws. `Product` to `Stay`: for each way that the code comes to an answer. `Only`: no second answer fits.
+-- Laws. `Product` to `Stay`: for each way that the code comes to an answer. `Back` and `Only`: no second answer fits.
 pub mod Product
 pub mod Walking
 pub mod Prepare
@@ -7,4 +7,5 @@ pub mod Known
 pub mod Kept
 pub mod Size
 pub mod Stay
+pub mod Back
 pub mod Only

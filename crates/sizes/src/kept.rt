@@ -10,7 +10,8 @@ ghost use mathlib.Core.Path.{_≡_};
 ghost use Rattle.links.specs.Links.{siblingRow};
 ghost use Rattle.links.specs.Inside.Children.{Asked};
 ghost use Rattle.sizes.specs.Inside.Prepare.{SmallPlace};
-ghost use Rattle.sizes.specs.Inside.Size.{withSize};
+ghost use Rattle.sizes.specs.Size.{saidSized};
+ghost use Rattle.sizes.specs.Inside.Size.{saidAdded, withSize};
 ghost use Rattle.sizes.specs.Inside.Kept.{sizeKept, addedKept, SiblingsKept};
 
 // What a member adds to its structure.
@@ -23,7 +24,7 @@ pub enum Added {
 pub const KEPT: usize = 3;
 
 pub(crate) fn with_size(offset: u32, size: Sized) -> Added
-    ensures { λ r. ⌜ r ≡ withSize offset size ⌝ }
+    ensures { λ r. ⌜ saidAdded r ≡ withSize offset (saidSized size) ⌝ }
 {
     match size {
         Sized::Is(size) => Added::Is { offset, size },
@@ -33,7 +34,7 @@ pub(crate) fn with_size(offset: u32, size: Sized) -> Added
 
 // A size as it is kept: 10 tells the row of the entry that has it.
 fn size_kept(known: &[u64], size: Sized) -> Sized
-    ensures { λ r. ⌜ r ≡ sizeKept (now (known .entry)) size ⌝ }
+    ensures { λ r. ⌜ saidSized r ≡ sizeKept (now (known .entry)) (saidSized size) ⌝ }
 {
     match size {
         Sized::Is(size) => Sized::Is(size),
@@ -51,7 +52,7 @@ fn size_kept(known: &[u64], size: Sized) -> Sized
 // The member at row c, as it is kept.
 pub(crate) fn added_kept(known: &[u64], kept: &[u64], c: usize) -> Added
     requires { ⌜ SmallPlace c ⌝ }
-    ensures { λ r. ⌜ r ≡ addedKept (now (known .entry)) (now (kept .entry)) c ⌝ }
+    ensures { λ r. ⌜ saidAdded r ≡ addedKept (now (known .entry)) (now (kept .entry)) c ⌝ }
 {
     match known_at(kept, c * KEPT) {
         Sized::Is(offset) => with_size(offset, size_kept(known, known_at(kept, c * KEPT + 1))),

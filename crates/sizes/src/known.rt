@@ -11,14 +11,15 @@ ghost use mathlib.Core.List.{[], _∷_};
 ghost use lib.ListN.{length, getD};
 ghost use lib.Seq.{sets};
 ghost use Rattle.sizes.specs.Inside.Known.{knownAt, knownWidth, PutKnown};
-ghost use Rattle.sizes.specs.declared.sized.Sized.the-variants.{Is, Refused};
+ghost use Rattle.format.specs.Said.{gives, refusal};
+ghost use Rattle.sizes.specs.Size.{saidSized};
 
 // The words of a size.
 pub const KNOWN_WIDTH: usize = 3;
 
 // The size of row i.
 pub fn known_at(known: &[u64], i: usize) -> Sized
-    ensures { λ r. ⌜ r ≡ knownAt (now (known .entry)) i ⌝ }
+    ensures { λ r. ⌜ saidSized r ≡ knownAt (now (known .entry)) i ⌝ }
 {
     if i >= known.len() {
         return Sized::Is(0);
@@ -49,7 +50,7 @@ fn put_three(known: &mut [u64], at: usize, number: u64, size: u64, place: u64)
 
 fn put_size(known: &mut [u64], i: usize, size: u32)
     requires { ⌜ i * knownWidth + knownWidth ≤ length (now known) ⌝ }
-    ensures { λ _. ⌜ PutKnown i (Is size) (now (known .entry)) (now (known .exit)) ⌝ }
+    ensures { λ _. ⌜ PutKnown i (gives size) (now (known .entry)) (now (known .exit)) ⌝ }
 {
     put_three(known, i * KNOWN_WIDTH, 0, size as u64, 0);
 }
@@ -57,7 +58,7 @@ fn put_size(known: &mut [u64], i: usize, size: u32)
 // Row i is refused, as is known now.
 pub fn put_refusal(known: &mut [u64], i: usize, why: Refusal)
     requires { ⌜ i * knownWidth + knownWidth ≤ length (now known) ⌝ }
-    ensures { λ _. ⌜ PutKnown i (Refused why) (now (known .entry)) (now (known .exit)) ⌝ }
+    ensures { λ _. ⌜ PutKnown i (refusal why) (now (known .entry)) (now (known .exit)) ⌝ }
 {
     let reason = why.reason;
     put_three(
@@ -72,7 +73,7 @@ pub fn put_refusal(known: &mut [u64], i: usize, why: Refusal)
 // Row i's size among the known ones.
 pub fn put_known(known: &mut [u64], i: usize, size: Sized)
     requires { ⌜ i * knownWidth + knownWidth ≤ length (now known) ⌝ }
-    ensures { λ _. ⌜ PutKnown i size (now (known .entry)) (now (known .exit)) ⌝ }
+    ensures { λ _. ⌜ PutKnown i (saidSized size) (now (known .entry)) (now (known .exit)) ⌝ }
 {
     match size {
         Sized::Is(size) => put_size(known, i, size),

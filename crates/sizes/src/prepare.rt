@@ -38,13 +38,11 @@ ghost use Rattle.links.specs.Inside.Children.{Asked};
 ghost use Rattle.records.specs.Inside.Enumeration.{AskedShort};
 ghost use Rattle.sizes.specs.Size.{isStructure, shapeOf, subscriptBlock};
 ghost use Rattle.links.specs.Inside.Kids.{kidsOf};
-ghost use Rattle.records.specs.Enumeration.{enumerationAt};
-ghost use Rattle.records.specs.PtrToMember.{ptrAt};
-ghost use Rattle.records.specs.Unions.{unionAt};
+ghost use Rattle.records.specs.Inside.Scan.{saidFault};
 ghost use Rattle.records.specs.Inside.Unions.{EndsAt};
 ghost use Rattle.sizes.specs.Inside.Kept.{faultKept, FaultsKept, RowsKept, StructureAsked};
 ghost use Rattle.sizes.specs.Inside.Prepare.{SmallPlace, memberFault, membersFault, structureFault, preparedArray, preparedStructure};
-ghost use Rattle.sizes.specs.Inside.Prepare.{preparedEnumeration, preparedUnion, preparedPointer, preparedRow};
+ghost use Rattle.sizes.specs.Inside.Prepare.{saidPrepared, preparedEnumeration, preparedUnion, preparedPointer, preparedRow};
 
 // How a row comes to its size.
 pub enum Shape {
@@ -112,7 +110,7 @@ pub(crate) fn subscript_block<'a>(s: &'a [u8], attrs: &[u32], run: Run, k: usize
 
 // Every SubscrData is read; the last counts, and one is needed.
 fn prepare_array(s: &[u8], attrs: &[u32], run: Run) -> Prepared
-    ensures { λ r. ⌜ r ≡ preparedArray (now (s .entry)) (now (attrs .entry)) run ⌝ }
+    ensures { λ r. ⌜ saidPrepared r ≡ preparedArray (now (s .entry)) (now (attrs .entry)) run ⌝ }
 {
     let ends = run.ends;
     let e = ends.section;
@@ -145,7 +143,7 @@ fn prepare_array(s: &[u8], attrs: &[u32], run: Run) -> Prepared
 // The fault of a row as it is kept.
 fn fault_kept(kept: &[u64], c: usize) -> Fault
     requires { ⌜ SmallPlace c ⌝ }
-    ensures { λ r. ⌜ r ≡ faultKept (now (kept .entry)) c ⌝ }
+    ensures { λ r. ⌜ saidFault r ≡ faultKept (now (kept .entry)) c ⌝ }
 {
     match known_at(kept, c * KEPT) {
         Sized::Is(_) => Fault::Clear,
@@ -164,7 +162,7 @@ fn member_fault(
     c: usize,
 ) -> Fault
     requires { ⌜ Asked (now rows) n c × FaultsKept settings (now s) (now rows) (now attrs) n (now kept) ⌝ }
-    ensures { λ r. ⌜ r ≡ memberFault settings (now (s .entry)) (now (rows .entry)) (now (attrs .entry)) n c ⌝ }
+    ensures { λ r. ⌜ saidFault r ≡ memberFault settings (now (s .entry)) (now (rows .entry)) (now (attrs .entry)) n c ⌝ }
 {
     let row = row_at(rows, c);
     if row.kind != 0x0d {
@@ -191,7 +189,7 @@ fn members_fault(
 ) -> Fault
     requires { ⌜ EndsAt (settings .endian) (now s) (now rows) (now attrs) n i × FaultsKept settings (now s) (now rows) (now attrs) n (now kept) ⌝ }
     ensures { λ r. ⌜
-        r ≡ membersFault settings (now (s .entry)) (now (rows .entry)) (now (attrs .entry)) n
+        saidFault r ≡ membersFault settings (now (s .entry)) (now (rows .entry)) (now (attrs .entry)) n
         (kidsOf (settings .endian) (now (s .entry)) (now (rows .entry)) (now (attrs .entry)) n i)
         ⌝ }
 {
@@ -228,7 +226,7 @@ pub fn structure_fault(
     i: usize,
 ) -> Fault
     requires { ⌜ Asked (now rows) n i × FaultsKept settings (now s) (now rows) (now attrs) n (now kept) ⌝ }
-    ensures { λ r. ⌜ r ≡ structureFault settings (now (s .entry)) (now (rows .entry)) (now (attrs .entry)) n i ⌝ }
+    ensures { λ r. ⌜ saidFault r ≡ structureFault settings (now (s .entry)) (now (rows .entry)) (now (attrs .entry)) n i ⌝ }
 {
     let e = settings.endian;
     let row = row_at(rows, i);
@@ -249,7 +247,7 @@ pub fn kept_fault(
     i: usize,
 ) -> Fault
     requires { ⌜ StructureAsked settings (now s) (now rows) (now attrs) n (now kept) i ⌝ }
-    ensures { λ r. ⌜ r ≡ structureFault settings (now (s .entry)) (now (rows .entry)) (now (attrs .entry)) n i ⌝ }
+    ensures { λ r. ⌜ saidFault r ≡ structureFault settings (now (s .entry)) (now (rows .entry)) (now (attrs .entry)) n i ⌝ }
 {
     if kept.len() > 0 {
         fault_kept(kept, i)
@@ -269,7 +267,7 @@ fn prepare_structure(
     i: usize,
 ) -> Prepared
     requires { ⌜ StructureAsked settings (now s) (now rows) (now attrs) n (now kept) i ⌝ }
-    ensures { λ r. ⌜ r ≡ preparedStructure settings (now (s .entry)) (now (rows .entry)) (now (attrs .entry)) n i ⌝ }
+    ensures { λ r. ⌜ saidPrepared r ≡ preparedStructure settings (now (s .entry)) (now (rows .entry)) (now (attrs .entry)) n i ⌝ }
 {
     match kept_fault(s, settings, rows, attrs, n, kept, i) {
         Fault::Clear => {
@@ -295,7 +293,7 @@ fn prepare_enumeration(
     i: usize,
 ) -> Prepared
     requires { ⌜ AskedShort (now s) (now rows) n i ⌝ }
-    ensures { λ r. ⌜ r ≡ preparedEnumeration (enumerationAt settings (now (s .entry)) (now (rows .entry)) (now (attrs .entry)) n i) ⌝ }
+    ensures { λ r. ⌜ saidPrepared r ≡ preparedEnumeration settings (now (s .entry)) (now (rows .entry)) (now (attrs .entry)) n i ⌝ }
 {
     match enumeration_at(s, settings, rows, attrs, n, i) {
         EnumerationWhole::Is(found) => Prepared::Size(found.byte_size),
@@ -312,7 +310,7 @@ fn prepare_union(
     i: usize,
 ) -> Prepared
     requires { ⌜ Asked (now rows) n i ⌝ }
-    ensures { λ r. ⌜ r ≡ preparedUnion (unionAt settings (now (s .entry)) (now (rows .entry)) (now (attrs .entry)) n i) ⌝ }
+    ensures { λ r. ⌜ saidPrepared r ≡ preparedUnion settings (now (s .entry)) (now (rows .entry)) (now (attrs .entry)) n i ⌝ }
 {
     match union_at(s, settings, rows, attrs, n, i) {
         UnionWhole::Is(found) => Prepared::Size(found.byte_size),
@@ -329,7 +327,7 @@ fn prepare_pointer(
     i: usize,
 ) -> Prepared
     requires { ⌜ Asked (now rows) n i ⌝ }
-    ensures { λ r. ⌜ r ≡ preparedPointer (ptrAt settings (now (s .entry)) (now (rows .entry)) (now (attrs .entry)) n i) ⌝ }
+    ensures { λ r. ⌜ saidPrepared r ≡ preparedPointer settings (now (s .entry)) (now (rows .entry)) (now (attrs .entry)) n i ⌝ }
 {
     match ptr_to_member_at(s, settings, rows, attrs, n, i) {
         PtrToMemberRead::Is(_) => Prepared::Size(4),
@@ -348,7 +346,7 @@ pub(crate) fn prepare_row(
     i: usize,
 ) -> Prepared
     requires { ⌜ AskedShort (now s) (now rows) n i × RowsKept settings (now s) (now rows) (now attrs) n (now kept) ⌝ }
-    ensures { λ r. ⌜ r ≡ preparedRow settings (now (s .entry)) (now (rows .entry)) (now (attrs .entry)) n i ⌝ }
+    ensures { λ r. ⌜ saidPrepared r ≡ preparedRow settings (now (s .entry)) (now (rows .entry)) (now (attrs .entry)) n i ⌝ }
 {
     let row = row_at(rows, i);
     match shape_of(row.kind) {

@@ -7,12 +7,11 @@ use numbers::Endian;
 use records::scan::placed;
 use records::scan::refused;
 ghost use mathlib.Core.Path.{_≡_};
-ghost use Rattle.sizes.specs.Size.{productOf};
-ghost use Rattle.sizes.specs.Inside.Prepare.{timesOf};
+ghost use Rattle.sizes.specs.Size.{saidSized, times, productOf};
 
 // size times many, or 20 at the array.
 fn times(key: u32, size: u32, many: u32) -> Sized
-    ensures { λ r. ⌜ r ≡ timesOf key size many ⌝ }
+    ensures { λ r. ⌜ saidSized r ≡ times key size many ⌝ }
 {
     let product = size as u64 * many as u64;
     if product <= 0xffff_ffff {
@@ -24,7 +23,7 @@ fn times(key: u32, size: u32, many: u32) -> Sized
 
 // Subscript after subscript, each handed the rest that the last one left.
 pub(crate) fn product_of(block: &[u8], e: Endian, key: u32, element: u32) -> Sized
-    ensures { λ r. ⌜ r ≡ productOf e key (now (block .entry)) element ⌝ }
+    ensures { λ r. ⌜ saidSized r ≡ productOf e key (now (block .entry)) element ⌝ }
 {
     let mut rest = block;
     let mut size = element;

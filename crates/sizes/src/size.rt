@@ -33,14 +33,14 @@ ghost use mathlib.Core.Path.{_≡_};
 ghost use Rattle.tables.specs.Table.{table};
 ghost use Rattle.links.specs.Inside.Kids.{kidsOf};
 ghost use Rattle.records.specs.Inside.Enumeration.{AskedShort};
-ghost use Rattle.sizes.specs.Size.{fundamentalSize, rowSize, sizeOfKey, sizeOfType};
+ghost use Rattle.sizes.specs.Size.{saidSized, fundamentalSize, rowSize, sizeOfKey, sizeOfType};
 ghost use Rattle.sizes.specs.Inside.Kept.{AllKept, MemberAsked};
-ghost use Rattle.sizes.specs.Inside.Size.{TableReady, EndsShort, memberAdded, grown, arrayProduct, childEnd, endsOver, entrySizeFrom};
+ghost use Rattle.sizes.specs.Inside.Size.{TableReady, EndsShort, saidAdded, memberAdded, grown, arrayProduct, childEnd, endsOver, entrySizeFrom};
 ghost use Rattle.sizes.specs.Inside.Size.{typeSizeFrom};
 
 // A fundamental type's line of the settings' table; 18 at 0 for a number that has none.
 pub fn fundamental_size(sizes: &[u32], number: u16) -> Sized
-    ensures { λ r. ⌜ r ≡ fundamentalSize (now (sizes .entry)) number ⌝ }
+    ensures { λ r. ⌜ saidSized r ≡ fundamentalSize (now (sizes .entry)) number ⌝ }
 {
     let k = order_of(number);
     if k < sizes.len() {
@@ -52,7 +52,7 @@ pub fn fundamental_size(sizes: &[u32], number: u16) -> Sized
 
 // The largest end so far and that of a member at row c: 20 past 32 bits, at the member.
 pub fn grown(rows: &[u32], c: usize, largest: u32, offset: u32, size: u32) -> Sized
-    ensures { λ r. ⌜ r ≡ grown (now (rows .entry)) c largest offset size ⌝ }
+    ensures { λ r. ⌜ saidSized r ≡ grown (now (rows .entry)) c largest offset size ⌝ }
 {
     let end = offset as u64 + size as u64;
     if end > 0xffff_ffff {
@@ -76,7 +76,7 @@ fn array_product(
     at: usize,
     size: u32,
 ) -> Sized
-    ensures { λ r. ⌜ r ≡ arrayProduct settings (now (s .entry)) (now (rows .entry)) (now (attrs .entry)) i at size ⌝ }
+    ensures { λ r. ⌜ saidSized r ≡ arrayProduct settings (now (s .entry)) (now (rows .entry)) (now (attrs .entry)) i at size ⌝ }
 {
     let e = settings.endian;
     let run = run_of(e, rows, i);
@@ -99,7 +99,7 @@ pub(crate) fn type_size(
 ) -> Sized
     requires { ⌜ TableReady (now s) (now rows) n × AllKept settings (now sizes) (now s) (now rows) (now attrs) n (now known) (now kept) ⌝ }
     ensures { λ r. ⌜
-        r ≡ typeSizeFrom settings (now (sizes .entry)) (now (s .entry)) (now (rows .entry)) (now (attrs .entry)) n (now (known .entry)) levels of
+        saidSized r ≡ typeSizeFrom settings (now (sizes .entry)) (now (s .entry)) (now (rows .entry)) (now (attrs .entry)) n (now (known .entry)) levels of
         ⌝ }
 {
     if of.pointer {
@@ -129,7 +129,7 @@ pub(crate) fn entry_size(
 ) -> Sized
     requires { ⌜ TableReady (now s) (now rows) n × AllKept settings (now sizes) (now s) (now rows) (now attrs) n (now known) (now kept) ⌝ }
     ensures { λ r. ⌜
-        r ≡ entrySizeFrom settings (now (sizes .entry)) (now (s .entry)) (now (rows .entry)) (now (attrs .entry)) n (now (known .entry)) levels key
+        saidSized r ≡ entrySizeFrom settings (now (sizes .entry)) (now (s .entry)) (now (rows .entry)) (now (attrs .entry)) n (now (known .entry)) levels key
         ⌝ }
 {
     match find_row(rows, n, key) {
@@ -172,7 +172,7 @@ pub fn row_size(
 ) -> Sized
     requires { ⌜ AskedShort (now s) (now rows) n i × AllKept settings (now sizes) (now s) (now rows) (now attrs) n (now known) (now kept) ⌝ }
     ensures { λ r. ⌜
-        r ≡ rowSize settings (now (s .entry)) (now (rows .entry)) (now (attrs .entry)) n
+        saidSized r ≡ rowSize settings (now (s .entry)) (now (rows .entry)) (now (attrs .entry)) n
         (typeSizeFrom settings (now (sizes .entry)) (now (s .entry)) (now (rows .entry)) (now (attrs .entry)) n (now (known .entry)) levels) i
         ⌝ }
 {
@@ -204,7 +204,7 @@ fn read_added(
 ) -> Added
     requires { ⌜ MemberAsked settings (now sizes) (now s) (now rows) (now attrs) n (now known) (now kept) c ⌝ }
     ensures { λ r. ⌜
-        r ≡ memberAdded settings (now (s .entry)) (now (rows .entry)) (now (attrs .entry)) n
+        saidAdded r ≡ memberAdded settings (now (s .entry)) (now (rows .entry)) (now (attrs .entry)) n
         (typeSizeFrom settings (now (sizes .entry)) (now (s .entry)) (now (rows .entry)) (now (attrs .entry)) n (now (known .entry)) levels) c
         ⌝ }
 {
@@ -242,7 +242,7 @@ pub fn member_added(
 ) -> Added
     requires { ⌜ MemberAsked settings (now sizes) (now s) (now rows) (now attrs) n (now known) (now kept) c ⌝ }
     ensures { λ r. ⌜
-        r ≡ memberAdded settings (now (s .entry)) (now (rows .entry)) (now (attrs .entry)) n
+        saidAdded r ≡ memberAdded settings (now (s .entry)) (now (rows .entry)) (now (attrs .entry)) n
         (typeSizeFrom settings (now (sizes .entry)) (now (s .entry)) (now (rows .entry)) (now (attrs .entry)) n (now (known .entry)) levels) c
         ⌝ }
 {
@@ -268,7 +268,7 @@ fn child_end(
 ) -> Sized
     requires { ⌜ AskedShort (now s) (now rows) n c × AllKept settings (now sizes) (now s) (now rows) (now attrs) n (now known) (now kept) ⌝ }
     ensures { λ r. ⌜
-        r ≡ childEnd settings (now (s .entry)) (now (rows .entry)) (now (attrs .entry)) n
+        saidSized r ≡ childEnd settings (now (s .entry)) (now (rows .entry)) (now (attrs .entry)) n
         (typeSizeFrom settings (now (sizes .entry)) (now (s .entry)) (now (rows .entry)) (now (attrs .entry)) n (now (known .entry)) levels) largest c
         ⌝ }
 {
@@ -299,7 +299,7 @@ fn ends_size(
         EndsShort settings (now s) (now rows) (now attrs) n i × AllKept settings (now sizes) (now s) (now rows) (now attrs) n (now known) (now kept)
         ⌝ }
     ensures { λ r. ⌜
-        r ≡ endsOver settings (now (s .entry)) (now (rows .entry)) (now (attrs .entry)) n
+        saidSized r ≡ endsOver settings (now (s .entry)) (now (rows .entry)) (now (attrs .entry)) n
         (typeSizeFrom settings (now (sizes .entry)) (now (s .entry)) (now (rows .entry)) (now (attrs .entry)) n (now (known .entry)) levels) 0
         (kidsOf (settings .endian) (now (s .entry)) (now (rows .entry)) (now (attrs .entry)) n i)
         ⌝ }
@@ -352,7 +352,7 @@ pub fn size_of_key(
     key: u32,
 ) -> Sized
     ensures { λ r. ⌜
-        r ≡ sizeOfKey (table (now (s .entry)) settings (now (vendors .entry)) (now (sizes .entry)) (now (rows .entry)) (now (attrs .entry)) counts)
+        saidSized r ≡ sizeOfKey (table (now (s .entry)) settings (now (vendors .entry)) (now (sizes .entry)) (now (rows .entry)) (now (attrs .entry)) counts)
         key
         ⌝ }
 {
@@ -388,7 +388,7 @@ pub fn size_of_type(
     of: Type,
 ) -> Sized
     ensures { λ r. ⌜
-        r ≡ sizeOfType (table (now (s .entry)) settings (now (vendors .entry)) (now (sizes .entry)) (now (rows .entry)) (now (attrs .entry)) counts)
+        saidSized r ≡ sizeOfType (table (now (s .entry)) settings (now (vendors .entry)) (now (sizes .entry)) (now (rows .entry)) (now (attrs .entry)) counts)
         of
         ⌝ }
 {

@@ -1,6 +1,6 @@
 -- What follows from `All` and its ways, for each way that the code comes to an answer.
 use Prim.Native.Nat.{ℕ, suc, _+_, _-_, _*_, _/_, _≤_, _<_}
-use native.Mathlib.Nat.{add-zero, zero-add, add-assoc, le-trans}
+use native.Mathlib.Nat.{add-zero, zero-add, add-assoc}
 use native.Mathlib.Decide.{decLe}
 use native.Mathlib.Omega.{arith}
 use mathlib.Core.Path.{_≡_, refl, sym, ap, ap₂, _∙_, subst}
@@ -10,23 +10,18 @@ use lib.ListN.{length, take, drop, set, length-append}
 use lib.Seq.{sets, length-sets}
 use lib.Dec.{leb, eqb}
 use borrow.Author.Tests.{le-leb, lt-leb}
-use Rattle.tables.specs.Table.{table}
 use Rattle.lent.specs.Outcome.{Outcomes, outcomes, BothGiven}
 use Rattle.numbers.proofs.Laws.Tests.{cond-all}
 use Rattle.format.specs.Limits.{entryLimit}
-use Rattle.format.specs.Refusal.{numberOf}
 use Rattle.format.specs.TagKind as tag
 use Rattle.format.specs.AttributeKind as attribute
+use Rattle.format.specs.Said.{Said, gives, refuses, refuse, wanting, _>>=_, _>>_, fillsRooms}
+use Rattle.format.proofs.Laws.Said.{Of, of-next, of-test, given-is, given-refused, step-gave}
 use Rattle.format.specs.declared.settings.Settings.{Settings}
-use Rattle.format.specs.declared.refusal.Refusal.{Refusal}
+use Rattle.format.specs.declared.refusal.Reason.the-variants as reason
 use Rattle.blocks.specs.declared.types.Type.{«Type»}
 use Rattle.lent.proofs.Laws.Stores.{sets-append, sets-out, sets-rest}
 use Rattle.tables.specs.Row.{rowAt}
-use Rattle.tables.specs.Tests.{Tells}
-use Rattle.tables.proofs.Laws.Tests.{passed-answer, refused-answer}
-use Rattle.tables.specs.declared.tests.Tested.{Tested}
-use Rattle.tables.specs.declared.tests.Tested.the-variants as tests
-use Rattle.tables.specs.declared.row.Counts.{Counts}
 use Rattle.tables.specs.declared.row.Row.{Row}
 use Rattle.links.specs.Walk.{Walk, ends, endless}
 use Rattle.links.specs.Links.{siblingRow, nextRow, childWalk, nonNull}
@@ -38,70 +33,62 @@ use Rattle.records.specs.MemberWords.{namePlace, nameLength}
 use Rattle.records.specs.declared.scan.Run.{Run}
 use Rattle.records.specs.declared.fields.Name.{Name}
 use Rattle.records.specs.Member.{memberAt}
-use Rattle.records.specs.Unions.{Placed, Members, members, membersRefused, andMember, memberThen}
+use Rattle.records.specs.Unions.{Placed, memberThen}
 use Rattle.records.specs.declared.member.Member.{Member}
-use Rattle.records.specs.declared.member.MemberRead.{MemberRead}
-use Rattle.records.specs.declared.member.MemberRead.the-variants as read
 use Rattle.sizes.specs.Size.{shapeOf, typeSize, memberSize, memberChildThen, memberRowsFrom, memberRowsBy, membersOf}
 use Rattle.sizes.specs.Inside.Size.{TableReady, typeSizeFrom}
 use Rattle.sizes.specs.Inside.Known.{knownWidth, knownAt, PutKnown}
 use Rattle.layout.specs.Inside.Levels.{deepest, sizeLeft, KnownUpTo}
 use Rattle.layout.proofs.Laws.Levels.{known-types}
-use Rattle.layout.specs.Layout.{Laid, Lay, laid, unlaid, laidMember, andLaid, layThen, endOr, laidFrom, hasByteSize, ownSize, membersLaid, shapeLaid, rowLay, layoutBy, layoutAt, laidWords, laidWidth}
+use Rattle.layout.specs.Layout.{Laid, Lay, lay, laidMember, endOr, laidFrom, hasByteSize, ownSize, rowLay, layoutOf, layoutAt, laidWords, laidWidth}
 use Rattle.sizes.specs.Size.{isStructure}
 use Rattle.layout.specs.Inside.Layout.{WholeLaid}
 use Rattle.sizes.proofs.Laws.Kept.{structure-test}
-use Rattle.layout.proofs.Laws.Layout.{words-long, AllLaid, answer-laid, isNone}
-use Rattle.layout.specs.All.{Structure, laidOf, alsoIf, structureAt, structuresFrom, answerWords, structureWidth, structureWords, allMemberWords, memberCount, countsOf, layoutsInto, allLayouts}
+use Rattle.layout.proofs.Laws.Layout.{words-long}
+use Rattle.layout.specs.All.{saidAllLayouts, Structure, laidOf, alsoIf, structureAt, structuresFrom, answerWords, structureWidth, structureWords, allMemberWords, memberCount, countsOf, layoutsInto}
 use Rattle.layout.specs.Inside.All.{rowStructures, eightWords, countedOn, countedWith, OneMore, CountAsked, wholeTold, WholesTold, RowCounted, PutAsked, Puts, PutsAsked, PutAll}
-use Rattle.sizes.specs.declared.prepare.Shape.{Shape}
-use Rattle.sizes.specs.declared.prepare.Shape.the-variants as shape
-use Rattle.sizes.specs.declared.sized.Sized.{Sized}
-use Rattle.sizes.specs.declared.sized.Sized.the-variants.{Is, Refused}
 use Rattle.layout.specs.declared.one.Layout.{Layout}
 use Rattle.layout.specs.declared.one.LayoutWhole.{LayoutWhole}
-use Rattle.layout.specs.declared.one.LayoutWhole.the-variants as whole
 use Rattle.layout.specs.declared.all.LayoutCounts.{LayoutCounts}
-use Rattle.layout.specs.declared.all.AllLayouts.{AllLayouts}
 use Rattle.layout.specs.declared.all.AllLayouts.the-variants as all
 
 -- ---- how many members there are at most
 
-abbrev fewMembers : ℕ → Members → Type 0
-fewMembers k (members ms) = length ms ≤ k
-fewMembers k (membersRefused why) = Unit
+abbrev fewMembers : ℕ → Said (List Placed) → Type 0
+fewMembers k d = Of (λ (ms : List Placed). length ms ≤ k) d
 
-few-and : (k c : ℕ) (m : Member) (rest : Members) → fewMembers k rest → fewMembers (suc k) (andMember c m rest)
-unfolding andMember
-few-and k c m (members ms) h = omega (arith, h)
-few-and k c m (membersRefused why) h = tt
+abbrev fewLaid : ℕ → Said Lay → Type 0
+fewLaid k d = Of (λ (l : Lay). length (l .members) ≤ k) d
 
-few-more : (k : ℕ) (rest : Members) → fewMembers k rest → fewMembers (suc k) rest
-few-more k (members ms) h = omega (arith, h)
-few-more k (membersRefused why) h = tt
-
-few-then : (k c : ℕ) (m : MemberRead) (rest : Members) → fewMembers k rest → fewMembers (suc k) (memberThen c m rest)
-unfolding memberThen
-few-then k c (read.Is m) rest h = few-and k c m rest h
-few-then k c (read.Refused why) rest h = tt
+few-weaker : {A : Type 0} (many : A → ℕ) {j k : ℕ} (d : Said A) → j ≤ k → Of (λ (x : A). many x ≤ j) d → Of (λ (x : A). many x ≤ k) d
+few-weaker many (gives x) h l = omega (arith, h, l)
+few-weaker many (refuses number place counts) h l = tt
 
 module _ (settings : Settings) (s rows attrs : List ℕ) (n : ℕ) where
+  abbrev withMember : ℕ → Said (List Placed) → Member → Said (List Placed)
+  withMember c rest m = rest >>= λ ms. gives (record { row = c; member = m } ∷ ms)
+
+  few-with : (k c : ℕ) (m : Member) (rest : Said (List Placed)) → fewMembers k rest → fewMembers (suc k) (withMember c rest m)
+  unfolding _>>=_
+  few-with k c m (gives ms) h = omega (arith, h)
+  few-with k c m (refuses number place counts) h = tt
+
+  few-then : (k c : ℕ) (rest : Said (List Placed)) → fewMembers k rest → fewMembers (suc k) (memberThen settings s rows attrs n c rest)
+  unfolding memberThen
+  few-then k c rest h =
+      of-next (λ (ms : List Placed). length ms ≤ suc k) (memberAt settings s rows attrs n c) (withMember c rest) (λ m. few-with k c m rest h)
+
   few-from : (cs : List ℕ) → fewMembers (length cs) (memberRowsFrom settings s rows attrs n cs)
   unfolding memberRowsFrom memberChildThen
   few-from [] = omega arith
   few-from (c ∷ cs) =
       cond-all (fewMembers (suc (length cs))) (eqb (rowAt rows c .kind) tag.Member)
-      (λ t. few-then (length cs) c (memberAt settings s rows attrs n c) (memberRowsFrom settings s rows attrs n cs) (few-from cs))
-      (λ t. few-more (length cs) (memberRowsFrom settings s rows attrs n cs) (few-from cs))
+      (λ t. few-then (length cs) c (memberRowsFrom settings s rows attrs n cs) (few-from cs))
+      (λ t. few-weaker length (memberRowsFrom settings s rows attrs n cs) (omega arith) (few-from cs))
 
-few-weaker : {j k : ℕ} (ms : Members) → j ≤ k → fewMembers j ms → fewMembers k ms
-few-weaker (members ms) h l = omega (arith, h, l)
-few-weaker (membersRefused why) h l = tt
-
-module _ (settings : Settings) (s rows attrs : List ℕ) (n : ℕ) where
   few-by : (key : ℕ) (w : Walk) → length (nonNull rows (rowsMet w)) ≤ n → fewMembers n (memberRowsBy settings s rows attrs n key w)
   unfolding memberRowsBy rowsMet
-  few-by key (ends cs) h = few-weaker (memberRowsFrom settings s rows attrs n (nonNull rows cs)) h (few-from settings s rows attrs n (nonNull rows cs))
+  few-by key (ends cs) h = few-weaker length (memberRowsFrom settings s rows attrs n (nonNull rows cs)) h (few-from (nonNull rows cs))
   few-by key endless h = tt
 
   few-of : (i : ℕ) → fewMembers n (membersOf settings s rows attrs n i)
@@ -110,48 +97,43 @@ module _ (settings : Settings) (s rows attrs : List ℕ) (n : ℕ) where
       few-by (rowAt rows i .key) (childWalk (settings .endian) s rows attrs n i)
       (few-kids (settings .endian) s rows attrs n (siblingRow (settings .endian) s rows attrs n i) (nextRow rows n i))
 
-few-after : (f : ℕ → Laid) (g : ℕ → ℕ → Lay) (e : ℕ → Sized) (k : ℕ) → ((size next : ℕ) → length (laidOf (g size next)) ≤ k) → (s : Sized)
-    → length (laidOf (layThen (λ size. layThen (λ next. andLaid (f size) (g size next)) (e size)) s)) ≤ suc k
-unfolding layThen laidOf andLaid
-few-after f g e k h (Is size) = few-end (f size) (g size) k (h size) (e size)
-  where
-    few-one : (x : Laid) (l : Lay) (j : ℕ) → length (laidOf l) ≤ j → length (laidOf (andLaid x l)) ≤ suc j
-    few-one x (laid xs m) j p = omega (arith, p)
-    few-one x (unlaid why) j p = omega arith
+module _ (rows : List ℕ) (sizeOf : «Type» → Said ℕ) (sized : Bool) where
+  abbrev withLaid : Laid → Said Lay → Said Lay
+  withLaid x d = d >>= λ l. gives (lay (x ∷ l .members) (l .largest))
 
-    few-end : (x : Laid) (r : ℕ → Lay) (j : ℕ) → ((next : ℕ) → length (laidOf (r next)) ≤ j) → (t : Sized)
-        → length (laidOf (layThen (λ next. andLaid x (r next)) t)) ≤ suc j
-    few-end x r j p (Is next) = few-one x (r next) j (p next)
-    few-end x r j p (Refused why) = omega arith
-few-after f g e k h (Refused why) = omega arith
+  few-one : (k : ℕ) (x : Laid) (d : Said Lay) → fewLaid k d → fewLaid (suc k) (withLaid x d)
+  unfolding _>>=_
+  few-one k x (gives l) h = omega (arith, h)
+  few-one k x (refuses number place counts) h = tt
 
-module _ (rows : List ℕ) (sizeOf : «Type» → Sized) (bounded : Bool) where
-  few-laid : (largest : ℕ) (ms : List Placed) → length (laidOf (laidFrom rows sizeOf bounded largest ms)) ≤ length ms
-  unfolding laidFrom laidOf
+  few-laid : (largest : ℕ) (ms : List Placed) → fewLaid (length ms) (laidFrom rows sizeOf sized largest ms)
+  unfolding laidFrom
   few-laid largest [] = omega arith
   few-laid largest (m ∷ ms) =
-      few-after (laidMember m) (λ size next. laidFrom rows sizeOf bounded next ms) (λ size. endOr bounded (rowAt rows (m .row) .key) largest (m .member .offset + size))
-      (length ms) (λ size next. few-laid next ms) (memberSize sizeOf m)
+      of-next (λ (l : Lay). length (l .members) ≤ suc (length ms)) (memberSize sizeOf m)
+      (λ size. endOr sized (rowAt rows (m .row) .key) largest (m .member .offset + size) >>= λ next. withLaid (laidMember m size) (laidFrom rows sizeOf sized next ms))
+      (λ size. of-next (λ (l : Lay). length (l .members) ≤ suc (length ms)) (endOr sized (rowAt rows (m .row) .key) largest (m .member .offset + size))
+      (λ next. withLaid (laidMember m size) (laidFrom rows sizeOf sized next ms))
+      (λ next. few-one (length ms) (laidMember m size) (laidFrom rows sizeOf sized next ms) (few-laid next ms)))
 
-module _ (settings : Settings) (s rows attrs : List ℕ) (n : ℕ) (sizeOf : «Type» → Sized) (i : ℕ) where
-  few-members : (ms : Members) → fewMembers n ms → length (laidOf (membersLaid settings s rows attrs n sizeOf i ms)) ≤ n
-  unfolding membersLaid laidOf
-  few-members (members ms) h = le-trans (few-laid rows sizeOf (hasByteSize (ownSize settings s rows attrs n sizeOf i)) 0 ms) h
-  few-members (membersRefused why) h = omega arith
+  few-all : (n : ℕ) (d : Said (List Placed)) → fewMembers n d → fewLaid n (d >>= laidFrom rows sizeOf sized 0)
+  unfolding _>>=_
+  few-all n (gives ms) h = few-weaker (λ (l : Lay). length (l .members)) (laidFrom rows sizeOf sized 0 ms) h (few-laid 0 ms)
+  few-all n (refuses number place counts) h = tt
 
-  few-shape : (x : Shape) → length (laidOf (shapeLaid settings s rows attrs n sizeOf i x)) ≤ n
-  unfolding isStructure shapeLaid laidOf
-  few-shape shape.Structure = few-members (membersOf settings s rows attrs n i) (few-of settings s rows attrs n i)
-  few-shape shape.Array = omega arith
-  few-shape shape.Enumeration = omega arith
-  few-shape shape.Union = omega arith
-  few-shape shape.PtrToMember = omega arith
-  few-shape shape.Subroutine = omega arith
-  few-shape shape.Other = omega arith
+few-members : (n : ℕ) (d : Said Lay) → fewLaid n d → length (laidOf d) ≤ n
+unfolding laidOf
+few-members n (gives l) h = h
+few-members n (refuses number place counts) h = omega arith
 
+module _ (settings : Settings) (s rows attrs : List ℕ) (n : ℕ) (sizeOf : «Type» → Said ℕ) (i : ℕ) where
   few-row : length (laidOf (rowLay settings s rows attrs n sizeOf i)) ≤ n
   unfolding rowLay
-  few-row = few-shape (shapeOf (rowAt rows i .kind))
+  few-row =
+      few-members n (rowLay settings s rows attrs n sizeOf i)
+      (of-test (λ (l : Lay). length (l .members) ≤ n) (isStructure (shapeOf (rowAt rows i .kind))) reason.Kind (rowAt rows i .key)
+      (membersOf settings s rows attrs n i >>= laidFrom rows sizeOf (hasByteSize (ownSize settings s rows attrs i)) 0)
+      (λ t. few-all rows sizeOf (hasByteSize (ownSize settings s rows attrs i)) n (membersOf settings s rows attrs n i) (few-of settings s rows attrs n i)))
 
 -- ---- lists one after the other
 
@@ -165,10 +147,10 @@ structure-append first (x ∷ xs) ys =
     ∙ sym (append-assoc (answerWords (x .row) (x .name) first (x .answer)) (structureWords (first + length (x .members)) xs)
     (structureWords (first + (length (x .members) + memberCount xs)) ys))
 
-pub answer-long : (row first : ℕ) (name : Name) (w : LayoutWhole) → length (answerWords row name first w) ≡ structureWidth
+pub answer-long : (row first : ℕ) (name : Name) (d : Said Layout) → length (answerWords row name first d) ≡ structureWidth
 unfolding answerWords
-answer-long row first name (whole.Is x) = refl
-answer-long row first name (whole.Refused why) = refl
+answer-long row first name (gives x) = refl
+answer-long row first name (refuses number place counts) = refl
 
 pub structure-long : (first : ℕ) (xs : List Structure) → length (structureWords first xs) ≡ length xs * structureWidth
 unfolding structureWords
@@ -226,32 +208,20 @@ counted-all xs = ap₂ counting (zero-add (length xs)) (zero-add (memberCount xs
 
 -- ---- one row
 
-abbrev membersIn : LayoutWhole → ℕ
-membersIn (whole.Is x) = x .members
-membersIn (whole.Refused why) = 0
+module _ (settings : Settings) (s rows attrs : List ℕ) (n : ℕ) (sizeOf : «Type» → Said ℕ) (i : ℕ) where
+  -- a layout that was laid, or not
+  abbrev answerOf : Said Lay → Said Layout
+  answerOf d = d >>= λ l. gives (layoutOf settings s rows attrs n sizeOf i l)
 
-abbrev isSize : Sized → Type 0
-isSize (Is size) = Unit
-isSize (Refused why) = ⊥
+  laid-count : (d : Said Lay) {x : Layout} → gives x ≡ answerOf d → length (laidOf d) ≡ x .members
+  unfolding layoutOf laidOf _>>=_
+  laid-count (gives l) p = ap (λ (y : Layout). y .members) (given-is (sym p))
+  laid-count (refuses number place counts) p = absurd (given-refused p)
 
-abbrev reasonIn : Refusal → Sized → Refusal
-reasonIn other (Is size) = other
-reasonIn other (Refused why) = why
-
-abbrev isGiven : LayoutWhole → Type 0
-isGiven (whole.Is x) = Unit
-isGiven (whole.Refused why) = ⊥
-
-module _ (settings : Settings) (s rows attrs : List ℕ) (n : ℕ) (sizeOf : «Type» → Sized) (i : ℕ) where
-  laid-count : (lay : Lay) {x : Layout} → layoutBy settings s rows attrs n sizeOf i lay ≡ whole.Is x → length (laidOf lay) ≡ x .members
-  unfolding layoutBy laidOf
-  laid-count (laid xs l) p = ap membersIn p
-  laid-count (unlaid why) p = absurd (subst isNone p tt)
-
-  refused-none : (lay : Lay) {why : Refusal} → layoutBy settings s rows attrs n sizeOf i lay ≡ whole.Refused why → laidOf lay ≡ []
-  unfolding layoutBy laidOf
-  refused-none (laid xs l) p = absurd (subst isGiven p tt)
-  refused-none (unlaid why) p = refl
+  refused-none : (d : Said Lay) {number place : ℕ} {counts : List ℕ} → refuses number place counts ≡ answerOf d → laidOf d ≡ []
+  unfolding laidOf _>>=_
+  refused-none (gives l) p = absurd (given-refused (sym p))
+  refused-none (refuses number place counts) p = refl
 
   module _ {row : Row} {b : Bool} (at : row ≡ rowAt rows i) (is : b ≡ isStructure (shapeOf (row .kind))) where
     row-other : b ≡ false → rowStructures settings s rows attrs n sizeOf i ≡ []
@@ -285,7 +255,7 @@ module _ (settings : Settings) (s rows attrs : List ℕ) (n : ℕ) (sizeOf : «T
           members-are = ap (λ (xs : List Structure). sets members (counts .members * laidWidth) (allMemberWords xs)) (sym (row-other t));
         }
 
-    module _ (t : b ≡ true) {told : LayoutWhole} (answer : told ≡ layoutAt settings s rows attrs n sizeOf i) (counts : LayoutCounts) where
+    module _ (t : b ≡ true) (counts : LayoutCounts) where
       name-is : {run : Run} {name : Name} → run ≡ runOf (settings .endian) rows i → name ≡ nameOf s attrs run attribute.Name
           → name ≡ nameOf s attrs (runOf (settings .endian) rows i) attribute.Name
       name-is p q = q ∙ ap (λ (r : Run). nameOf s attrs r attribute.Name) p
@@ -298,9 +268,10 @@ module _ (settings : Settings) (s rows attrs : List ℕ) (n : ℕ) (sizeOf : «T
           q ∙ ap (counting (counts .structures + 1)) same ∙ ap (countedWith counts) (sym (row-one t))
 
       -- what the layout tells is kept
-      counted-told : {size : Sized} {table table′ : List ℕ} {r : LayoutCounts} → r ≡ countedWith counts (rowStructures settings s rows attrs n sizeOf i) → size ≡ wholeTold told
+      counted-told : {told : Said Layout} {size : Said ℕ} {table table′ : List ℕ} {r : LayoutCounts}
+          → r ≡ countedWith counts (rowStructures settings s rows attrs n sizeOf i) → told ≡ layoutAt settings s rows attrs n sizeOf i → size ≡ wholeTold told
           → PutKnown i size table table′ → RowCounted settings s rows attrs n sizeOf i counts r table table′
-      counted-told q z g = record { counts-are = q; told-is = λ u. g .here ∙ z ∙ ap wholeTold answer; others = g .others; same-long = g .same-long }
+      counted-told q a z g = record { counts-are = q; told-is = λ u. g .here ∙ z ∙ ap wholeTold a; others = g .others; same-long = g .same-long }
 
       put-one : (structures : List ℕ) {words structures′ : List ℕ} → words ≡ answerWords i (nameOf s attrs (runOf (settings .endian) rows i) attribute.Name) (counts .members) (layoutAt settings s rows attrs n sizeOf i)
           → structures′ ≡ sets structures (counts .structures * structureWidth) words
@@ -318,10 +289,10 @@ module _ (settings : Settings) (s rows attrs : List ℕ) (n : ℕ) (sizeOf : «T
           q ∙ ap (sets room (counts .members * laidWidth))
           (ap laidWords (sym p) ∙ sym (append-nil (laidWords (laidOf (rowLay settings s rows attrs n sizeOf i)))) ∙ ap allMemberWords (sym (row-one t)))
 
-      module _ {x : Layout} (p : told ≡ whole.Is x) where
+      module _ {x : Layout} (p : gives x ≡ layoutAt settings s rows attrs n sizeOf i) where
         many-given : length (laidOf (rowLay settings s rows attrs n sizeOf i)) ≡ x .members
         unfolding layoutAt
-        many-given = laid-count (rowLay settings s rows attrs n sizeOf i) (sym answer ∙ p)
+        many-given = laid-count (rowLay settings s rows attrs n sizeOf i) p
 
         pub given-asked : CountAsked s rows n i counts → OneMore counts (x .members)
         given-asked w =
@@ -336,9 +307,9 @@ module _ (settings : Settings) (s rows attrs : List ℕ) (n : ℕ) (sizeOf : «T
         given-counted : {r : LayoutCounts} → r ≡ countedOn counts (x .members) → r ≡ countedWith counts (rowStructures settings s rows attrs n sizeOf i)
         given-counted q = counted-one many-given q
 
-        pub count-given : {size : Sized} {table table′ : List ℕ} {r : LayoutCounts} → size ≡ wholeTold told → PutKnown i size table table′ → r ≡ countedOn counts (x .members)
-            → RowCounted settings s rows attrs n sizeOf i counts r table table′
-        count-given z g q = counted-told (given-counted q) z g
+        pub count-given : {told : Said Layout} {size : Said ℕ} {table table′ : List ℕ} {r : LayoutCounts} → told ≡ layoutAt settings s rows attrs n sizeOf i
+            → size ≡ wholeTold told → PutKnown i size table table′ → r ≡ countedOn counts (x .members) → RowCounted settings s rows attrs n sizeOf i counts r table table′
+        count-given a z g q = counted-told (given-counted q) a z g
 
         pub puts-given : {run : Run} {name : Name} {r : LayoutCounts} {structures structures′ room part′ : List ℕ} {again : LayoutWhole}
             → run ≡ runOf (settings .endian) rows i → name ≡ nameOf s attrs run attribute.Name → WholeLaid (layoutAt settings s rows attrs n sizeOf i) (rowLay settings s rows attrs n sizeOf i) again
@@ -349,74 +320,68 @@ module _ (settings : Settings) (s rows attrs : List ℕ) (n : ℕ) (sizeOf : «T
             (take (counts .members * laidWidth) room ++ (part′ ++ drop (length room - counts .members * laidWidth) (drop (counts .members * laidWidth) room)))
         unfolding answerWords eightWords layoutAt laidOf
         puts-given {name = name} {structures = structures} {room = room} at′ is′ g e q =
-            let these : AllLaid (rowLay settings s rows attrs n sizeOf i) = answer-laid settings s rows attrs n sizeOf i (rowLay settings s rows attrs n sizeOf i) (sym answer ∙ p) in
+            let these : (l : Lay) × (rowLay settings s rows attrs n sizeOf i ≡ gives l) × (gives (layoutOf settings s rows attrs n sizeOf i l) ≡ gives x) =
+            step-gave (rowLay settings s rows attrs n sizeOf i) (λ l. gives (layoutOf settings s rows attrs n sizeOf i l)) (sym p)
+            in
             record {
               counts-are = given-counted q;
-              structures-are = put-one structures (ap₂ (λ (y : Name) (w : LayoutWhole). answerWords i y (counts .members) w) (name-is at′ is′) (sym p ∙ answer)) e;
+              structures-are = put-one structures (ap₂ (λ (y : Name) (d : Said Layout). answerWords i y (counts .members) d) (name-is at′ is′) p) e;
               members-are =
-                  members-one room (ap laidOf (these .are)) (sets-rest room (counts .members * laidWidth) (laidWords (these .list)) (g .room-is (these .list) (these .most) (these .are)));
+                  members-one room (ap laidOf (these .1)) (sets-rest room (counts .members * laidWidth) (laidWords (these .0 .members)) (g .room-is (these .0) (these .1)));
             }
 
-      module _ {why : Refusal} (p : told ≡ whole.Refused why) where
+      module _ {number place : ℕ} {more : List ℕ} (p : refuses number place more ≡ layoutAt settings s rows attrs n sizeOf i) where
         none-given : laidOf (rowLay settings s rows attrs n sizeOf i) ≡ []
         unfolding layoutAt
-        none-given = refused-none (rowLay settings s rows attrs n sizeOf i) (sym answer ∙ p)
+        none-given = refused-none (rowLay settings s rows attrs n sizeOf i) p
 
         refused-counted : {r : LayoutCounts} → r ≡ countedOn counts 0 → r ≡ countedWith counts (rowStructures settings s rows attrs n sizeOf i)
         refused-counted q = counted-one (ap length none-given) q
 
-        pub count-refused : {size : Sized} {table table′ : List ℕ} {r : LayoutCounts} → size ≡ wholeTold told → PutKnown i size table table′ → r ≡ countedOn counts 0
-            → RowCounted settings s rows attrs n sizeOf i counts r table table′
-        count-refused z g q = counted-told (refused-counted q) z g
+        pub count-refused : {told : Said Layout} {size : Said ℕ} {table table′ : List ℕ} {r : LayoutCounts} → told ≡ layoutAt settings s rows attrs n sizeOf i
+            → size ≡ wholeTold told → PutKnown i size table table′ → r ≡ countedOn counts 0 → RowCounted settings s rows attrs n sizeOf i counts r table table′
+        count-refused a z g q = counted-told (refused-counted q) a z g
 
-        pub puts-refused : {run : Run} {name : Name} {r : LayoutCounts} {structures structures′ room : List ℕ} {number : ℕ}
-            → run ≡ runOf (settings .endian) rows i → name ≡ nameOf s attrs run attribute.Name → number ≡ numberOf (why .reason)
-            → structures′ ≡ sets structures (counts .structures * structureWidth) (eightWords i number 0 (why .place) (counts .members) 0 name)
+        pub puts-refused : {run : Run} {name : Name} {r : LayoutCounts} {structures structures′ room : List ℕ} {told : ℕ}
+            → run ≡ runOf (settings .endian) rows i → name ≡ nameOf s attrs run attribute.Name → told ≡ number
+            → structures′ ≡ sets structures (counts .structures * structureWidth) (eightWords i told 0 place (counts .members) 0 name)
             → r ≡ countedOn counts 0 → Puts (rowStructures settings s rows attrs n sizeOf i) counts r structures structures′ room room
         unfolding answerWords eightWords laidWords
-        puts-refused {name = name} {structures = structures} {room = room} {number = number} at′ is′ m e q =
+        puts-refused {name = name} {structures = structures} {room = room} at′ is′ m e q =
             record {
               counts-are = refused-counted q;
               structures-are =
                   put-one structures
-                  (ap (λ (k : ℕ). eightWords i k 0 (why .place) (counts .members) 0 name) m
-                  ∙ ap₂ (λ (y : Name) (w : LayoutWhole). answerWords i y (counts .members) w) (name-is at′ is′) (sym p ∙ answer)) e;
+                  (ap (λ (k : ℕ). eightWords i k 0 place (counts .members) 0 name) m
+                  ∙ ap₂ (λ (y : Name) (d : Said Layout). answerWords i y (counts .members) d) (name-is at′ is′) p) e;
               members-are = members-one room none-given refl;
             }
 
 -- ---- what was told of a row
 
-module _ {answer : LayoutWhole} where
-  pub told-is : {x : Layout} → answer ≡ whole.Is x → Is (x .size) ≡ wholeTold answer
-  unfolding wholeTold
-  told-is p = ap wholeTold (sym p)
-
-  pub told-refused : {why : Refusal} → answer ≡ whole.Refused why → Refused why ≡ wholeTold answer
-  unfolding wholeTold
-  told-refused p = ap wholeTold (sym p)
-
 -- a refusal that was told is the layout's
-refusal-told : (answer : LayoutWhole) {why : Refusal} → wholeTold answer ≡ Refused why → answer ≡ whole.Refused why
-unfolding wholeTold
-refusal-told (whole.Is x) p = absurd (subst isSize p tt)
-refusal-told (whole.Refused why) p = ap (λ (x : Sized). whole.Refused (reasonIn why x)) p
+refusal-told : (d : Said Layout) {number place : ℕ} {counts : List ℕ} → refuses number place counts ≡ wholeTold d → refuses number place counts ≡ d
+unfolding wholeTold _>>=_ _>>_
+refusal-told (gives x) p = absurd (given-refused (sym p))
+refusal-told (refuses number place counts) p = ap (λ (d : Said ℕ). d >> refuse reason.Kind 0) p
 
--- and a layout of which a size was told is not membersRefused
-size-given : {answer : LayoutWhole} {size : ℕ} {why : Refusal} → wholeTold answer ≡ Is size → answer ≡ whole.Refused why → ⊥
-unfolding wholeTold
-size-given p q = subst isSize (sym p ∙ ap wholeTold q) tt
+-- and a layout of which a size was told is not refused
+size-given : {d : Said Layout} {size number place : ℕ} {counts : List ℕ} → gives size ≡ wholeTold d → refuses number place counts ≡ d → ⊥
+unfolding wholeTold _>>=_
+size-given p q = given-refused (p ∙ ap wholeTold (sym q))
 
-module _ {settings : Settings} {s rows attrs : List ℕ} {n : ℕ} {sizeOf : «Type» → Sized} {table : List ℕ} (w : WholesTold settings s rows attrs n sizeOf n table)
-    {i : ℕ} (l : i < n) {row : Row} {b : Bool} (at : row ≡ rowAt rows i) (is : b ≡ isStructure (shapeOf (row .kind))) (t : b ≡ true)
-    {told : Sized} (p : told ≡ knownAt table i) where
-  layout-told : wholeTold (layoutAt settings s rows attrs n sizeOf i) ≡ told
-  layout-told = sym (w .each i l (structure-test rows i at is t)) ∙ sym p
+module _ {settings : Settings} {s rows attrs : List ℕ} {n : ℕ} {sizeOf : «Type» → Said ℕ} {table : List ℕ} (w : WholesTold settings s rows attrs n sizeOf n table)
+    {i : ℕ} (l : i < n) {row : Row} {b : Bool} (at : row ≡ rowAt rows i) (is : b ≡ isStructure (shapeOf (row .kind))) (t : b ≡ true) where
+  layout-told : knownAt table i ≡ wholeTold (layoutAt settings s rows attrs n sizeOf i)
+  layout-told = w .each i l (structure-test rows i at is t)
 
-  pub layout-refused : {why : Refusal} → told ≡ Refused why → layoutAt settings s rows attrs n sizeOf i ≡ whole.Refused why
-  layout-refused q = refusal-told (layoutAt settings s rows attrs n sizeOf i) (layout-told ∙ q)
+  pub layout-refused : {number place : ℕ} {counts : List ℕ} → refuses number place counts ≡ knownAt table i
+      → refuses number place counts ≡ layoutAt settings s rows attrs n sizeOf i
+  layout-refused p = refusal-told (layoutAt settings s rows attrs n sizeOf i) (p ∙ layout-told)
 
-  pub layout-given : {size : ℕ} {answer : LayoutWhole} {why : Refusal} → told ≡ Is size → answer ≡ layoutAt settings s rows attrs n sizeOf i → answer ≡ whole.Refused why → ⊥
-  layout-given q a r = size-given (layout-told ∙ q) (sym a ∙ r)
+  pub layout-given : {size number place : ℕ} {counts : List ℕ} → gives size ≡ knownAt table i
+      → refuses number place counts ≡ layoutAt settings s rows attrs n sizeOf i → ⊥
+  layout-given p q = size-given (p ∙ layout-told) q
 
 pub refused-asked : {s rows : List ℕ} {n i : ℕ} {counts : LayoutCounts} → CountAsked s rows n i counts → OneMore counts 0
 refused-asked {s} {rows} {n} {i} {counts} w =
@@ -433,7 +398,7 @@ unfolding alsoIf
 kept-append true x xs = refl
 kept-append false x xs = refl
 
-module _ (settings : Settings) (s rows attrs : List ℕ) (n : ℕ) (sizeOf : «Type» → Sized) where
+module _ (settings : Settings) (s rows attrs : List ℕ) (n : ℕ) (sizeOf : «Type» → Said ℕ) where
   -- the structures from row i on
   abbrev left : ℕ → List Structure
   left i = structuresFrom settings s rows attrs n sizeOf i (n - i)
@@ -470,14 +435,14 @@ module _ (settings : Settings) (s rows attrs : List ℕ) (n : ℕ) (sizeOf : «T
       cond-all (λ (xs : List Structure). memberCount xs ≤ n) (isStructure (shapeOf (rowAt rows i .kind))) (λ t. omega arith) (λ t. omega arith)
 
 -- what was counted before row i, and what is left, come to the whole
-pub record Counting (settings : Settings) (s rows attrs : List ℕ) (n : ℕ) (sizeOf : «Type» → Sized) (counts : LayoutCounts) (i : ℕ) : Type 0 where
+pub record Counting (settings : Settings) (s rows attrs : List ℕ) (n : ℕ) (sizeOf : «Type» → Said ℕ) (counts : LayoutCounts) (i : ℕ) : Type 0 where
   pub ready : TableReady s rows n
   pub within : i ≤ n
   pub few-structures : counts .structures ≤ i
   pub few-members : counts .members ≤ i * entryLimit
   pub on : countedWith counts (structuresFrom settings s rows attrs n sizeOf i (n - i)) ≡ countsOf (structuresFrom settings s rows attrs n sizeOf 0 n)
 
-module _ {settings : Settings} {s rows attrs : List ℕ} {n : ℕ} (ready : TableReady s rows n) (sizeOf : «Type» → Sized) where
+module _ {settings : Settings} {s rows attrs : List ℕ} {n : ℕ} (ready : TableReady s rows n) (sizeOf : «Type» → Said ℕ) where
   pub counting-begins : Counting settings s rows attrs n sizeOf (counting 0 0) 0
   counting-begins =
       record {
@@ -488,7 +453,7 @@ module _ {settings : Settings} {s rows attrs : List ℕ} {n : ℕ} (ready : Tabl
         on = ap (countedWith (counting 0 0)) (left-all settings s rows attrs n sizeOf) ∙ counted-all (structuresFrom settings s rows attrs n sizeOf 0 n);
       }
 
-module _ {settings : Settings} {s rows attrs : List ℕ} {n : ℕ} {sizeOf : «Type» → Sized} {counts : LayoutCounts} {i : ℕ}
+module _ {settings : Settings} {s rows attrs : List ℕ} {n : ℕ} {sizeOf : «Type» → Said ℕ} {counts : LayoutCounts} {i : ℕ}
     (w : Counting settings s rows attrs n sizeOf counts i) where
   pub counting-asked : i < n → CountAsked s rows n i counts
   counting-asked l =
@@ -524,7 +489,7 @@ module _ {settings : Settings} {s rows attrs : List ℕ} {n : ℕ} {sizeOf : «T
 
 -- ---- what was told, row after row
 
-module _ (settings : Settings) (s rows attrs : List ℕ) (n : ℕ) (sizeOf : «Type» → Sized) where
+module _ (settings : Settings) (s rows attrs : List ℕ) (n : ℕ) (sizeOf : «Type» → Said ℕ) where
   pub told-none : {told : List ℕ} → n * knownWidth ≤ length told → WholesTold settings s rows attrs n sizeOf 0 told
   told-none h = record { fits = h; each = λ i l t. absurd (omega (arith, l)) }
 
@@ -544,7 +509,7 @@ module _ (settings : Settings) (s rows attrs : List ℕ) (n : ℕ) (sizeOf : «T
   told-all w h = record { fits = w .fits; each = λ i l. w .each i (omega arith) }
 
 -- what was given before row i, and what is left, come to the whole
-pub record Putting (settings : Settings) (s rows attrs : List ℕ) (n : ℕ) (sizeOf : «Type» → Sized) (structures₀ members₀ structures room : List ℕ)
+pub record Putting (settings : Settings) (s rows attrs : List ℕ) (n : ℕ) (sizeOf : «Type» → Said ℕ) (structures₀ members₀ structures room : List ℕ)
     (counts : LayoutCounts) (i : ℕ) : Type 0 where
   pub counted : Counting settings s rows attrs n sizeOf counts i
   pub fits : memberCount (structuresFrom settings s rows attrs n sizeOf 0 n) * laidWidth ≤ length members₀
@@ -555,7 +520,7 @@ pub record Putting (settings : Settings) (s rows attrs : List ℕ) (n : ℕ) (si
   pub members-on : sets room (counts .members * laidWidth) (allMemberWords (structuresFrom settings s rows attrs n sizeOf i (n - i)))
       ≡ sets members₀ 0 (allMemberWords (structuresFrom settings s rows attrs n sizeOf 0 n))
 
-module _ {settings : Settings} {s rows attrs : List ℕ} {n : ℕ} (sizeOf : «Type» → Sized) {room : List ℕ}
+module _ {settings : Settings} {s rows attrs : List ℕ} {n : ℕ} (sizeOf : «Type» → Said ℕ) {room : List ℕ}
     (w : PutsAsked s rows n (structuresFrom settings s rows attrs n sizeOf 0 n) room) where
   pub putting-begins : (structures : List ℕ) → Putting settings s rows attrs n sizeOf structures room structures room (counting 0 0) 0
   putting-begins structures =
@@ -568,7 +533,7 @@ module _ {settings : Settings} {s rows attrs : List ℕ} {n : ℕ} (sizeOf : «T
         members-on = ap (λ (xs : List Structure). sets room 0 (allMemberWords xs)) (left-all settings s rows attrs n sizeOf);
       }
 
-module _ {settings : Settings} {s rows attrs : List ℕ} {n : ℕ} {sizeOf : «Type» → Sized} {structures₀ members₀ structures room : List ℕ} {counts : LayoutCounts} {i : ℕ}
+module _ {settings : Settings} {s rows attrs : List ℕ} {n : ℕ} {sizeOf : «Type» → Said ℕ} {structures₀ members₀ structures room : List ℕ} {counts : LayoutCounts} {i : ℕ}
     (w : Putting settings s rows attrs n sizeOf structures₀ members₀ structures room counts i) where
   pub putting-asked : i < n → PutAsked s rows n i counts room
   unfolding countedWith countsOf
@@ -640,12 +605,12 @@ module _ {settings : Settings} {s rows attrs : List ℕ} {n : ℕ} {sizeOf : «T
 
 -- ---- into lent rooms
 
-given-as : {o : Outcomes AllLayouts ℕ ℕ} {r : AllLayouts} {structures room : List ℕ} → outcomes r structures room ≡ o → BothGiven o r structures room
+given-as : {o : Outcomes (Said LayoutCounts) ℕ ℕ} {r : Said LayoutCounts} {structures room : List ℕ} → outcomes r structures room ≡ o → BothGiven o r structures room
 given-as p =
     record {
-      answer-is = ap (λ (x : Outcomes AllLayouts ℕ ℕ). x .answer) p;
-      first-is = ap (λ (x : Outcomes AllLayouts ℕ ℕ). x .first) p;
-      second-is = ap (λ (x : Outcomes AllLayouts ℕ ℕ). x .second) p;
+      answer-is = ap (λ (x : Outcomes (Said LayoutCounts) ℕ ℕ). x .answer) p;
+      first-is = ap (λ (x : Outcomes (Said LayoutCounts) ℕ ℕ). x .first) p;
+      second-is = ap (λ (x : Outcomes (Said LayoutCounts) ℕ ℕ). x .second) p;
     }
 
 module _ (xs : List Structure) {needed : LayoutCounts} (is : needed ≡ countsOf xs) where
@@ -657,18 +622,23 @@ module _ (xs : List Structure) {needed : LayoutCounts} (is : needed ≡ countsOf
   unfolding countsOf
   needed-members = ap (λ (c : LayoutCounts). c .members) is
 
+  wanted : (structures room : List ℕ) → outcomes (wanting (needed .structures ∷ needed .members ∷ [])) structures room
+      ≡ outcomes {A = Said LayoutCounts} (wanting (length xs ∷ memberCount xs ∷ [])) structures room
+  wanted structures room =
+      ap₂ (λ (a b : ℕ). outcomes {A = Said LayoutCounts} (wanting (a ∷ b ∷ [])) structures room) needed-structures needed-members
+
   pub rooms-asked : (room : List ℕ) {s rows : List ℕ} {n : ℕ} → TableReady s rows n → needed .members ≤ length room / laidWidth → PutsAsked s rows n xs room
   rooms-asked room w h =
       let many : needed .members ≡ memberCount xs = needed-members in
       record { ready = w; fits = omega arith }
 
   module _ (structures room : List ℕ) where
-    pub rooms-unlisted : length structures / structureWidth < needed .structures → BothGiven (layoutsInto structures room xs) (all.Room needed) structures room
-    unfolding layoutsInto
+    pub rooms-unlisted : length structures / structureWidth < needed .structures → BothGiven (layoutsInto structures room xs) (saidAllLayouts (all.Room needed)) structures room
+    unfolding saidAllLayouts layoutsInto fillsRooms
     rooms-unlisted h =
         let many : needed .structures ≡ length xs = needed-structures in
         let test : leb (length xs) (length structures / structureWidth) ≡ false = lt-leb (length xs) (length structures / structureWidth) (omega arith) in
-        given-as (ap (λ (c : LayoutCounts). outcomes (all.Room c) structures room) is ∙ sym (rw test))
+        given-as (wanted structures room ∙ sym (rw test))
 
     module _ (h : needed .structures ≤ length structures / structureWidth) where
       listed : leb (length xs) (length structures / structureWidth) ≡ true
@@ -676,47 +646,33 @@ module _ (xs : List Structure) {needed : LayoutCounts} (is : needed ≡ countsOf
           let many : needed .structures ≡ length xs = needed-structures in
           le-leb (length xs) (length structures / structureWidth) (omega arith)
 
-      pub rooms-unfit : length room / laidWidth < needed .members → BothGiven (layoutsInto structures room xs) (all.Room needed) structures room
-      unfolding layoutsInto
+      pub rooms-unfit : length room / laidWidth < needed .members → BothGiven (layoutsInto structures room xs) (saidAllLayouts (all.Room needed)) structures room
+      unfolding saidAllLayouts layoutsInto fillsRooms
       rooms-unfit l =
           let many : needed .members ≡ memberCount xs = needed-members in
           let test : leb (memberCount xs) (length room / laidWidth) ≡ false = lt-leb (memberCount xs) (length room / laidWidth) (omega arith) in
-          given-as (ap (λ (c : LayoutCounts). outcomes (all.Room c) structures room) is ∙ sym (rw (listed, test)))
+          given-as (wanted structures room ∙ sym (rw (listed, test)))
 
       pub rooms-filled : needed .members ≤ length room / laidWidth → {structures′ room′ : List ℕ} → PutAll xs structures structures′ room room′
-          → BothGiven (layoutsInto structures room xs) (all.Are needed) structures′ room′
-      unfolding layoutsInto
+          → BothGiven (layoutsInto structures room xs) (saidAllLayouts (all.Are needed)) structures′ room′
+      unfolding saidAllLayouts layoutsInto fillsRooms
       rooms-filled l {structures′} {room′} g =
           let many : needed .members ≡ memberCount xs = needed-members in
           let test : leb (memberCount xs) (length room / laidWidth) ≡ true = le-leb (memberCount xs) (length room / laidWidth) (omega arith) in
           given-as
-          (ap (λ (c : LayoutCounts). outcomes (all.Are c) structures′ room′) is
-          ∙ ap₂ (outcomes (all.Are (countsOf xs))) (g .structures-are) (g .members-are)
+          (ap (λ (c : LayoutCounts). outcomes (gives c) structures′ room′) is
+          ∙ ap₂ (outcomes (gives (countsOf xs))) (g .structures-are) (g .members-are)
           ∙ sym (rw (listed, test)))
 
 -- ---- the sizes of all rows are known
 
 pub all-known : (settings : Settings) (sizes s rows attrs : List ℕ) (n : ℕ) → TableReady s rows n → (known : List ℕ)
-    → KnownUpTo (sizeLeft settings sizes s rows attrs n deepest) n n known → 0 < length known → (structures room : List ℕ) {structures′ room′ : List ℕ} {r : AllLayouts}
+    → KnownUpTo (sizeLeft settings sizes s rows attrs n deepest) n n known → 0 < length known → (structures room : List ℕ) {structures′ room′ : List ℕ} {r : Said LayoutCounts}
     → BothGiven (layoutsInto structures room (structuresFrom settings s rows attrs n (typeSizeFrom settings sizes s rows attrs n known 0) 0 n)) r structures′ room′
     → BothGiven (layoutsInto structures room (structuresFrom settings s rows attrs n (typeSize settings sizes s rows attrs n deepest) 0 n)) r structures′ room′
 all-known settings sizes s rows attrs n ready known w some structures room {structures′} {room′} {r} g =
-    subst (λ (sizeOf : «Type» → Sized). BothGiven (layoutsInto structures room (structuresFrom settings s rows attrs n sizeOf 0 n)) r structures′ room′)
+    subst (λ (sizeOf : «Type» → Said ℕ). BothGiven (layoutsInto structures room (structuresFrom settings s rows attrs n sizeOf 0 n)) r structures′ room′)
     (known-types settings sizes s rows attrs n ready deepest w some 0) g
-
-module _ {settings : Settings} {vendors sizes s rows attrs : List ℕ} {counts : Counts} {told : Tested} (is : Tells (table s settings vendors sizes rows attrs counts) told)
-    (structures room : List ℕ) where
-  pub all-passed : told ≡ tests.Passed → {structures′ room′ : List ℕ} {r : AllLayouts}
-      → BothGiven (layoutsInto structures room (structuresFrom settings s rows attrs (counts .rows) (typeSize settings sizes s rows attrs (counts .rows) deepest) 0 (counts .rows)))
-      r structures′ room′
-      → BothGiven (allLayouts (table s settings vendors sizes rows attrs counts) structures room) r structures′ room′
-  unfolding allLayouts
-  all-passed p {structures′} {room′} {r} g = subst (λ (o : Outcomes AllLayouts ℕ ℕ). BothGiven o r structures′ room′) (passed-answer _ _ is p) g
-
-  pub all-refused : {why : Refusal} → told ≡ tests.Refused why
-      → BothGiven (allLayouts (table s settings vendors sizes rows attrs counts) structures room) (all.Refused why) structures room
-  unfolding allLayouts
-  all-refused p = given-as (refused-answer (λ why. outcomes (all.Refused why) structures room) _ is p)
 
 -- ---- the words of a structure
 

@@ -1,32 +1,33 @@
 -- All layouts are what the keys give one by one: every structure and class of the table is there once, in file order, with the layout or refusal that
 -- `layout_of_key` has for its key.
-use Prim.Native.Nat.{ℕ, zero, suc, _-_, _<_}
+use Prim.Native.Nat.{ℕ, zero, suc, _/_, _<_}
 use mathlib.Core.Path.{_≡_, refl, sym, ap, _∙_}
 use mathlib.Core.Bool.{Bool, true, false, cond}
 use mathlib.Core.List.{List, [], _∷_, map}
+use lib.ListN.{length}
+use lib.Dec.{leb}
 use Rattle.tables.specs.Table.{table}
-use Rattle.lent.specs.Outcome.{Outcome}
 use Rattle.format.specs.declared.settings.Settings.{Settings}
 use Rattle.blocks.specs.declared.types.Type.{«Type»}
 use Rattle.tables.specs.Row.{rowAt}
 use Rattle.tables.proofs.Laws.Find.{row-of-own-key}
-use Rattle.tables.specs.Tests.{Tells}
+use Rattle.tables.specs.Tests.{saidTested, Tells}
 use Rattle.tables.proofs.Laws.Tests.{passed-held}
 use Rattle.tables.proofs.Laws.Held.{held-rising}
 use Rattle.tables.specs.declared.row.Counts.{Counts}
 use Rattle.tables.specs.declared.tests.Tested.{Tested}
 use Rattle.tables.specs.declared.tests.Tested.the-variants as tests
-use Rattle.tables.specs.Keyed.{inRowOfKey}
-use Rattle.tables.proofs.Laws.Keyed.{key-found, row-passed, in-row}
+use Rattle.format.specs.Said.{Said, gives, refuses, _>>=_, _>>_, inRoom, fillsRoom}
+use Rattle.format.proofs.Laws.Said.{goes-past}
+use Rattle.tables.specs.Keyed.{rowOf}
+use Rattle.tables.specs.Inside.Keyed.{saidKeyed}
+use Rattle.tables.proofs.Laws.Keyed.{key-found}
 use Rattle.tables.specs.declared.keyed.Keyed.the-variants as keyed
 use Rattle.sizes.specs.Size.{innerSize, shapeOf}
-use Rattle.layout.specs.Layout.{rowLay, layoutAt, layoutInto, layoutOfKey}
+use Rattle.layout.specs.Layout.{Lay, rowLay, layoutOf, layoutAt, laidWords, laidWidth, layoutInto, layoutOfKey}
 use Rattle.sizes.specs.Size.{isStructure}
-use Rattle.layout.specs.All.{Structure, alsoIf, structureAt, structuresFrom}
-use Rattle.sizes.specs.declared.sized.Sized.{Sized}
-use Rattle.layout.specs.declared.one.LayoutRead.the-variants as layout
-use Rattle.layout.specs.AllEach.{rowNumbersFrom, onlyStructures}
-use Rattle.layout.specs.declared.one.LayoutRead.{LayoutRead}
+use Rattle.layout.specs.All.{Structure, laidOf, alsoIf, structureAt, structuresFrom}
+use Rattle.layout.specs.AllEach.{rowNumbersFrom, onlyStructures, givenAlone}
 
 -- ---- every structure and class once, in file order
 
@@ -35,7 +36,7 @@ unfolding alsoIf
 kept-map f true i is p = ap (λ (ys : List Structure). f i ∷ ys) p
 kept-map f false i is p = p
 
-module _ (settings : Settings) (s rows attrs : List ℕ) (n : ℕ) (sizeOf : «Type» → Sized) where
+module _ (settings : Settings) (s rows attrs : List ℕ) (n : ℕ) (sizeOf : «Type» → Said ℕ) where
   structures-are : (i left : ℕ) → structuresFrom settings s rows attrs n sizeOf i left ≡ map (structureAt settings s rows attrs n sizeOf) (onlyStructures rows (rowNumbersFrom i left))
   unfolding structuresFrom onlyStructures rowNumbersFrom
   structures-are i zero = refl
@@ -58,19 +59,33 @@ module _ (settings : Settings) (s rows attrs : List ℕ) (n : ℕ) (sizeOf : «T
 
 -- ---- each has the layout or refusal that its key gives
 
+module _ (settings : Settings) (s rows attrs : List ℕ) (n : ℕ) (sizeOf : «Type» → Said ℕ) (room : List ℕ) (i : ℕ) where
+  laid-alone : (d : Said Lay)
+      → inRoom room d
+      (λ l. fillsRoom (leb (length (l .members)) (length room / laidWidth)) (layoutOf settings s rows attrs n sizeOf i l) (length (l .members) ∷ []) (laidWords (l .members)) room)
+      ≡ inRoom room (d >>= λ l. gives (layoutOf settings s rows attrs n sizeOf i l))
+      (λ x. fillsRoom (leb (length (laidOf d)) (length room / laidWidth)) x (length (laidOf d) ∷ []) (laidWords (laidOf d)) room)
+  unfolding laidOf inRoom _>>=_
+  laid-alone (gives l) = refl
+  laid-alone (refuses number place counts) = refl
+
+  into-alone : layoutInto settings s rows attrs n sizeOf room i ≡ givenAlone room (structureAt settings s rows attrs n sizeOf i)
+  unfolding layoutInto layoutAt structureAt givenAlone
+  into-alone = laid-alone (rowLay settings s rows attrs n sizeOf i)
+
 module _ {settings : Settings} {vendors sizes s rows attrs : List ℕ} {counts : Counts} {told : Tested} (is : Tells (table s settings vendors sizes rows attrs counts) told)
     (p : told ≡ tests.Passed) where
-  abbrev there : List ℕ → ℕ → Outcome LayoutRead ℕ
-  there room i = layoutInto room (rowLay settings s rows attrs (counts .rows) (innerSize (table s settings vendors sizes rows attrs counts)) i) (layoutAt settings s rows attrs (counts .rows) (innerSize (table s settings vendors sizes rows attrs counts)) i)
-
-  own-row : (i : ℕ) → i < counts .rows → keyed.Row i ≡ inRowOfKey (table s settings vendors sizes rows attrs counts) (rowAt rows i .key) keyed.Refused keyed.Row
+  own-row : (i : ℕ) → i < counts .rows → saidKeyed (keyed.Row i) ≡ rowOf (table s settings vendors sizes rows attrs counts) (rowAt rows i .key)
+  unfolding rowOf saidTested _>>_
   own-row i l =
-      row-passed settings vendors sizes s rows attrs counts (rowAt rows i .key) is p
+      goes-past saidTested (is .told) p _
       (key-found (rowAt rows i .key) refl (row-of-own-key (held-rising (passed-held is p)) i l))
 
   -- what all layouts tell of row i is what its key gives
   pub each-layout : (i : ℕ) → i < counts .rows → (room : List ℕ) → layoutOfKey (table s settings vendors sizes rows attrs counts) (rowAt rows i .key) room
-      ≡ layoutInto room (rowLay settings s rows attrs (counts .rows) (innerSize (table s settings vendors sizes rows attrs counts)) i) (structureAt settings s rows attrs (counts .rows) (innerSize (table s settings vendors sizes rows attrs counts)) i .answer)
-  unfolding layoutOfKey structureAt
+      ≡ givenAlone room (structureAt settings s rows attrs (counts .rows) (innerSize (table s settings vendors sizes rows attrs counts)) i)
+  unfolding layoutOfKey saidKeyed inRoom
   each-layout i l room =
-      sym (in-row settings vendors sizes s rows attrs counts (rowAt rows i .key) (own-row i l) (λ why. record { answer = layout.Refused why; room = room }) (there room) refl)
+      ap (λ (d : Said ℕ). inRoom room d (layoutInto settings s rows attrs (counts .rows) (innerSize (table s settings vendors sizes rows attrs counts)) room))
+      (sym (own-row i l))
+      ∙ into-alone settings s rows attrs (counts .rows) (innerSize (table s settings vendors sizes rows attrs counts)) room i

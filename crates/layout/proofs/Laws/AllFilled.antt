@@ -1,34 +1,31 @@
 -- Where all layouts are given, they are those of all structures and classes: their words one after the other at the front of the one room, their members' words
 -- at the front of the other, and what lies behind is as it was. So structure k's words stand at k times eight, and its members' words at its first member's number
 -- times four.
-use Prim.Native.Nat.{ℕ, _+_, _-_, _*_, _/_, _≤_, _<_}
+use Prim.Native.Nat.{ℕ, _+_, _*_, _/_, _≤_, _<_}
 use native.Mathlib.Nat.{zero-add}
 use native.Mathlib.Omega.{arith}
-use mathlib.Core.Path.{_≡_, refl, sym, ap, _∙_, subst}
-use mathlib.Core.Bool.{Bool, true, false, cond, _&&_}
-use mathlib.Core.List.{List, _∷_, _++_, append-assoc}
+use mathlib.Core.Path.{_≡_, refl, sym, ap, _∙_}
+use mathlib.Core.Bool.{Bool, true, false, _&&_}
+use mathlib.Core.List.{List, [], _∷_, _++_, append-assoc}
 use lib.ListN.{length, getD, take, drop, take-append-drop, List·getD-append}
 use lib.Seq.{sets, getD-append-add}
-use lib.Dec.{leb, ltb}
+use lib.Dec.{leb}
 use borrow.Author.Tests.{leb-true}
-use Rattle.tables.specs.Table.{table}
+use Rattle.tables.specs.Table.{Table, table}
 use Rattle.lent.proofs.Laws.Filled.{sets-filled}
-use Rattle.lent.specs.Outcome.{Outcomes, outcomes, BothGiven}
-use Rattle.format.specs.Limits.{sectionLimit}
-use Rattle.format.specs.Settings.{settingsHold}
+use Rattle.lent.specs.Outcome.{Outcomes, BothGiven}
+use Rattle.format.specs.Said.{Said, gives, refuses, inRooms, fillsRooms}
+use Rattle.format.proofs.Laws.Said.{given-is, given-refused}
 use Rattle.format.specs.declared.settings.Settings.{Settings}
-use Rattle.format.specs.declared.refusal.Refusal.{Refusal}
-use Rattle.tables.specs.Holds.{tableHolds}
-use Rattle.tables.specs.Tests.{afterTests, tested}
+use Rattle.tables.specs.Tests.{testTable}
+use Rattle.tables.proofs.Laws.Holds.{both}
 use Rattle.tables.specs.declared.row.Counts.{Counts}
 use Rattle.sizes.specs.Size.{innerSize}
 use Rattle.layout.specs.Layout.{laidWords, laidWidth}
 use Rattle.layout.proofs.Laws.Layout.{words-long}
 use Rattle.layout.specs.All.{Structure, structuresFrom, answerWords, structureWidth, structureWords, allMemberWords, memberCount, countsOf, layoutsInto, allLayouts}
-use Rattle.layout.proofs.Laws.All.{structure-append, structure-long, answer-long, member-append, member-long, rooms-filled}
+use Rattle.layout.proofs.Laws.All.{structure-append, structure-long, answer-long, member-append, member-long}
 use Rattle.layout.specs.declared.all.LayoutCounts.{LayoutCounts}
-use Rattle.layout.specs.declared.all.AllLayouts.{AllLayouts}
-use Rattle.layout.specs.declared.all.AllLayouts.the-variants as all
 use Rattle.layout.specs.AllFilled.{AllFilled}
 
 -- ---- one structure's words
@@ -66,80 +63,54 @@ module _ {xs : List Structure} {many : LayoutCounts} {structures structures′ r
       words-in room′ (memberCount xs * laidWidth) (allMemberWords before) (laidWords (x .members)) (allMemberWords after)
       (f .members-filled .front ∙ ap allMemberWords these ∙ member-append before (x ∷ after)) (memberCount before * laidWidth) (member-long before) j (omega arith)
 
--- ---- what the answer tells
+-- ---- what is known where a call with two rooms gave an answer
 
-abbrev areThese : LayoutCounts → AllLayouts → Type 0
-areThese many (all.Are c) = c ≡ many
-areThese many (all.Refused why) = ⊥
-areThese many (all.Room c) = ⊥
+rooms-given : {A B E F : Type 0} (first : List E) (second : List F) (d : Said A) (next : A → Outcomes (Said B) E F) {y : B} {one : List E} {two : List F}
+    → BothGiven (inRooms first second d next) (gives y) one two → (x : A) × (d ≡ gives x) × BothGiven (next x) (gives y) one two
+unfolding inRooms
+rooms-given first second (gives x) next g = (x, refl, g)
+rooms-given first second (refuses number place counts) next g = absurd (given-refused (g .answer-is))
 
-module _ (structures room : List ℕ) where
-  abbrev kept : Refusal → Outcomes AllLayouts ℕ ℕ
-  kept why = outcomes (all.Refused why) structures room
-
-  -- the tests passed
-  tests-are : (a b c : Bool) (o : Outcomes AllLayouts ℕ ℕ) {many : LayoutCounts} → afterTests a b c kept o .answer ≡ all.Are many → afterTests a b c kept o ≡ o
-  unfolding afterTests
-  tests-are true true true o p = refl
-  tests-are true true false o {many} p = absurd (subst (areThese many) (sym p) refl)
-  tests-are true false c o {many} p = absurd (subst (areThese many) (sym p) refl)
-  tests-are false b c o {many} p = absurd (subst (areThese many) (sym p) refl)
-
-  -- and there was room for both
-  pub record BothFit (xs : List Structure) (many : LayoutCounts) : Type 0 where
-    pub counts-are : many ≡ countsOf xs
-    pub structures-fit : length xs ≤ length structures / structureWidth
-    pub members-fit : memberCount xs ≤ length room / laidWidth
-
-  fit-by : (xs : List Structure) {many : LayoutCounts} (b c : Bool) (x y : List ℕ) → leb (length xs) (length structures / structureWidth) ≡ b
-      → leb (memberCount xs) (length room / laidWidth) ≡ c
-      → cond (b && c) (outcomes (all.Are (countsOf xs)) x y) (outcomes (all.Room (countsOf xs)) structures room) .answer ≡ all.Are many → BothFit xs many
-  fit-by xs {many} true true x y h k p =
-      record {
-        counts-are = sym (subst (areThese many) (sym p) refl);
-        structures-fit = leb-true (length xs) (length structures / structureWidth) h;
-        members-fit = leb-true (memberCount xs) (length room / laidWidth) k;
-      }
-  fit-by xs {many} true false x y h k p = absurd (subst (areThese many) (sym p) refl)
-  fit-by xs {many} false c x y h k p = absurd (subst (areThese many) (sym p) refl)
-
-  both-fit : (xs : List Structure) {many : LayoutCounts} → layoutsInto structures room xs .answer ≡ all.Are many → BothFit xs many
-  unfolding layoutsInto
-  both-fit xs p =
-      fit-by xs (leb (length xs) (length structures / structureWidth)) (leb (memberCount xs) (length room / laidWidth)) (sets structures 0 (structureWords 0 xs))
-      (sets room 0 (allMemberWords xs)) refl refl p
+fills-given : {A E F : Type 0} (fits : Bool) (answer : A) (counts : List ℕ) (words : List E) (others : List F) (first : List E) (second : List F) {y : A}
+    {one : List E} {two : List F} → BothGiven (fillsRooms fits answer counts words others first second) (gives y) one two
+    → (fits ≡ true) × (y ≡ answer) × (one ≡ sets first 0 words) × (two ≡ sets second 0 others)
+unfolding fillsRooms
+fills-given true answer counts words others first second g = (refl, given-is (g .answer-is), g .first-is, g .second-is)
+fills-given false answer counts words others first second g = absurd (given-refused (g .answer-is))
 
 -- ---- what the rooms hold
 
-rooms-are : (structures room : List ℕ) (xs : List Structure) {many : LayoutCounts} {structures′ room′ : List ℕ} → BothFit structures room xs many
-    → structures′ ≡ layoutsInto structures room xs .first → room′ ≡ layoutsInto structures room xs .second → AllFilled xs many structures structures′ room room′
-unfolding countsOf
-rooms-are structures room xs {many} {structures′} {room′} w p q =
-    let g : BothGiven (layoutsInto structures room xs) (all.Are (countsOf xs)) (sets structures 0 (structureWords 0 xs)) (sets room 0 (allMemberWords xs)) =
-    rooms-filled xs refl structures room (w .structures-fit) (w .members-fit) (record { structures-are = refl; members-are = refl }) in
-    let structures-there : structures′ ≡ sets structures 0 (structureWords 0 xs) = p ∙ sym (g .first-is) in
-    let members-there : room′ ≡ sets room 0 (allMemberWords xs) = q ∙ sym (g .second-is) in
-    let some : length xs ≤ length structures / structureWidth = w .structures-fit in
-    let more : memberCount xs ≤ length room / laidWidth = w .members-fit in
+into-filled : (structures room : List ℕ) (xs : List Structure) {many : LayoutCounts} {structures′ room′ : List ℕ}
+    → BothGiven (layoutsInto structures room xs) (gives many) structures′ room′ → AllFilled xs many structures structures′ room room′
+unfolding layoutsInto
+into-filled structures room xs {many} {structures′} {room′} g =
+    let listed : Bool = leb (length xs) (length structures / structureWidth) in
+    let laid : Bool = leb (memberCount xs) (length room / laidWidth) in
+    let these : ((listed && laid) ≡ true) × (many ≡ countsOf xs) × (structures′ ≡ sets structures 0 (structureWords 0 xs)) × (room′ ≡ sets room 0 (allMemberWords xs)) =
+    fills-given (listed && laid) (countsOf xs) (length xs ∷ memberCount xs ∷ []) (structureWords 0 xs) (allMemberWords xs) structures room g
+    in
+    let fit : (listed ≡ true) × (laid ≡ true) = both listed laid (these .0) in
+    let some : length xs ≤ length structures / structureWidth = leb-true (length xs) (length structures / structureWidth) (fit .0) in
+    let more : memberCount xs ≤ length room / laidWidth = leb-true (memberCount xs) (length room / laidWidth) (fit .1) in
     let structures-end : length xs * structureWidth ≤ length structures = omega arith in
     let members-end : memberCount xs * laidWidth ≤ length room = omega arith in
     record {
-      counts-are = w .counts-are;
-      structures-filled = sets-filled (structureWords 0 xs) (length xs * structureWidth) structures (structure-long 0 xs) structures-end structures-there;
-      members-filled = sets-filled (allMemberWords xs) (memberCount xs * laidWidth) room (member-long xs) members-end members-there;
+      counts-are = these .1;
+      structures-filled = sets-filled (structureWords 0 xs) (length xs * structureWidth) structures (structure-long 0 xs) structures-end (these .2);
+      members-filled = sets-filled (allMemberWords xs) (memberCount xs * laidWidth) room (member-long xs) members-end (these .3);
     }
 
 -- ---- the theorem
 
-module _ (settings : Settings) (vendors sizes s rows attrs : List ℕ) (counts : Counts) (structures room : List ℕ) {r : AllLayouts} {structures′ room′ : List ℕ}
-    {many : LayoutCounts} (g : BothGiven (allLayouts (table s settings vendors sizes rows attrs counts) structures room) r structures′ room′) (p : r ≡ all.Are many) where
-  passed : allLayouts (table s settings vendors sizes rows attrs counts) structures room ≡ layoutsInto structures room (structuresFrom settings s rows attrs (counts .rows) (innerSize (table s settings vendors sizes rows attrs counts)) 0 (counts .rows))
-  unfolding allLayouts tested
-  passed =
-      tests-are structures room (settingsHold settings vendors sizes) (ltb (length s) sectionLimit) (tableHolds s vendors rows attrs counts) (layoutsInto structures room (structuresFrom settings s rows attrs (counts .rows) (innerSize (table s settings vendors sizes rows attrs counts)) 0 (counts .rows)))
-      (sym (g .answer-is) ∙ p)
+module _ (settings : Settings) (vendors sizes s rows attrs : List ℕ) (counts : Counts) (structures room : List ℕ) where
+  abbrev t : Table
+  t = table s settings vendors sizes rows attrs counts
 
-  pub all-filled : AllFilled (structuresFrom settings s rows attrs (counts .rows) (innerSize (table s settings vendors sizes rows attrs counts)) 0 (counts .rows)) many structures structures′ room room′
-  all-filled =
-      rooms-are structures room (structuresFrom settings s rows attrs (counts .rows) (innerSize (table s settings vendors sizes rows attrs counts)) 0 (counts .rows)) (both-fit structures room (structuresFrom settings s rows attrs (counts .rows) (innerSize (table s settings vendors sizes rows attrs counts)) 0 (counts .rows)) (ap (λ (o : Outcomes AllLayouts ℕ ℕ). o .answer) (sym passed) ∙ sym (g .answer-is) ∙ p))
-      (g .first-is ∙ ap (λ (o : Outcomes AllLayouts ℕ ℕ). o .first) passed) (g .second-is ∙ ap (λ (o : Outcomes AllLayouts ℕ ℕ). o .second) passed)
+  abbrev all : List Structure
+  all = structuresFrom settings s rows attrs (counts .rows) (innerSize t) 0 (counts .rows)
+
+  pub all-filled : {many : LayoutCounts} {structures′ room′ : List ℕ}
+      → BothGiven (allLayouts (table s settings vendors sizes rows attrs counts) structures room) (gives many) structures′ room′
+      → AllFilled (structuresFrom settings s rows attrs (counts .rows) (innerSize (table s settings vendors sizes rows attrs counts)) 0 (counts .rows)) many structures structures′ room room′
+  unfolding allLayouts
+  all-filled g = into-filled structures room all (rooms-given structures room (testTable t) (λ passed. layoutsInto structures room all) g .2)

@@ -1,49 +1,45 @@
 -- Size and layout of document 01's input A, computed.
 use mathlib.Core.Path.{_≡_, refl}
 use mathlib.Core.List.{[], _∷_}
-use Rattle.tables.specs.Table.{table}
-use Rattle.sizes.specs.declared.sized.Sized.the-variants as sized
-use Rattle.layout.specs.declared.one.LayoutRead.the-variants as layout
-use Rattle.numbers.specs.Value.{valueOf, there, readAt}
+use Rattle.numbers.specs.Value.{there, readAt, valueOf}
 use Rattle.format.specs.AttributeKind.{attributeKinds}
-use Rattle.format.specs.FormKind.{formOf, formNumber, isForm}
-use Rattle.format.specs.FundType.{fundTypes, fundTypeOf, parseInt}
+use Rattle.format.specs.FormKind.{formOf, isForm, formNumber}
+use Rattle.format.specs.FundType.{fundTypes, parseInt, fundTypeOf}
 use Rattle.format.specs.InputA.{inputA, settingsA}
 use Rattle.format.specs.Known.{known}
-use Rattle.format.specs.Lookup.{isOn, indexOf, lookup}
-use Rattle.format.specs.Settings.{plays, vendorsHold, roleHolds, roleForm, rolesDiffer, rolesHold, settingsHold}
+use Rattle.format.specs.Lookup.{isOn, lookup, indexOf}
+use Rattle.format.specs.Said.{gives, must, _>>=_, _>>_, placed, inRoom, fillsRoom}
+use Rattle.format.specs.Settings.{settingsHold, vendorsHold, rolesHold, roleHolds, roleForm, rolesDiffer, plays}
 use Rattle.format.specs.TagKind.{tags}
-use Rattle.attributes.specs.End.{fixedEnd, blockEnd, valueEnd}
-use Rattle.attributes.specs.Parts.{partAt, blockAt}
-use Rattle.blocks.specs.Location.{operandAt, shapeOperand}
-use Rattle.blocks.specs.Modifiers.{allKnown, anyPointer, processModifiers}
-use Rattle.blocks.specs.Types.{withModifiers, modified, knownType, fundamental, fundType, processType}
-use Rattle.tables.specs.Tests.{afterTests, tested}
-use Rattle.tables.specs.Find.{rowFrom, rowOfKey}
-use Rattle.tables.specs.Row.{rowAt, attrAt, erasedRow, endianOf}
-use Rattle.tables.specs.Holds.{fitting, attrHolds, runHolds, rowHolds, rowsHold, tableHolds}
-use Rattle.links.specs.Attribute.{wants, attrFrom, attributeOf, asReference, referenceBy, referenceOf}
-use Rattle.links.specs.Links.{nextFrom, nextRow, rowNumber, siblingBy, siblingRow, childWalk, nullRow, nonNull}
-use Rattle.tables.specs.Keyed.{rowBy, inRowOfKey}
-use Rattle.tables.specs.Row.{endsOf}
-use Rattle.links.specs.Typed.{asValue, wordAt}
-use Rattle.links.specs.Walk.{meets, stops, walkFrom}
-use Rattle.records.specs.Fields.{isSought, lastFrom, nameBy, nameOf, replaced, typeBy, typeOf, asOffset, offsetIn, offsetBy, offsetField, asWord, wordIn, wordBy, wordOf}
-use Rattle.records.specs.Front.{kindTaken, kindFault, childlessFault, headOf, frontOf, unless}
-use Rattle.records.specs.Member.{bitsBy, withBits, memberWith, placedBy, memberPlaced, typedBy, memberFields, memberAt}
+use Rattle.attributes.specs.End.{valueEnd, fixedEnd, blockEnd}
+use Rattle.attributes.specs.Parts.{blockAt, partAt}
+use Rattle.blocks.specs.Location.{shapeOperand, operandAt}
+use Rattle.blocks.specs.Modifiers.{processModifiers, allKnown, anyPointer}
+use Rattle.blocks.specs.Types.{processType, fundType, fundamental, numberIn, knownNumber, modified}
+use Rattle.tables.specs.Find.{rowOfKey, rowFrom}
+use Rattle.tables.specs.Holds.{tableHolds, fitting, rowsHold, rowHolds, runHolds, attrHolds}
+use Rattle.tables.specs.Keyed.{rowOf, foundRow}
+use Rattle.tables.specs.Row.{rowAt, attrAt, endianOf, erasedRow, endsOf}
+use Rattle.tables.specs.Table.{table}
+use Rattle.tables.specs.Tests.{testTable}
+use Rattle.links.specs.Attribute.{referenceOf, referenceBy, attributeOf, attrFrom, wants, asReference}
+use Rattle.links.specs.Links.{childWalk, nextRow, nextFrom, siblingRow, siblingBy, rowNumber, nonNull, nullRow}
+use Rattle.links.specs.Typed.{wordAt, asValue}
+use Rattle.links.specs.Walk.{walkFrom, stops, meets}
+use Rattle.records.specs.Fields.{typeOf, typeBy, lastOf, lastFrom, isSought, offsetField, wordOf, wordBy, wordIn, asWord, nameOf, nameBy, attributeNeeded, locationBlock}
+use Rattle.records.specs.Front.{frontOf, headOf, kindFault, kindTaken, childlessFault}
+use Rattle.records.specs.Member.{memberAt, memberFields, bitsBy}
 use Rattle.records.specs.MemberWords.{namePlace, nameLength}
-use Rattle.records.specs.Scan.{runOf, attributeAt, expected, expectedForm, isType, typedFault, locatedFault, locationFault, contentFault, formFault, attributeFault, orElse, faultsFrom, faultAt}
-use Rattle.records.specs.Taken.{takenBy, takes}
-use Rattle.records.specs.Unions.{andMember, memberThen}
-use Rattle.layout.specs.Layout.{laidMember, andLaid, layThen, endOr, laidFrom, hasByteSize, sizeOrLargest, ownSize, membersLaid, shapeLaid, rowLay, layoutBy, layoutAt, laidWords, layInto, layoutInto, layoutOfKey}
-use Rattle.sizes.specs.Size.{isStructure}
-use Rattle.sizes.specs.Size.{fundamentalSize, kindSize, typeSizeBy, memberChildThen, memberRowsFrom, memberRowsBy, membersOf, sizeOr, memberSize, sizeOrEnds, membersSize, shapeOf, shapeSize, rowSize, foundSize, entrySize, typeSize, sizeOfKey}
-use Rattle.records.specs.Fields as fields
+use Rattle.records.specs.Scan.{faultsFrom, runOf, faultAt, attributeFault, attributeAt, expectedForm, expected, contentFault, isType, faultOf, locationOf}
+use Rattle.records.specs.Taken.{takes, takenBy}
+use Rattle.records.specs.Unions.{memberThen}
+use Rattle.sizes.specs.Size.{sizeOfKey, entrySize, rowSize, shapeSize, shapeOf, membersOf, memberRowsBy, memberRowsFrom, memberChildThen, sizeOrEnds, isStructure, memberSize, sizeOr, typeSize, typeSizeBy, kindSize, fundamentalSize}
 use Rattle.layout.specs.Examples.{rowsA, attrsA, sizesA, countsA}
+use Rattle.layout.specs.Layout.{layoutOfKey, rowLay, laidFrom, endOr, laidMember, hasByteSize, ownSize, sizeOrLargest, layoutInto, laidWords, layoutOf}
 
--- 4 bytes; one isOn at 0 of 4 bytes without a name, and the word behind its four as it was
-pub input-a : (sizeOfKey (table inputA settingsA [] sizesA rowsA attrsA countsA) 0 ≡ sized.Is 4)
+-- 4 bytes; one member at 0 of 4 bytes without a name, and the word behind its four as it was
+pub input-a : (sizeOfKey (table inputA settingsA [] sizesA rowsA attrsA countsA) 0 ≡ gives 4)
     × (layoutOfKey (table inputA settingsA [] sizesA rowsA attrsA countsA) 0 (7 ∷ 7 ∷ 7 ∷ 7 ∷ 7 ∷ [])
-    ≡ record { answer = layout.Is (record { row = 0; size = 4; members = 1 }); room = 0 ∷ 4 ∷ 0 ∷ 0 ∷ 7 ∷ [] })
-unfolding sizeOfKey tested entrySize afterTests settingsHold vendorsHold rolesHold roleHolds roleForm rolesDiffer fundTypes tableHolds fitting rowsHold rowHolds rowAt isOn tags runHolds attrHolds known attributeKinds attrAt valueEnd formOf lookup fixedEnd there blockEnd readAt valueOf endianOf foundSize rowOfKey rowFrom rowSize shapeSize shapeOf membersSize membersOf memberRowsBy childWalk walkFrom stops nextRow nextFrom erasedRow siblingRow siblingBy referenceOf referenceBy attributeOf attrFrom wants asReference rowNumber meets memberRowsFrom nonNull nullRow memberChildThen memberThen memberAt unless frontOf orElse headOf kindFault kindTaken faultsFrom runOf faultAt attributeFault takes takenBy attributeAt formFault isForm formNumber expectedForm plays expected contentFault isType typedFault processType fundType fundamental knownType parseInt fundTypeOf endsOf modified withModifiers processModifiers allKnown locationFault locatedFault shapeOperand blockAt partAt childlessFault memberFields typedBy typeOf typeBy fields.lastOf lastFrom isSought replaced memberPlaced placedBy offsetField offsetBy offsetIn asOffset memberWith withBits bitsBy wordOf wordBy andMember sizeOrEnds wordIn asWord wordAt asValue layoutOfKey inRowOfKey rowBy rowLay layoutAt isStructure shapeLaid membersLaid layoutBy laidFrom layThen endOr andLaid laidMember memberSize sizeOr hasByteSize ownSize sizeOrLargest layoutInto layInto laidWords namePlace nameLength nameOf nameBy typeSize typeSizeBy kindSize fundamentalSize indexOf anyPointer operandAt
+    ≡ record { answer = gives (record { row = 0; size = 4; members = 1 }); room = 0 ∷ 4 ∷ 0 ∷ 0 ∷ 7 ∷ [] })
+unfolding sizeOfKey entrySize settingsHold vendorsHold rolesHold roleHolds roleForm rolesDiffer fundTypes tableHolds fitting rowsHold rowHolds rowAt isOn tags runHolds attrHolds known attributeKinds attrAt valueEnd formOf lookup fixedEnd there blockEnd readAt valueOf endianOf rowOfKey rowFrom rowSize shapeSize shapeOf membersOf memberRowsBy childWalk walkFrom stops nextRow nextFrom erasedRow siblingRow siblingBy referenceOf referenceBy attributeOf attrFrom wants asReference rowNumber meets memberRowsFrom nonNull nullRow memberChildThen memberThen memberAt frontOf headOf kindFault kindTaken faultsFrom runOf faultAt attributeFault takes takenBy attributeAt isForm formNumber expectedForm plays expected contentFault isType processType fundType fundamental numberIn knownNumber parseInt fundTypeOf endsOf modified must _>>=_ _>>_ processModifiers allKnown shapeOperand blockAt partAt childlessFault memberFields typeOf typeBy lastOf lastFrom isSought offsetField bitsBy wordOf wordBy sizeOrEnds wordIn asWord wordAt asValue layoutOfKey rowLay isStructure laidFrom endOr laidMember memberSize sizeOr hasByteSize ownSize sizeOrLargest layoutInto laidWords namePlace nameLength nameOf nameBy typeSize typeSizeBy kindSize fundamentalSize indexOf anyPointer operandAt placed inRoom fillsRoom testTable rowOf foundRow attributeNeeded locationBlock faultOf locationOf layoutOf
 input-a = (refl, refl)

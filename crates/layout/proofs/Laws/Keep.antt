@@ -11,13 +11,15 @@ use Rattle.numbers.proofs.Laws.Tests.{cond-all}
 use Rattle.numbers.specs.declared.Endian.{Endian}
 use Rattle.format.specs.Lookup.{lookup}
 use Rattle.format.specs.TagKind as tag
+use Rattle.format.specs.Said.{Said, gives, refuse, refusal, _>>=_}
 use Rattle.format.specs.declared.settings.Settings.{Settings}
 use Rattle.format.specs.declared.refusal.Refusal.{Refusal}
 use Rattle.format.specs.declared.refusal.Reason.the-variants as reason
 use Rattle.tables.specs.Row.{rowAt, erasedRow}
 use Rattle.tables.specs.Find.{rowOfKey}
 use Rattle.tables.proofs.Laws.Find.{row-found}
-use Rattle.tables.specs.Tests.{refusedAt}
+use Rattle.tables.specs.Inside.Keyed.{refusedAt}
+use Rattle.tables.specs.Keyed.{foundRow}
 use Rattle.tables.specs.declared.row.Row.{Row}
 use Rattle.tables.specs.declared.find.Found.{Found}
 use Rattle.tables.specs.declared.find.Found.the-variants as found
@@ -26,39 +28,39 @@ use Rattle.links.specs.Attribute.{siblingNumber, referenceOf}
 use Rattle.links.specs.Inside.Children.{Asked}
 use Rattle.links.specs.declared.lookup.Reference.{Reference}
 use Rattle.links.specs.declared.lookup.Reference.the-variants as reference
-use Rattle.records.specs.Member.{memberAt}
+use Rattle.records.specs.Member.{saidMemberRead, memberAt}
 use Rattle.records.specs.declared.fields.Word.the-variants as word
-use Rattle.records.specs.declared.scan.Fault.{Fault}
-use Rattle.records.specs.declared.scan.Fault.the-variants as fault
 use Rattle.records.specs.declared.member.Member.{Member}
 use Rattle.records.specs.declared.member.MemberRead.{MemberRead}
 use Rattle.records.specs.declared.member.MemberRead.the-variants as read
-use Rattle.sizes.specs.Size.{typeSizeBy, sizeOr, foundSize, shapes, shapeOf}
+use Rattle.sizes.specs.Size.{saidSized, typeSizeBy, sizeOr, shapes, shapeOf}
 use Rattle.sizes.specs.Inside.Known.{knownAt, PutKnown}
 use Rattle.sizes.specs.Inside.Prepare.{structureFault}
 use Rattle.sizes.specs.Size.{isStructure}
 use Rattle.sizes.specs.Inside.Kept.{keptWidth, rowNamed, sizeNamed, firstOf, secondOf, faultSize, SecondKept, MembersKept, PartsKept, PutTwo, PutRow, PutFault, KeepAsked}
 use Rattle.sizes.proofs.Laws.Kept.{structure-test}
-use Rattle.sizes.specs.declared.sized.Sized.{Sized}
 use Rattle.sizes.specs.declared.sized.Sized.the-variants.{Is, Refused}
 
 -- ---- a size, or the row of the entry that has it
 
 module _ (rows : List ℕ) (n key : ℕ) {told : Found} (is : told ≡ rowOfKey rows n key) where
-  pub named-at : {i : ℕ} → told ≡ found.At i → Refused (refusedAt i reason.Depth) ≡ rowNamed rows n key
-  unfolding rowNamed foundSize
-  named-at p = ap (foundSize (λ i. Refused (refusedAt i reason.Depth)) key) (sym p ∙ is)
+  abbrev named : Found → Said ℕ
+  named f = foundRow key f >>= λ i. refuse reason.Depth i
 
-  pub named-none : {why : Refusal} → told ≡ found.Nothing → why ≡ refusedAt key reason.Entry → Refused why ≡ rowNamed rows n key
-  unfolding rowNamed foundSize
-  named-none p q = ap Refused q ∙ ap (foundSize (λ i. Refused (refusedAt i reason.Depth)) key) (sym p ∙ is)
+  pub named-at : {i : ℕ} → told ≡ found.At i → saidSized (Refused (refusedAt i reason.Depth)) ≡ rowNamed rows n key
+  unfolding saidSized rowNamed foundRow _>>=_
+  named-at p = ap named (sym p ∙ is)
+
+  pub named-none : {why : Refusal} → told ≡ found.Nothing → why ≡ refusedAt key reason.Entry → saidSized (Refused why) ≡ rowNamed rows n key
+  unfolding saidSized rowNamed foundRow _>>=_
+  named-none p q = ap refusal q ∙ ap named (sym p ∙ is)
 
 module _ (sizes rows : List ℕ) (n : ℕ) (m : Member) where
-  pub size-own : {size : ℕ} → m .«byte_size» ≡ word.Is size → Is size ≡ sizeNamed sizes rows n m
-  unfolding sizeNamed sizeOr
+  pub size-own : {size : ℕ} → m .«byte_size» ≡ word.Is size → saidSized (Is size) ≡ sizeNamed sizes rows n m
+  unfolding saidSized sizeNamed sizeOr
   size-own p = ap (sizeOr (typeSizeBy sizes (rowNamed rows n)) (m .of)) (sym p)
 
-  pub size-typed : {r : Sized} → m .«byte_size» ≡ word.Nothing → r ≡ typeSizeBy sizes (rowNamed rows n) (m .of) → r ≡ sizeNamed sizes rows n m
+  pub size-typed : {r : Said ℕ} → m .«byte_size» ≡ word.Nothing → r ≡ typeSizeBy sizes (rowNamed rows n) (m .of) → r ≡ sizeNamed sizes rows n m
   unfolding sizeNamed sizeOr
   size-typed p q = q ∙ ap (sizeOr (typeSizeBy sizes (rowNamed rows n)) (m .of)) (sym p)
 
@@ -86,7 +88,7 @@ sibling-within e s rows attrs n c l = named-within rows n c l (referenceOf e s r
 
 -- ---- two answers
 
-pub two-put : (c : ℕ) {first second : Sized} {kept kept₁ kept₂ : List ℕ} → PutKnown (c * 3) first kept kept₁ → PutKnown (c * 3 + 1) second kept₁ kept₂
+pub two-put : (c : ℕ) {first second : Said ℕ} {kept kept₁ kept₂ : List ℕ} → PutKnown (c * 3) first kept kept₁ → PutKnown (c * 3 + 1) second kept₁ kept₂
     → PutTwo c first second kept kept₂
 two-put c a b =
     record {
@@ -97,37 +99,39 @@ two-put c a b =
     }
 
 -- as what was read tells them
-module _ (sizes rows : List ℕ) (n c : ℕ) {told : MemberRead} {kept kept′ : List ℕ} where
-  read-put : {r : MemberRead} → told ≡ r → PutTwo c (firstOf r) (secondOf sizes rows n r) kept kept′ → PutTwo c (firstOf told) (secondOf sizes rows n told) kept kept′
-  read-put p g = subst (λ (r : MemberRead). PutTwo c (firstOf r) (secondOf sizes rows n r) kept kept′) (sym p) g
+module _ (sizes rows : List ℕ) (n c : ℕ) {kept kept′ : List ℕ} where
+  read-put : {told r : MemberRead} → told ≡ r → PutTwo c (firstOf (saidMemberRead r)) (secondOf sizes rows n (saidMemberRead r)) kept kept′
+      → PutTwo c (firstOf (saidMemberRead told)) (secondOf sizes rows n (saidMemberRead told)) kept kept′
+  read-put p g = subst (λ (x : MemberRead). PutTwo c (firstOf (saidMemberRead x)) (secondOf sizes rows n (saidMemberRead x)) kept kept′) (sym p) g
 
-  pub member-put : {m : Member} {size : Sized} → told ≡ read.Is m → size ≡ sizeNamed sizes rows n m → PutTwo c (Is (m .offset)) size kept kept′
-      → PutTwo c (firstOf told) (secondOf sizes rows n told) kept kept′
-  unfolding firstOf secondOf
-  member-put {m} p q g = read-put p (subst (λ (x : Sized). PutTwo c (Is (m .offset)) x kept kept′) q g)
+  pub member-put : {told : MemberRead} {m : Member} {size : Said ℕ} → told ≡ read.Is m → size ≡ sizeNamed sizes rows n m → PutTwo c (saidSized (Is (m .offset))) size kept kept′
+      → PutTwo c (firstOf (saidMemberRead told)) (secondOf sizes rows n (saidMemberRead told)) kept kept′
+  unfolding saidSized saidMemberRead firstOf secondOf _>>=_
+  member-put {m = m} p q g = read-put p (subst (λ (x : Said ℕ). PutTwo c (gives (m .offset)) x kept kept′) q g)
 
-  pub refused-put : {why : Refusal} → told ≡ read.Refused why → PutTwo c (Refused why) (Is 0) kept kept′
-      → PutTwo c (firstOf told) (secondOf sizes rows n told) kept kept′
-  unfolding firstOf secondOf
+  pub refused-put : {told : MemberRead} {why : Refusal} → told ≡ read.Refused why → PutTwo c (saidSized (Refused why)) (saidSized (Is 0)) kept kept′
+      → PutTwo c (firstOf (saidMemberRead told)) (secondOf sizes rows n (saidMemberRead told)) kept kept′
+  unfolding saidSized saidMemberRead firstOf secondOf _>>=_
   refused-put p g = read-put p g
 
 -- ---- a row
 
 -- there is room for it
-pub row-fits : {rows kept kept′ : List ℕ} {n c i : ℕ} {size : Sized} → Asked rows n c → KeepAsked rows n kept → PutKnown i size kept kept′
+pub row-fits : {rows kept kept′ : List ℕ} {n c i : ℕ} {size : Said ℕ} → Asked rows n c → KeepAsked rows n kept → PutKnown i size kept kept′
     → c * keptWidth + keptWidth ≤ length kept′
 row-fits a w g = omega (arith, a .there, w .fits, g .same-long)
 
 module _ (settings : Settings) (sizes s rows attrs : List ℕ) (n c : ℕ) (asked : Asked rows n c) {kept kept₁ : List ℕ} {sibling : ℕ}
-    (is : sibling ≡ siblingRow (settings .endian) s rows attrs n c) (g : PutKnown (c * 3 + 2) (Is (sibling % 4294967296)) kept kept₁) where
+    (is : sibling ≡ siblingRow (settings .endian) s rows attrs n c) (g : PutKnown (c * 3 + 2) (saidSized (Is (sibling % 4294967296))) kept kept₁) where
   -- a row's number fits a word
-  sibling-kept : knownAt kept₁ (c * 3 + 2) ≡ Is (siblingRow (settings .endian) s rows attrs n c)
+  sibling-kept : knownAt kept₁ (c * 3 + 2) ≡ gives (siblingRow (settings .endian) s rows attrs n c)
+  unfolding saidSized
   sibling-kept =
       let within : siblingRow (settings .endian) s rows attrs n c ≤ n = sibling-within (settings .endian) s rows attrs n c (asked .there) in
       let small : sibling % 4294967296 ≡ siblingRow (settings .endian) s rows attrs n c = omega (arith, within, is, asked .table .few) in
-      g .here ∙ ap Is small
+      g .here ∙ ap gives small
 
-  pub row-member : {told : MemberRead} {kept₂ : List ℕ} → told ≡ memberAt settings s rows attrs n c → PutTwo c (firstOf told) (secondOf sizes rows n told) kept₁ kept₂
+  pub row-member : {told : Said Member} {kept₂ : List ℕ} → told ≡ memberAt settings s rows attrs n c → PutTwo c (firstOf told) (secondOf sizes rows n told) kept₁ kept₂
       → PutRow settings sizes s rows attrs n c kept kept₂
   row-member p two =
       record {
@@ -156,7 +160,7 @@ each-on P k here before c l = elim (decLe k c) [ yes h ↦ let same : k ≡ c = 
 
 pub record Keeping (settings : Settings) (sizes s rows attrs : List ℕ) (n : ℕ) (kept : List ℕ) (k : ℕ) : Type 0 where
   pub asked : KeepAsked rows n kept
-  pub siblings : (c : ℕ) → c < k → knownAt kept (c * 3 + 2) ≡ Is (siblingRow (settings .endian) s rows attrs n c)
+  pub siblings : (c : ℕ) → c < k → knownAt kept (c * 3 + 2) ≡ gives (siblingRow (settings .endian) s rows attrs n c)
   pub first : (c : ℕ) → c < k → rowAt rows c .kind ≡ tag.Member → knownAt kept (c * 3) ≡ firstOf (memberAt settings s rows attrs n c)
   pub second : SecondKept settings sizes s rows attrs n kept k
 
@@ -175,7 +179,7 @@ module _ (settings : Settings) (sizes s rows attrs : List ℕ) (n : ℕ) where
   keeping-on {kept} {kept′} {k} w g =
       record {
         asked = record { table = w .asked .table; fits = omega (arith, w .asked .fits, g .same-long) };
-        siblings = each-on (λ c. knownAt kept′ (c * 3 + 2) ≡ Is (siblingRow (settings .endian) s rows attrs n c)) k (g .sibling-is)
+        siblings = each-on (λ c. knownAt kept′ (c * 3 + 2) ≡ gives (siblingRow (settings .endian) s rows attrs n c)) k (g .sibling-is)
             (λ c l. g .before (c * 3 + 2) (omega arith) ∙ w .siblings c l);
         first = each-on (λ c. rowAt rows c .kind ≡ tag.Member → knownAt kept′ (c * 3) ≡ firstOf (memberAt settings s rows attrs n c)) k (g .first-is)
             (λ c l t. g .before (c * 3) (omega arith) ∙ w .first c l t);
@@ -192,17 +196,8 @@ module _ (settings : Settings) (sizes s rows attrs : List ℕ) (n : ℕ) where
 
 -- ---- structures' faults
 
-module _ {told : Fault} where
-  pub fault-clear : told ≡ fault.Clear → Is 0 ≡ faultSize told
-  unfolding faultSize
-  fault-clear p = ap faultSize (sym p)
-
-  pub fault-refused : {why : Refusal} → told ≡ fault.Refused why → Refused why ≡ faultSize told
-  unfolding faultSize
-  fault-refused p = ap faultSize (sym p)
-
 module _ (settings : Settings) (s rows attrs : List ℕ) (n i : ℕ) {row : Row} (at : row ≡ rowAt rows i) {b : Bool} (is : b ≡ isStructure (shapeOf (row .kind))) where
-  pub fault-put : b ≡ true → {told : Fault} {size : Sized} → told ≡ structureFault settings s rows attrs n i → size ≡ faultSize told → {kept kept′ : List ℕ}
+  pub fault-put : b ≡ true → {told : Said Unit} {size : Said ℕ} → told ≡ structureFault settings s rows attrs n i → size ≡ faultSize told → {kept kept′ : List ℕ}
       → PutKnown (i * 3) size kept kept′ → PutFault settings s rows attrs n i kept kept′
   fault-put t p q g =
       record {

@@ -3,70 +3,61 @@ use Prim.Native.Nat.{ℕ, suc, _+_, _-_, _*_, _/_, _≤_, _<_}
 use native.Mathlib.Nat.{add-zero, zero-add}
 use native.Mathlib.Omega.{arith}
 use mathlib.Core.Path.{_≡_, refl, sym, ap, ap₂, _∙_, subst}
-use mathlib.Core.Bool.{Bool, true, false, cond, true≢false}
+use mathlib.Core.Bool.{Bool, true, false, cond}
 use mathlib.Core.List.{List, [], _∷_, _++_}
 use lib.ListN.{length, set, length-append}
 use lib.Seq.{sets, length-sets}
 use lib.Dec.{eqb, leb}
 use borrow.Author.Tests.{eq-eqb, ne-eqb, le-leb, lt-leb}
 use Rattle.tables.specs.Table.{table}
-use Rattle.lent.specs.Outcome.{Outcome, Given, outcome}
+use Rattle.lent.specs.Outcome.{Outcome, Given}
 use Rattle.numbers.proofs.Laws.Tests.{cond-all}
 use Rattle.numbers.specs.declared.Endian.{Endian}
 use Rattle.format.specs.Limits.{entryLimit, sectionLimit, depthLimit}
 use Rattle.format.specs.AttributeKind as attribute
 use Rattle.format.specs.TagKind as tag
+use Rattle.format.specs.Said.{Said, gives, refuses, refusal, wanting, _>>=_, _>>_, inRoom, fillsRoom}
+use Rattle.format.proofs.Laws.Said.{case-said, goes-on, goes-past, goes-in, must-passed, must-failed, fills, wants, Of, of-next, given-is, given-refused, past-gave, step-gave}
 use Rattle.format.specs.declared.settings.Settings.{Settings}
 use Rattle.format.specs.declared.refusal.Refusal.{Refusal}
 use Rattle.format.specs.declared.refusal.Reason.the-variants as reason
 use Rattle.blocks.specs.declared.types.Type.{«Type»}
-use Rattle.blocks.specs.declared.types.Typed.{Typed}
-use Rattle.blocks.specs.declared.types.Typed.the-variants as typed
 use Rattle.lent.proofs.Laws.Stores.{sets-append, sets-out}
 use Rattle.tables.specs.Row.{rowAt}
-use Rattle.tables.specs.Tests.{refusedAt}
+use Rattle.tables.specs.Inside.Keyed.{refusedAt, saidKeyed}
 use Rattle.tables.specs.declared.row.Row.{Row}
 use Rattle.tables.specs.declared.row.Counts.{Counts}
 use Rattle.links.specs.Links.{siblingRow, nextRow, childWalk}
 use Rattle.links.specs.Inside.Kids.{walkOn, kidsFrom, kidsOf, firstOr, isEnding}
 use Rattle.links.proofs.Laws.Kids.{few-kids, kids-more}
-use Rattle.tables.specs.Keyed.{inRowOfKey}
-use Rattle.tables.proofs.Laws.Keyed.{in-row, no-row}
+use Rattle.tables.specs.Keyed.{rowOf}
 use Rattle.tables.specs.declared.keyed.Keyed.{Keyed}
 use Rattle.tables.specs.declared.keyed.Keyed.the-variants as keyed
 use Rattle.records.specs.Inside.Enumeration.{AskedShort}
 use Rattle.records.proofs.Laws.Taken.{test-passed, test-failed}
 use Rattle.records.specs.Scan.{runOf}
+use Rattle.records.specs.Inside.Scan.{saidFault}
 use Rattle.records.specs.Fields.{nameOf, typeOf, offsetField, wordOf}
-use Rattle.records.specs.Front.{frontOf, unless}
-use Rattle.records.specs.Member.{bitsBy, withBits, memberWith, placedBy, memberPlaced, typedBy, memberFields, memberAt}
+use Rattle.records.specs.Front.{frontOf}
+use Rattle.records.specs.Member.{bitsBy, memberFields, memberAt}
 use Rattle.records.specs.MemberWords.{namePlace, nameLength}
-use Rattle.records.specs.Unions.{Placed, Members, members, membersRefused, andMember, memberThen}
+use Rattle.records.specs.Unions.{Placed, memberThen}
 use Rattle.records.specs.declared.taken.Record.the-variants as record′
 use Rattle.records.specs.declared.scan.Run.{Run}
 use Rattle.records.specs.declared.scan.Fault.{Fault}
 use Rattle.records.specs.declared.scan.Fault.the-variants as fault
 use Rattle.records.specs.declared.fields.Word.{Word}
 use Rattle.records.specs.declared.fields.Name.{Name}
-use Rattle.records.specs.declared.fields.Needed.{Needed}
-use Rattle.records.specs.declared.fields.Needed.the-variants as need
-use Rattle.records.specs.declared.member.BitsRead.{BitsRead}
-use Rattle.records.specs.declared.member.BitsRead.the-variants as bits
 use Rattle.records.specs.declared.member.Member.{Member}
-use Rattle.records.specs.declared.member.MemberRead.{MemberRead}
-use Rattle.records.specs.declared.member.MemberRead.the-variants as read
-use Rattle.sizes.specs.Size.{shapeOf, memberChildThen, memberRowsFrom, membersOf, sizeOr, memberSize, typeSize}
+use Rattle.sizes.specs.Size.{saidSized, shapeOf, isStructure, memberChildThen, memberRowsFrom, membersOf, sizeOr, memberSize, typeSize}
 use Rattle.sizes.specs.Inside.Prepare.{structureFault}
-use Rattle.sizes.specs.Inside.Size.{EndsShort, withSize, readAdded, grown, memberAdded, entrySizeFrom, typeSizeFrom}
+use Rattle.sizes.specs.Inside.Size.{Extent, EndsShort, saidAdded, withSize, grown, memberAdded, entrySizeFrom, typeSizeFrom}
 use Rattle.sizes.specs.Inside.Kept.{AllKept, LayoutAsked}
-use Rattle.layout.specs.Layout.{Laid, Lay, laid, unlaid, laidMember, andLaid, layThen, endOr, laidFrom, hasByteSize, sizeOrLargest, ownSize, membersLaid, shapeLaid, rowLay, layoutBy, layoutAt, laidWords, laidWidth, layInto, layoutInto, layoutOfKey}
-use Rattle.sizes.specs.Size.{isStructure}
-use Rattle.layout.specs.Inside.Layout.{laidAt, sizedLaid, addedLaid, LayAsked, layBefore, layOn, readLaid, childLaid, childrenLaid, faultLaid, structureLaid, layingOf, Lays, WholeLaid}
+use Rattle.layout.specs.Layout.{Laid, Lay, lay, saidLayoutRead, laidMember, endOr, laidFrom, hasByteSize, sizeOrLargest, ownSize, rowLay, layoutOf, layoutAt, laidWords, laidWidth, layoutInto, layoutOfKey}
+use Rattle.layout.specs.Inside.Layout.{laidAt, sizedLaid, addedLaid, LayAsked, layBefore, layOn, readLaid, childLaid, childrenLaid, structureLaid, Progress, saidLaying, saidLayoutWhole, layingOf, Lays, WholeLaid}
 use Rattle.sizes.proofs.Laws.Walking.{Walking, walking-begins, walking-ends, walking-stops, walking-asked, walking-less, walking-on}
 use Rattle.sizes.proofs.Laws.Prepare.{AllRead, fault-members, refused-members}
 use Rattle.sizes.proofs.Laws.Size.{walk-ending, walk-members}
-use Rattle.sizes.specs.declared.prepare.Shape.{Shape}
-use Rattle.sizes.specs.declared.prepare.Shape.the-variants as shape
 use Rattle.sizes.specs.declared.kept.Added.{Added}
 use Rattle.sizes.specs.declared.kept.Added.the-variants as added
 use Rattle.sizes.specs.declared.sized.Sized.{Sized}
@@ -74,36 +65,26 @@ use Rattle.sizes.specs.declared.sized.Sized.the-variants.{Is, Refused}
 use Rattle.layout.specs.declared.one.Layout.{Layout}
 use Rattle.layout.specs.declared.one.LayoutWhole.{LayoutWhole}
 use Rattle.layout.specs.declared.one.LayoutWhole.the-variants as whole
-use Rattle.layout.specs.declared.one.LayoutRead.{LayoutRead}
 use Rattle.layout.specs.declared.one.LayoutRead.the-variants as layout
 use Rattle.layout.specs.declared.one.Laying.{Laying}
 use Rattle.layout.specs.declared.one.Laying.the-variants as laying
 
--- what each answer says
-abbrev areLaid : List Laid → Lay → Type 0
-areLaid xs (laid ys largest) = xs ≡ ys
-areLaid xs (unlaid why) = ⊥
+-- so many are laid, with this largest end
+abbrev progress : ℕ → ℕ → Progress
+progress count largest = record { count = count; largest = largest }
 
-abbrev pub isNowhere : Lay → Type 0
-isNowhere (laid xs largest) = ⊥
-isNowhere (unlaid why) = Unit
-
-abbrev isLaying : ℕ → ℕ → Laying → Type 0
-isLaying k largest (laying.Is m l) = (k ≡ m) × (largest ≡ l)
-isLaying k largest (laying.Refused why) = ⊥
-
-abbrev isRefusal : Refusal → Laying → Type 0
-isRefusal why (laying.Is m l) = ⊥
-isRefusal why (laying.Refused w) = why ≡ w
+-- a member at a row
+abbrev placed : ℕ → Member → Placed
+placed c m = record { row = c; member = m }
 
 -- ---- a member's end
 
-pub end-bounded : {bounded : Bool} (key largest end : ℕ) → bounded ≡ true → Is largest ≡ endOr bounded key largest end
-unfolding endOr
+pub end-bounded : {bounded : Bool} (key largest end : ℕ) → bounded ≡ true → saidSized (Is largest) ≡ endOr bounded key largest end
+unfolding endOr saidSized
 end-bounded key largest end t = test-passed refl _ t refl
 
-pub end-grown : {bounded : Bool} (rows : List ℕ) (c largest offset size : ℕ) {r : Sized} → bounded ≡ false → r ≡ grown rows c largest offset size
-    → r ≡ endOr bounded (rowAt rows c .key) largest (offset + size)
+pub end-grown : {bounded : Bool} (rows : List ℕ) (c largest offset size : ℕ) {z : Said ℕ} → bounded ≡ false → z ≡ grown rows c largest offset size
+    → z ≡ endOr bounded (rowAt rows c .key) largest (offset + size)
 unfolding endOr grown
 end-grown rows c largest offset size t h = test-failed refl _ t h
 
@@ -141,117 +122,91 @@ words-long (x ∷ xs) =
 
 -- ---- the ways of an answer
 
-module _ {lay : Lay} {k : ℕ} {room room′ : List ℕ} where
-  lays-laid : {xs : List Laid} {largest count : ℕ} → laid xs largest ≡ lay → count ≡ k + length xs → room′ ≡ sets room (k * laidWidth) (laidWords xs)
-      → Lays lay k (laying.Is count largest) room room′
-  unfolding layingOf
-  lays-laid {xs} {largest} p c q =
+module _ {d : Said Lay} {k : ℕ} {room room′ : List ℕ} where
+  lays-laid : {l : Lay} {count : ℕ} → gives l ≡ d → count ≡ k + length (l .members) → room′ ≡ sets room (k * laidWidth) (laidWords (l .members))
+      → Lays d k (laying.Is count (l .largest)) room room′
+  unfolding saidLaying layingOf _>>=_
+  lays-laid {l} p c q =
       record {
-        answer-is = ap (λ (x : ℕ). laying.Is x largest) c ∙ ap (layingOf k) p;
-        room-is = λ ys l e. q ∙ ap (λ (zs : List Laid). sets room (k * laidWidth) (laidWords zs)) (subst (areLaid xs) (p ∙ e) refl);
-        same-room = ap length q ∙ length-sets room (k * laidWidth) (laidWords xs);
+        answer-is = ap (λ (x : ℕ). gives (progress x (l .largest))) c ∙ ap (layingOf k) p;
+        room-is = λ m e. q ∙ ap (λ (x : Lay). sets room (k * laidWidth) (laidWords (x .members))) (given-is (p ∙ e));
+        same-room = ap length q ∙ length-sets room (k * laidWidth) (laidWords (l .members));
       }
 
-  lays-unlaid : {why : Refusal} → unlaid why ≡ lay → length room′ ≡ length room → Lays lay k (laying.Refused why) room room′
-  unfolding layingOf
-  lays-unlaid p q = record { answer-is = ap (layingOf k) p; room-is = λ ys l e. absurd (subst isNowhere (p ∙ e) tt); same-room = q }
+  lays-unlaid : {why : Refusal} → refusal why ≡ d → length room′ ≡ length room → Lays d k (laying.Refused why) room room′
+  unfolding saidLaying layingOf _>>=_
+  lays-unlaid p q = record { answer-is = ap (layingOf k) p; room-is = λ m e. absurd (given-refused (sym (p ∙ e))); same-room = q }
 
 -- ---- a member whose size is known
 
-module _ (e : Endian) (s rows attrs : List ℕ) (bounded : Bool) (largest c offset size : ℕ) {end : Sized}
-    (is : end ≡ endOr bounded (rowAt rows c .key) largest (offset + size)) where
-  abbrev after : Sized → Lay
-  after x = layThen (λ next. laid (laidAt e s rows attrs c offset size ∷ []) next) x
+module _ (e : Endian) (s rows attrs : List ℕ) (bounded : Bool) (largest c offset size : ℕ) where
+  abbrev ending : ℕ → Lay
+  ending next = lay (laidAt e s rows attrs c offset size ∷ []) next
 
-  end-is : {x : Sized} → end ≡ x → after x ≡ sizedLaid e s rows attrs bounded largest c offset size
-  unfolding sizedLaid
-  end-is p = ap after (sym p ∙ is)
+  module _ {end : Sized} (is : saidSized end ≡ endOr bounded (rowAt rows c .key) largest (offset + size)) where
+    pub sized-laid : {next k : ℕ} {room room′ : List ℕ} → end ≡ Is next → room′ ≡ sets room (k * laidWidth) (laidWords (laidAt e s rows attrs c offset size ∷ []))
+        → Lays (sizedLaid e s rows attrs bounded largest c offset size) k (laying.Is (k + 1) next) room room′
+    unfolding sizedLaid saidSized _>>=_
+    sized-laid {next} p h = lays-laid {l = ending next} (goes-on saidSized is p (λ x. gives (ending x)) refl) refl h
 
-  pub sized-laid : {next k : ℕ} {room room′ : List ℕ} → end ≡ Is next → room′ ≡ sets room (k * laidWidth) (laidWords (laidAt e s rows attrs c offset size ∷ []))
-      → Lays (sizedLaid e s rows attrs bounded largest c offset size) k (laying.Is (k + 1) next) room room′
-  unfolding layThen
-  sized-laid p h = lays-laid (end-is p) refl h
-
-  pub sized-endless : {why : Refusal} {k : ℕ} {room : List ℕ} → end ≡ Refused why
-      → Lays (sizedLaid e s rows attrs bounded largest c offset size) k (laying.Refused why) room room
-  unfolding layThen
-  sized-endless p = lays-unlaid (end-is p) refl
+    pub sized-endless : {why : Refusal} {k : ℕ} {room : List ℕ} → end ≡ Refused why
+        → Lays (sizedLaid e s rows attrs bounded largest c offset size) k (laying.Refused why) room room
+    unfolding sizedLaid saidSized _>>=_
+    sized-endless p = lays-unlaid (goes-on saidSized is p (λ x. gives (ending x)) refl) refl
 
 -- ---- a member's name is what its row says
 
-abbrev isNamed : Name → MemberRead → Type 0
-isNamed name (read.Is m) = m .name ≡ name
-isNamed name (read.Refused why) = Unit
-
-module _ (s attrs : List ℕ) (run : Run) where
-  bits-named : (of : «Type») (offset : ℕ) (b : BitsRead) → isNamed (nameOf s attrs run attribute.Name) (withBits s attrs run of offset b)
-  unfolding withBits
-  bits-named of offset (bits.Are b) = refl
-  bits-named of offset (bits.Refused why) = tt
-
-  placed-named : (of : «Type») (offset : Needed) → isNamed (nameOf s attrs run attribute.Name) (placedBy s attrs run of offset)
-  unfolding placedBy memberWith
-  placed-named of (need.Is offset) =
-      bits-named of offset (bitsBy (run .key) (wordOf s attrs run attribute.BitSize) (wordOf s attrs run attribute.BitOffset))
-  placed-named of (need.Refused why) = tt
-
-  typed-named : (t : Typed) → isNamed (nameOf s attrs run attribute.Name) (typedBy s attrs run t)
-  unfolding typedBy memberPlaced
-  typed-named (typed.Is of) = placed-named of (offsetField s attrs run)
-  typed-named (typed.Refused why) = tt
-
-front-named : (name : Name) (f : Fault) (m : MemberRead) → isNamed name m → isNamed name (unless f read.Refused m)
-unfolding unless
-front-named name fault.Clear m h = h
-front-named name (fault.Refused why) m h = tt
-
-pub member-name : (settings : Settings) (s rows attrs : List ℕ) (n c : ℕ) {m : Member} → memberAt settings s rows attrs n c ≡ read.Is m
+pub member-name : (settings : Settings) (s rows attrs : List ℕ) (n c : ℕ) {m : Member} → memberAt settings s rows attrs n c ≡ gives m
     → m .name ≡ nameOf s attrs (runOf (settings .endian) rows c) attribute.Name
 unfolding memberAt memberFields
 member-name settings s rows attrs n c p =
     let run : Run = runOf (settings .endian) rows c in
-    subst (isNamed (nameOf s attrs run attribute.Name)) p
-    (front-named (nameOf s attrs run attribute.Name) (frontOf settings s rows attrs n record′.Member c) (memberFields s attrs run)
-    (typed-named s attrs run (typeOf s attrs run)))
+    let named : Member → Type 0 = λ m. m .name ≡ nameOf s attrs run attribute.Name in
+    subst (Of named) (past-gave (frontOf settings s rows attrs n record′.Member c) (memberFields s attrs run) p)
+    (of-next named (typeOf s attrs run) _
+    (λ of. of-next named (offsetField s attrs run) _
+    (λ offset. of-next named (bitsBy (run .key) (wordOf s attrs run attribute.BitSize) (wordOf s attrs run attribute.BitOffset)) _ (λ b. refl))))
 
 -- ---- one child
 
 -- what a member adds, laid, is the member laid
-module _ (settings : Settings) (s rows attrs : List ℕ) (n : ℕ) (sizeOf : «Type» → Sized) (bounded : Bool) (largest c : ℕ) where
-  abbrev adds : Added → Lay
-  adds x = addedLaid (settings .endian) s rows attrs bounded largest c x
+module _ (settings : Settings) (s rows attrs : List ℕ) (n : ℕ) (sizeOf : «Type» → Said ℕ) (bounded : Bool) (largest c : ℕ) where
+  abbrev adds : Said Extent → Said Lay
+  adds d = addedLaid (settings .endian) s rows attrs bounded largest c d
 
-  sized-adds : (m : Member) → m .name ≡ nameOf s attrs (runOf (settings .endian) rows c) attribute.Name → (x : Sized)
-      → adds (withSize (m .offset) x)
-      ≡ layThen (λ size. layThen (λ next. laid (laidMember (record { row = c; member = m }) size ∷ []) next) (endOr bounded (rowAt rows c .key) largest (m .offset + size))) x
-  unfolding withSize addedLaid sizedLaid layThen laidAt laidMember
-  sized-adds m p (Is size) =
-      ap (λ (name : Name). layThen (λ next. laid (record { offset = m .offset; size = size; place = namePlace name; length = nameLength name } ∷ []) next)
-      (endOr bounded (rowAt rows c .key) largest (m .offset + size))) (sym p)
-  sized-adds m p (Refused why) = refl
+  sized-adds : (m : Member) → m .name ≡ nameOf s attrs (runOf (settings .endian) rows c) attribute.Name → (x : Said ℕ) → memberSize sizeOf (placed c m) ≡ x
+      → adds (withSize (m .offset) x) ≡ laidFrom rows sizeOf bounded largest (placed c m ∷ [])
+  unfolding withSize addedLaid sizedLaid laidFrom laidAt laidMember _>>=_
+  sized-adds m p (gives size) q =
+      ap (λ (name : Name). endOr bounded (rowAt rows c .key) largest (m .offset + size) >>= λ next.
+      gives (lay (record { offset = m .offset; size = size; place = namePlace name; length = nameLength name } ∷ []) next)) (sym p)
+      ∙ ap (λ (x : Said ℕ). x >>= λ size. endOr bounded (rowAt rows c .key) largest (m .offset + size) >>= λ next. gives (lay (laidMember (placed c m) size ∷ []) next)) (sym q)
+  sized-adds m p (refuses number place counts) q =
+      ap (λ (x : Said ℕ). x >>= λ size. endOr bounded (rowAt rows c .key) largest (m .offset + size) >>= λ next. gives (lay (laidMember (placed c m) size ∷ []) next)) (sym q)
 
-  read-adds : (m : MemberRead) → memberAt settings s rows attrs n c ≡ m → adds (readAdded sizeOf m) ≡ readLaid rows sizeOf bounded largest c m
-  unfolding readAdded readLaid addedLaid laidFrom andLaid memberSize
-  read-adds (read.Is m) p = sized-adds m (member-name settings s rows attrs n c p) (sizeOr sizeOf (m .of) (m .«byte_size»))
-  read-adds (read.Refused why) p = refl
+  read-adds : (d : Said Member) → memberAt settings s rows attrs n c ≡ d
+      → adds (d >>= λ m. withSize (m .offset) (sizeOr sizeOf (m .of) (m .«byte_size»))) ≡ readLaid rows sizeOf bounded largest c d
+  unfolding readLaid addedLaid memberSize _>>=_
+  read-adds (gives m) p = sized-adds m (member-name settings s rows attrs n c p) (memberSize sizeOf (placed c m)) refl
+  read-adds (refuses number place counts) p = refl
 
   module _ {row : Row} (at : row ≡ rowAt rows c) where
-    module _ (h : row .kind ≡ tag.Member) {told : Added} (is : told ≡ memberAdded settings s rows attrs n sizeOf c) where
-      child-adds : {x : Added} → told ≡ x → adds x ≡ childLaid settings s rows attrs n sizeOf bounded largest c
+    module _ (h : row .kind ≡ tag.Member) {told : Added} (is : saidAdded told ≡ memberAdded settings s rows attrs n sizeOf c) where
+      child-adds : {x : Added} → told ≡ x → adds (saidAdded x) ≡ childLaid settings s rows attrs n sizeOf bounded largest c
       unfolding childLaid memberAdded
       child-adds p =
           let test : eqb (rowAt rows c .kind) tag.Member ≡ true = eq-eqb (rowAt rows c .kind) tag.Member (ap (λ (r : Row). r .kind) (sym at) ∙ h) in
-          ap adds (sym p ∙ is) ∙ read-adds (memberAt settings s rows attrs n c) refl ∙ sym (rw test)
+          ap adds (case-said saidAdded is p) ∙ read-adds (memberAt settings s rows attrs n c) refl ∙ sym (rw test)
 
       pub child-sized : {offset size k : ℕ} {r : Laying} {room room′ : List ℕ} → told ≡ added.Is offset size
           → Lays (sizedLaid (settings .endian) s rows attrs bounded largest c offset size) k r room room′
           → Lays (childLaid settings s rows attrs n sizeOf bounded largest c) k r room room′
-      unfolding addedLaid
-      child-sized {k = k} {r = r} {room = room} {room′ = room′} p g = subst (λ (lay : Lay). Lays lay k r room room′) (child-adds p) g
+      unfolding addedLaid saidAdded _>>=_
+      child-sized {k = k} {r = r} {room = room} {room′ = room′} p g = subst (λ (d : Said Lay). Lays d k r room room′) (child-adds p) g
 
       pub child-refused : {why : Refusal} {k : ℕ} {room : List ℕ} → told ≡ added.Refused why
           → Lays (childLaid settings s rows attrs n sizeOf bounded largest c) k (laying.Refused why) room room
-      unfolding addedLaid
+      unfolding addedLaid saidAdded _>>=_
       child-refused p = lays-unlaid (child-adds p) refl
 
     pub child-other : {k : ℕ} {room : List ℕ} → (row .kind ≡ tag.Member → ⊥)
@@ -259,99 +214,89 @@ module _ (settings : Settings) (s rows attrs : List ℕ) (n : ℕ) (sizeOf : «T
     unfolding childLaid laidWords
     child-other {k} h =
         let test : eqb (rowAt rows c .kind) tag.Member ≡ false = ne-eqb (rowAt rows c .kind) tag.Member (λ z. h (ap (λ (r : Row). r .kind) at ∙ z)) in
-        let other : laid [] largest ≡ childLaid settings s rows attrs n sizeOf bounded largest c = sym (rw test) in
-        lays-laid other (sym (add-zero k)) refl
+        let other : gives (lay [] largest) ≡ childLaid settings s rows attrs n sizeOf bounded largest c = sym (rw test) in
+        lays-laid {l = lay [] largest} other (sym (add-zero k)) refl
 
 -- ---- a child is one member at most
 
 abbrev fewLaid : Lay → Type 0
-fewLaid (laid xs largest) = length xs ≤ 1
-fewLaid (unlaid why) = Unit
+fewLaid l = length (l .members) ≤ 1
 
-few-after : (x : Laid) (s : Sized) → fewLaid (layThen (λ next. laid (x ∷ []) next) s)
-unfolding layThen
-few-after x (Is next) = omega arith
-few-after x (Refused why) = tt
+few-from : (rows : List ℕ) (sizeOf : «Type» → Said ℕ) (bounded : Bool) (largest : ℕ) (m : Placed) → Of fewLaid (laidFrom rows sizeOf bounded largest (m ∷ []))
+unfolding laidFrom _>>=_
+few-from rows sizeOf bounded largest m =
+    of-next fewLaid (memberSize sizeOf m) (λ size. endOr bounded (rowAt rows (m .row) .key) largest (m .member .offset + size) >>= λ next. gives (lay (laidMember m size ∷ []) next))
+    (λ size. of-next fewLaid (endOr bounded (rowAt rows (m .row) .key) largest (m .member .offset + size)) (λ next. gives (lay (laidMember m size ∷ []) next))
+    (λ next. omega arith))
 
-few-sized : (f : ℕ → Laid) (g : ℕ → Sized) (s : Sized) → fewLaid (layThen (λ size. layThen (λ next. laid (f size ∷ []) next) (g size)) s)
-unfolding layThen
-few-sized f g (Is size) = few-after (f size) (g size)
-few-sized f g (Refused why) = tt
-
-few-read : (rows : List ℕ) (sizeOf : «Type» → Sized) (bounded : Bool) (largest c : ℕ) (m : MemberRead) → fewLaid (readLaid rows sizeOf bounded largest c m)
-unfolding readLaid laidFrom andLaid
-few-read rows sizeOf bounded largest c (read.Is m) =
-    few-sized (laidMember (record { row = c; member = m })) (λ size. endOr bounded (rowAt rows c .key) largest (m .offset + size)) (memberSize sizeOf (record { row = c; member = m }))
-few-read rows sizeOf bounded largest c (read.Refused why) = tt
-
-few-child : (settings : Settings) (s rows attrs : List ℕ) (n : ℕ) (sizeOf : «Type» → Sized) (bounded : Bool) (largest c : ℕ)
-    → fewLaid (childLaid settings s rows attrs n sizeOf bounded largest c)
-unfolding childLaid
+few-child : (settings : Settings) (s rows attrs : List ℕ) (n : ℕ) (sizeOf : «Type» → Said ℕ) (bounded : Bool) (largest c : ℕ)
+    → Of fewLaid (childLaid settings s rows attrs n sizeOf bounded largest c)
+unfolding childLaid readLaid
 few-child settings s rows attrs n sizeOf bounded largest c =
-    cond-all fewLaid (eqb (rowAt rows c .kind) tag.Member) (λ t. few-read rows sizeOf bounded largest c (memberAt settings s rows attrs n c)) (λ t. omega arith)
+    cond-all (Of fewLaid) (eqb (rowAt rows c .kind) tag.Member)
+    (λ t. of-next fewLaid (memberAt settings s rows attrs n c) _ (λ m. few-from rows sizeOf bounded largest (placed c m)))
+    (λ t. omega arith)
 
-one-more : (k count largest : ℕ) (lay : Lay) → fewLaid lay → laying.Is count largest ≡ layingOf k lay → count ≤ k + 1
-unfolding layingOf
-one-more k count largest (laid xs l) few p =
-    let same : (count ≡ k + length xs) × (largest ≡ l) = subst (isLaying count largest) p (refl, refl) in
-    let many : count ≡ k + length xs = same .0 in
-    let one : length xs ≤ 1 = few in
+one-more : (k count largest : ℕ) (d : Said Lay) → Of fewLaid d → saidLaying (laying.Is count largest) ≡ layingOf k d → count ≤ k + 1
+unfolding saidLaying layingOf _>>=_
+one-more k count largest (gives l) few p =
+    let many : count ≡ k + length (l .members) = ap (λ (x : Progress). x .count) (given-is p) in
+    let one : length (l .members) ≤ 1 = few in
     omega arith
-one-more k count largest (unlaid why) few p = absurd (subst (isLaying count largest) p (refl, refl))
+one-more k count largest (refuses number place counts) few p = absurd (given-refused p)
 
 -- ---- the loop over children
 
-unfoldable pub roomOf : ℕ → List ℕ → Lay → List ℕ
-roomOf k room (laid xs largest) = sets room (k * laidWidth) (laidWords xs)
-roomOf k room (unlaid why) = []
+unfoldable pub roomOf : ℕ → List ℕ → Said Lay → List ℕ
+roomOf k room (gives l) = sets room (k * laidWidth) (laidWords (l .members))
+roomOf k room (refuses number place counts) = []
 
-unfoldable pub filled : ℕ → List ℕ → Lay → Outcome Laying ℕ
-filled k room lay = record { answer = layingOf k lay; room = roomOf k room lay }
+unfoldable pub filled : ℕ → List ℕ → Said Lay → Outcome (Said Progress) ℕ
+filled k room d = record { answer = layingOf k d; room = roomOf k room d }
 
-abbrev filling : Laying → List ℕ → Outcome Laying ℕ
+abbrev filling : Said Progress → List ℕ → Outcome (Said Progress) ℕ
 filling answer room = record { answer = answer; room = room }
 
 -- what was laid before, and what follows
-before-filled : (k : ℕ) (room : List ℕ) (xs : List Laid) (lay : Lay)
-    → filled (k + length xs) (sets room (k * laidWidth) (laidWords xs)) lay ≡ filled k room (layBefore xs lay)
-unfolding filled layingOf roomOf layBefore
-before-filled k room xs (laid ys largest) =
+before-filled : (k : ℕ) (room : List ℕ) (xs : List Laid) (d : Said Lay)
+    → filled (k + length xs) (sets room (k * laidWidth) (laidWords xs)) d ≡ filled k room (layBefore xs d)
+unfolding filled layingOf roomOf layBefore _>>=_
+before-filled k room xs (gives l) =
+    let ys : List Laid = l .members in
     let many : length (xs ++ ys) ≡ length xs + length ys = length-append xs ys in
     let count : k + length xs + length ys ≡ k + length (xs ++ ys) = omega arith in
     let long : length (laidWords xs) ≡ length xs * laidWidth = words-long xs in
     let place : (k + length xs) * laidWidth ≡ k * laidWidth + length (laidWords xs) = omega arith in
-    ap₂ filling (ap (λ (x : ℕ). laying.Is x largest) count)
+    ap₂ filling (ap (λ (x : ℕ). gives (progress x (l .largest))) count)
     (ap (λ (at : ℕ). sets (sets room (k * laidWidth) (laidWords xs)) at (laidWords ys)) place
     ∙ sym (sets-append room (k * laidWidth) (laidWords xs) (laidWords ys))
     ∙ ap (sets room (k * laidWidth)) (sym (words-append xs ys)))
-before-filled k room xs (unlaid why) = refl
+before-filled k room xs (refuses number place counts) = refl
 
-module _ {k : ℕ} {room room′ : List ℕ} (next : ℕ → Lay) where
-  on-laid : (lay : Lay) {count largest : ℕ} → Lays lay k (laying.Is count largest) room room′
-      → filled count room′ (next largest) ≡ filled k room (layOn next lay)
-  unfolding layOn layingOf
-  on-laid (laid xs l) {count} {largest} g =
-      let same : (count ≡ k + length xs) × (largest ≡ l) = subst (isLaying count largest) (g .answer-is) (refl, refl) in
-      ap (λ (x : ℕ). filled x room′ (next largest)) (same .0)
-      ∙ ap (λ (x : ℕ). filled (k + length xs) room′ (next x)) (same .1)
-      ∙ ap (λ (x : List ℕ). filled (k + length xs) x (next l)) (g .room-is xs l refl)
-      ∙ before-filled k room xs (next l)
-  on-laid (unlaid why) {count} {largest} g = absurd (subst (isLaying count largest) (g .answer-is) (refl, refl))
+module _ {k : ℕ} {room room′ : List ℕ} (next : ℕ → Said Lay) where
+  on-laid : (d : Said Lay) {count largest : ℕ} → Lays d k (laying.Is count largest) room room′
+      → filled count room′ (next largest) ≡ filled k room (layOn next d)
+  unfolding layOn saidLaying layingOf _>>=_
+  on-laid (gives l) {count} {largest} g =
+      ap (λ (x : Progress). filled (x .count) room′ (next (x .largest))) (given-is (g .answer-is))
+      ∙ ap (λ (x : List ℕ). filled (k + length (l .members)) x (next (l .largest))) (g .room-is l refl)
+      ∙ before-filled k room (l .members) (next (l .largest))
+  on-laid (refuses number place counts) g = absurd (given-refused (g .answer-is))
 
-  on-refused : (lay : Lay) {why : Refusal} → Lays lay k (laying.Refused why) room room′ → filling (laying.Refused why) [] ≡ filled k room (layOn next lay)
-  unfolding layOn layingOf filled roomOf
-  on-refused (laid xs l) {why} g = absurd (subst (isRefusal why) (g .answer-is) refl)
-  on-refused (unlaid w) {why} g = ap (λ (x : Refusal). filling (laying.Refused x) []) (subst (isRefusal why) (g .answer-is) refl)
+  on-refused : (d : Said Lay) {why : Refusal} → Lays d k (laying.Refused why) room room′ → filling (refusal why) [] ≡ filled k room (layOn next d)
+  unfolding layOn saidLaying layingOf filled roomOf _>>=_
+  on-refused (gives l) g = absurd (given-refused (sym (g .answer-is)))
+  on-refused (refuses number place counts) g = ap (λ (x : Said Progress). filling x []) (g .answer-is)
 
 -- from child c on, what is left comes to the whole
-pub record Laying′ (settings : Settings) (s rows attrs : List ℕ) (n end : ℕ) (sizeOf : «Type» → Sized) (bounded : Bool) (all : Lay) (room₀ room : List ℕ)
+pub record Laying′ (settings : Settings) (s rows attrs : List ℕ) (n end : ℕ) (sizeOf : «Type» → Said ℕ) (bounded : Bool) (all : Said Lay) (room₀ room : List ℕ)
     (c k most : ℕ) : Type 0 where
   pub walking : Walking (settings .endian) s rows attrs n end (λ (cs : List ℕ). filled k room (childrenLaid settings s rows attrs n sizeOf bounded most cs)) (filled 0 room₀ all) c
   pub counted : k + length (kidsFrom (settings .endian) s rows attrs n end c) ≤ n
   pub same-room : length room ≡ length room₀
   pub short : length s < sectionLimit
 
-pub laying-begins : (settings : Settings) (s rows attrs : List ℕ) (n : ℕ) (sizeOf : «Type» → Sized) (bounded : Bool) (i : ℕ) (room : List ℕ) {end from c : ℕ}
+pub laying-begins : (settings : Settings) (s rows attrs : List ℕ) (n : ℕ) (sizeOf : «Type» → Said ℕ) (bounded : Bool) (i : ℕ) (room : List ℕ) {end from c : ℕ}
     → end ≡ siblingRow (settings .endian) s rows attrs n i → from ≡ nextRow rows n i → EndsShort settings s rows attrs n i
     → c ≡ firstOr n (kidsFrom (settings .endian) s rows attrs n end from)
     → Laying′ settings s rows attrs n end sizeOf bounded (childrenLaid settings s rows attrs n sizeOf bounded 0 (kidsOf (settings .endian) s rows attrs n i)) room room c 0 0
@@ -365,16 +310,16 @@ laying-begins settings s rows attrs n sizeOf bounded i room {end} {from} {c} p q
       short = w .short;
     }
 
-module _ {settings : Settings} {s rows attrs : List ℕ} {n end : ℕ} {sizeOf : «Type» → Sized} {bounded : Bool} {all : Lay} {room₀ room : List ℕ} {c k most : ℕ}
+module _ {settings : Settings} {s rows attrs : List ℕ} {n end : ℕ} {sizeOf : «Type» → Said ℕ} {bounded : Bool} {all : Said Lay} {room₀ room : List ℕ} {c k most : ℕ}
     (w : Laying′ settings s rows attrs n end sizeOf bounded all room₀ room c k most) where
   -- no child is left
   pub laying-ends : n ≤ c → Lays all 0 (laying.Is k most) room₀ room
-  unfolding childrenLaid filled layingOf roomOf laidWords
+  unfolding childrenLaid saidLaying filled layingOf roomOf laidWords _>>=_
   laying-ends l =
-      let done : filled k room (laid [] most) ≡ filled 0 room₀ all = walking-ends (w .walking) l in
+      let done : filled k room (gives (lay [] most)) ≡ filled 0 room₀ all = walking-ends (w .walking) l in
       record {
-        answer-is = ap (λ (x : ℕ). laying.Is x most) (sym (add-zero k)) ∙ ap (λ (o : Outcome Laying ℕ). o .answer) done;
-        room-is = λ xs x e. ap (λ (o : Outcome Laying ℕ). o .room) (done ∙ ap (filled 0 room₀) e);
+        answer-is = ap (λ (x : ℕ). gives (progress x most)) (sym (add-zero k)) ∙ ap (λ (o : Outcome (Said Progress) ℕ). o .answer) done;
+        room-is = λ x e. ap (λ (o : Outcome (Said Progress) ℕ). o .room) (done ∙ ap (filled 0 room₀) e);
         same-room = w .same-room;
       }
 
@@ -409,84 +354,80 @@ module _ {settings : Settings} {s rows attrs : List ℕ} {n end : ℕ} {sizeOf :
               short = w .short;
             }
 
-      -- a child is membersRefused
+      -- a child is refused
       pub laying-refused : {why : Refusal} → told ≡ laying.Refused why → Lays all 0 (laying.Refused why) room₀ room′
-      unfolding childrenLaid filled layingOf
+      unfolding childrenLaid saidLaying filled layingOf _>>=_
       laying-refused {why} q =
           let child : Lays (childLaid settings s rows attrs n sizeOf bounded most c) k (laying.Refused why) room room′ =
           subst (λ (x : Laying). Lays (childLaid settings s rows attrs n sizeOf bounded most c) k x room room′) q g in
-          let done : filling (laying.Refused why) [] ≡ filled 0 room₀ all =
+          let done : filling (refusal why) [] ≡ filled 0 room₀ all =
           walking-stops (w .walking) l
           (λ cs. on-refused (λ next. childrenLaid settings s rows attrs n sizeOf bounded next cs) (childLaid settings s rows attrs n sizeOf bounded most c) child) in
-          let answer : laying.Refused why ≡ layingOf 0 all = ap (λ (o : Outcome Laying ℕ). o .answer) done in
+          let answer : refusal why ≡ layingOf 0 all = ap (λ (o : Outcome (Said Progress) ℕ). o .answer) done in
           record {
             answer-is = answer;
-            room-is = λ xs x e. absurd (subst (isRefusal why) (answer ∙ ap (layingOf 0) e) refl);
+            room-is = λ x e. absurd (given-refused (sym (answer ∙ ap (layingOf 0) e)));
             same-room = g .same-room ∙ w .same-room;
           }
 
 -- ---- children one at a time are the members among them, where all of these were read
 
-abbrev areThese : List Placed → Members → Type 0
-areThese ms (members xs) = ms ≡ xs
-areThese ms (membersRefused why) = ⊥
+before-none : (d : Said Lay) → layBefore [] d ≡ d
+unfolding layBefore _>>=_
+before-none (gives l) = refl
+before-none (refuses number place counts) = refl
 
-abbrev areRefused : Members → Type 0
-areRefused (members xs) = ⊥
-areRefused (membersRefused why) = Unit
+-- one member, and what was laid after it
+abbrev withLaid : Laid → Lay → Said Lay
+withLaid x l = gives (lay (x ∷ l .members) (l .largest))
 
-before-one : (x : Laid) (lay : Lay) → layBefore (x ∷ []) lay ≡ andLaid x lay
-unfolding layBefore andLaid
-before-one x (laid xs largest) = refl
-before-one x (unlaid why) = refl
-
-module _ (f g : ℕ → Lay) (same : (x : ℕ) → f x ≡ g x) where
+module _ (f g : ℕ → Said Lay) (same : (x : ℕ) → f x ≡ g x) where
   -- an end, then what goes on from it
-  end-then : (x : Laid) (s : Sized) → layOn f (layThen (λ next. laid (x ∷ []) next) s) ≡ layThen (λ next. andLaid x (g next)) s
-  unfolding layOn layThen
-  end-then x (Is next) = ap (layBefore (x ∷ [])) (same next) ∙ before-one x (g next)
-  end-then x (Refused why) = refl
+  end-then : (x : Laid) (d : Said ℕ) → layOn f (d >>= λ next. gives (lay (x ∷ []) next)) ≡ (d >>= λ next. g next >>= withLaid x)
+  unfolding layOn layBefore _>>=_
+  end-then x (gives next) = ap (λ (d : Said Lay). d >>= withLaid x) (same next)
+  end-then x (refuses number place counts) = refl
 
   -- the same, after a size
-  sized-then : (x : ℕ → Laid) (e : ℕ → Sized) (s : Sized)
-      → layOn f (layThen (λ size. layThen (λ next. laid (x size ∷ []) next) (e size)) s) ≡ layThen (λ size. layThen (λ next. andLaid (x size) (g next)) (e size)) s
-  unfolding layOn layThen
-  sized-then x e (Is size) = end-then (x size) (e size)
-  sized-then x e (Refused why) = refl
+  sized-then : (x : ℕ → Laid) (e : ℕ → Said ℕ) (d : Said ℕ)
+      → layOn f (d >>= λ size. e size >>= λ next. gives (lay (x size ∷ []) next)) ≡ (d >>= λ size. e size >>= λ next. g next >>= withLaid (x size))
+  unfolding layOn _>>=_
+  sized-then x e (gives size) = end-then (x size) (e size)
+  sized-then x e (refuses number place counts) = refl
 
-module _ (rows : List ℕ) (sizeOf : «Type» → Sized) (bounded : Bool) (c largest : ℕ) (f : ℕ → Lay) where
-  and-then : (m : Member) (all : Members) (ms : List Placed) → ((xs : List Placed) → all ≡ members xs → (x : ℕ) → f x ≡ laidFrom rows sizeOf bounded x xs)
-      → andMember c m all ≡ members ms → layOn f (laidFrom rows sizeOf bounded largest (record { row = c; member = m } ∷ [])) ≡ laidFrom rows sizeOf bounded largest ms
-  unfolding andMember laidFrom andLaid
-  and-then m (members xs) ms same p =
-      sized-then f (λ x. laidFrom rows sizeOf bounded x xs) (same xs refl) (laidMember (record { row = c; member = m }))
-      (λ size. endOr bounded (rowAt rows c .key) largest (m .offset + size)) (memberSize sizeOf (record { row = c; member = m }))
-      ∙ ap (laidFrom rows sizeOf bounded largest) (subst (areThese (record { row = c; member = m } ∷ xs)) p refl)
-  and-then m (membersRefused why) ms same p = absurd (subst areRefused p tt)
+module _ (rows : List ℕ) (sizeOf : «Type» → Said ℕ) (bounded : Bool) (c largest : ℕ) (f : ℕ → Said Lay) where
+  from-then : (m : Placed) (ms : List Placed) → ((x : ℕ) → f x ≡ laidFrom rows sizeOf bounded x ms)
+      → layOn f (laidFrom rows sizeOf bounded largest (m ∷ [])) ≡ laidFrom rows sizeOf bounded largest (m ∷ ms)
+  unfolding laidFrom _>>=_
+  from-then m ms same =
+      sized-then f (λ x. laidFrom rows sizeOf bounded x ms) same (laidMember m) (λ size. endOr bounded (rowAt rows (m .row) .key) largest (m .member .offset + size))
+      (memberSize sizeOf m)
 
-  module _ (all : Members) (ms : List Placed) (same : (xs : List Placed) → all ≡ members xs → (x : ℕ) → f x ≡ laidFrom rows sizeOf bounded x xs) where
-    read-then : (m : MemberRead) → memberThen c m all ≡ members ms → layOn f (readLaid rows sizeOf bounded largest c m) ≡ laidFrom rows sizeOf bounded largest ms
-    unfolding memberThen readLaid
-    read-then (read.Is m) p = and-then m all ms same p
-    read-then (read.Refused why) p = absurd (subst areRefused p tt)
+  module _ (all : Said (List Placed)) (ms : List Placed) (same : (xs : List Placed) → all ≡ gives xs → (x : ℕ) → f x ≡ laidFrom rows sizeOf bounded x xs) where
+    abbrev before : Member → Said (List Placed)
+    before m = all >>= λ xs. gives (placed c m ∷ xs)
 
-    before-none : (lay : Lay) → layBefore [] lay ≡ lay
-    unfolding layBefore
-    before-none (laid xs l) = refl
-    before-none (unlaid why) = refl
+    read-then : (d : Said Member) → (d >>= before) ≡ gives ms → layOn f (readLaid rows sizeOf bounded largest c d) ≡ laidFrom rows sizeOf bounded largest ms
+    unfolding readLaid _>>=_
+    read-then d p =
+        let one : (m : Member) × (d ≡ gives m) × (before m ≡ gives ms) = step-gave d before p in
+        let others : (xs : List Placed) × (all ≡ gives xs) × (gives (placed c (one .0) ∷ xs) ≡ gives ms) = step-gave all (λ xs. gives (placed c (one .0) ∷ xs)) (one .2) in
+        ap (λ (x : Said Member). layOn f (readLaid rows sizeOf bounded largest c x)) (one .1)
+        ∙ from-then (placed c (one .0)) (others .0) (same (others .0) (others .1))
+        ∙ ap (laidFrom rows sizeOf bounded largest) (given-is (others .2))
 
     -- a child of whatever kind
-    child-then : (b : Bool) (m : MemberRead) → cond b (memberThen c m all) all ≡ members ms
-        → layOn f (cond b (readLaid rows sizeOf bounded largest c m) (laid [] largest)) ≡ laidFrom rows sizeOf bounded largest ms
-    unfolding layOn
-    child-then true m p = read-then m p
-    child-then false m p = before-none (f largest) ∙ same ms p largest
+    child-then : (b : Bool) (d : Said Member) → cond b (d >>= before) all ≡ gives ms
+        → layOn f (cond b (readLaid rows sizeOf bounded largest c d) (gives (lay [] largest))) ≡ laidFrom rows sizeOf bounded largest ms
+    unfolding layOn _>>=_
+    child-then true d p = read-then d p
+    child-then false d p = before-none (f largest) ∙ same ms p largest
 
-module _ (settings : Settings) (s rows attrs : List ℕ) (n : ℕ) (sizeOf : «Type» → Sized) (bounded : Bool) where
-  laid-members : (largest : ℕ) (cs : List ℕ) {ms : List Placed} → memberRowsFrom settings s rows attrs n cs ≡ members ms
+module _ (settings : Settings) (s rows attrs : List ℕ) (n : ℕ) (sizeOf : «Type» → Said ℕ) (bounded : Bool) where
+  laid-members : (largest : ℕ) (cs : List ℕ) {ms : List Placed} → memberRowsFrom settings s rows attrs n cs ≡ gives ms
       → childrenLaid settings s rows attrs n sizeOf bounded largest cs ≡ laidFrom rows sizeOf bounded largest ms
-  unfolding memberRowsFrom memberChildThen childrenLaid childLaid laidFrom
-  laid-members largest [] p = ap (laidFrom rows sizeOf bounded largest) (subst (areThese []) p refl)
+  unfolding memberRowsFrom memberChildThen memberThen childrenLaid childLaid laidFrom
+  laid-members largest [] p = ap (laidFrom rows sizeOf bounded largest) (given-is p)
   laid-members largest (c ∷ cs) {ms} p =
       child-then rows sizeOf bounded c largest (λ next. childrenLaid settings s rows attrs n sizeOf bounded next cs) (memberRowsFrom settings s rows attrs n cs) ms
       (λ xs q x. laid-members x cs q) (eqb (rowAt rows c .kind) tag.Member) (memberAt settings s rows attrs n c) p
@@ -494,32 +435,36 @@ module _ (settings : Settings) (s rows attrs : List ℕ) (n : ℕ) (sizeOf : «T
 -- ---- a structure
 
 module _ (settings : Settings) (s rows attrs : List ℕ) (n i : ℕ) where
-  clear-ending : structureFault settings s rows attrs n i ≡ fault.Clear → isEnding (childWalk (settings .endian) s rows attrs n i) ≡ true
+  clear-ending : structureFault settings s rows attrs n i ≡ gives tt → isEnding (childWalk (settings .endian) s rows attrs n i) ≡ true
   unfolding structureFault
   clear-ending p = walk-ending settings s rows attrs n i (childWalk (settings .endian) s rows attrs n i) p
 
-  clear-members : structureFault settings s rows attrs n i ≡ fault.Clear
+  clear-members : structureFault settings s rows attrs n i ≡ gives tt
       → memberRowsFrom settings s rows attrs n (kidsOf (settings .endian) s rows attrs n i) ≡ membersOf settings s rows attrs n i
   unfolding kidsOf kidsFrom walkOn childWalk membersOf
   clear-members p = walk-members settings s rows attrs n i (rowAt rows i .key) (childWalk (settings .endian) s rows attrs n i) (clear-ending p)
 
-  module _ {told : Fault} (is : told ≡ structureFault settings s rows attrs n i) where
-    pub clear-asked : told ≡ fault.Clear → AskedShort s rows n i → EndsShort settings s rows attrs n i
-    unfolding walkOn childWalk
-    clear-asked p w =
-        record { ends-at = record { asked = w .asked; ending = record { table = w .asked .table; ending = clear-ending (sym is ∙ p) } }; short = w .short }
+  abbrev children : («Type» → Said ℕ) → Bool → Said Lay
+  children sizeOf bounded = childrenLaid settings s rows attrs n sizeOf bounded 0 (kidsOf (settings .endian) s rows attrs n i)
 
-    module _ (sizeOf : «Type» → Sized) (bounded : Bool) {room : List ℕ} where
-      pub structure-laid : {r : Laying} {room′ : List ℕ} → told ≡ fault.Clear
-          → Lays (childrenLaid settings s rows attrs n sizeOf bounded 0 (kidsOf (settings .endian) s rows attrs n i)) 0 r room room′
+  module _ {told : Fault} (is : saidFault told ≡ structureFault settings s rows attrs n i) where
+    pub clear-asked : told ≡ fault.Clear → AskedShort s rows n i → EndsShort settings s rows attrs n i
+    unfolding walkOn childWalk saidFault
+    clear-asked p w =
+        record {
+          ends-at = record { asked = w .asked; ending = record { table = w .asked .table; ending = clear-ending (sym (case-said saidFault is p)) } };
+          short = w .short;
+        }
+
+    module _ (sizeOf : «Type» → Said ℕ) (bounded : Bool) {room : List ℕ} where
+      pub structure-laid : {r : Laying} {room′ : List ℕ} → told ≡ fault.Clear → Lays (children sizeOf bounded) 0 r room room′
           → Lays (structureLaid settings s rows attrs n sizeOf bounded i) 0 r room room′
-      unfolding structureLaid faultLaid
-      structure-laid {r = r} {room′ = room′} p g =
-          subst (λ (lay : Lay). Lays lay 0 r room room′) (ap (faultLaid settings s rows attrs n sizeOf bounded i) (sym p ∙ is)) g
+      unfolding structureLaid saidFault _>>_
+      structure-laid {r = r} {room′ = room′} p g = subst (λ (d : Said Lay). Lays d 0 r room room′) (goes-past saidFault is p (children sizeOf bounded) refl) g
 
       pub structure-faulty : {why : Refusal} → told ≡ fault.Refused why → Lays (structureLaid settings s rows attrs n sizeOf bounded i) 0 (laying.Refused why) room room
-      unfolding structureLaid faultLaid
-      structure-faulty p = lays-unlaid (ap (faultLaid settings s rows attrs n sizeOf bounded i) (sym p ∙ is)) refl
+      unfolding structureLaid saidFault _>>_
+      structure-faulty p = lays-unlaid (goes-past saidFault is p (children sizeOf bounded) refl) refl
 
   -- a structure or class of a table that was tested
   pub layout-asked : {sizes known kept : List ℕ} {row : Row} {b : Bool} → AskedShort s rows n i → AllKept settings sizes s rows attrs n known kept → row ≡ rowAt rows i
@@ -528,178 +473,163 @@ module _ (settings : Settings) (s rows attrs : List ℕ) (n i : ℕ) where
       record { asked = w; is-structure = ap (λ (r : Row). isStructure (shapeOf (r .kind))) (sym at) ∙ sym is ∙ t; all-kept = k }
 
   -- the members of a row, however they came
-  module _ (sizeOf : «Type» → Sized) where
-    abbrev bound : Bool
-    bound = hasByteSize (ownSize settings s rows attrs n sizeOf i)
+  module _ (sizeOf : «Type» → Said ℕ) where
+    abbrev own : Word
+    own = ownSize settings s rows attrs i
 
-    fault-laid : (f : Fault) → structureFault settings s rows attrs n i ≡ f
-        → faultLaid settings s rows attrs n sizeOf bound i f ≡ membersLaid settings s rows attrs n sizeOf i (membersOf settings s rows attrs n i)
-    unfolding faultLaid membersLaid
-    fault-laid fault.Clear p =
+    abbrev laidMembers : List Placed → Said Lay
+    laidMembers ms = laidFrom rows sizeOf (hasByteSize own) 0 ms
+
+    fault-laid : (d : Said Unit) → structureFault settings s rows attrs n i ≡ d
+        → (d >> children sizeOf (hasByteSize own)) ≡ (membersOf settings s rows attrs n i >>= laidMembers)
+    unfolding _>>_ _>>=_
+    fault-laid (gives x) p =
         let all : AllRead (membersOf settings s rows attrs n i) = fault-members settings s rows attrs n i p in
-        laid-members settings s rows attrs n sizeOf bound 0 (kidsOf (settings .endian) s rows attrs n i) (clear-members p ∙ all .are)
-        ∙ ap (membersLaid settings s rows attrs n sizeOf i) (sym (all .are))
-    fault-laid (fault.Refused why) p = ap (membersLaid settings s rows attrs n sizeOf i) (sym (refused-members settings s rows attrs n i p))
+        laid-members settings s rows attrs n sizeOf (hasByteSize own) 0 (kidsOf (settings .endian) s rows attrs n i) (clear-members p ∙ all .are)
+        ∙ ap (λ (d : Said (List Placed)). d >>= laidMembers) (sym (all .are))
+    fault-laid (refuses number place counts) p = ap (λ (d : Said (List Placed)). d >>= laidMembers) (sym (refused-members settings s rows attrs n i p))
 
-    shape-structure : (x : Shape) → isStructure x ≡ true
-        → membersLaid settings s rows attrs n sizeOf i (membersOf settings s rows attrs n i) ≡ shapeLaid settings s rows attrs n sizeOf i x
-    unfolding isStructure shapeLaid
-    shape-structure shape.Structure p = refl
-    shape-structure shape.Array p = absurd (true≢false (sym p))
-    shape-structure shape.Enumeration p = absurd (true≢false (sym p))
-    shape-structure shape.Union p = absurd (true≢false (sym p))
-    shape-structure shape.PtrToMember p = absurd (true≢false (sym p))
-    shape-structure shape.Subroutine p = absurd (true≢false (sym p))
-    shape-structure shape.Other p = absurd (true≢false (sym p))
+    -- what was laid, as a layout
+    abbrev asLayout : Progress → Layout
+    asLayout x = record { row = i; size = sizeOrLargest (x .largest) own; members = x .count }
 
-    shape-other : (x : Shape) → isStructure x ≡ false → unlaid (refusedAt (rowAt rows i .key) reason.Kind) ≡ shapeLaid settings s rows attrs n sizeOf i x
-    unfolding isStructure shapeLaid
-    shape-other shape.Structure p = absurd (true≢false p)
-    shape-other shape.Array p = refl
-    shape-other shape.Enumeration p = refl
-    shape-other shape.Union p = refl
-    shape-other shape.PtrToMember p = refl
-    shape-other shape.Subroutine p = refl
-    shape-other shape.Other p = refl
+    laying-layout : (d : Said Lay) → (layingOf 0 d >>= λ x. gives (asLayout x)) ≡ (d >>= λ l. gives (layoutOf settings s rows attrs n sizeOf i l))
+    unfolding layingOf layoutOf _>>=_
+    laying-layout (gives l) = ap (λ (k : ℕ). gives (asLayout (progress k (l .largest)))) (zero-add (length (l .members)))
+    laying-layout (refuses number place counts) = refl
 
-    laid-answer : (lay : Lay) {count largest : ℕ} → laying.Is count largest ≡ layingOf 0 lay
-        → whole.Is (record { row = i; size = sizeOrLargest largest (ownSize settings s rows attrs n sizeOf i); members = count }) ≡ layoutBy settings s rows attrs n sizeOf i lay
-    unfolding layingOf layoutBy
-    laid-answer (laid xs l) {count} {largest} p =
-        let same : (count ≡ 0 + length xs) × (largest ≡ l) = subst (isLaying count largest) p (refl, refl) in
-        let many : count ≡ length xs = same .0 ∙ zero-add (length xs) in
-        ap (λ (x : ℕ). whole.Is (record { row = i; size = sizeOrLargest x (ownSize settings s rows attrs n sizeOf i); members = count })) (same .1)
-        ∙ ap (λ (x : ℕ). whole.Is (record { row = i; size = sizeOrLargest l (ownSize settings s rows attrs n sizeOf i); members = x })) many
-    laid-answer (unlaid why) {count} {largest} p = absurd (subst (isLaying count largest) p (refl, refl))
-
-    unlaid-answer : (lay : Lay) {why : Refusal} → laying.Refused why ≡ layingOf 0 lay → whole.Refused why ≡ layoutBy settings s rows attrs n sizeOf i lay
-    unfolding layingOf layoutBy
-    unlaid-answer (laid xs l) {why} p = absurd (subst (isRefusal why) p refl)
-    unlaid-answer (unlaid w) {why} p = ap whole.Refused (subst (isRefusal why) p refl)
+    abbrev rowAnswer : LayoutWhole → List ℕ → List ℕ → Type 0
+    rowAnswer r room room′ = WholeLaid (layoutAt settings s rows attrs n sizeOf i) (rowLay settings s rows attrs n sizeOf i) r room room′
 
     module _ {row : Row} {b : Bool} (at : row ≡ rowAt rows i) (is : b ≡ isStructure (shapeOf (row .kind))) where
       kind-is : b ≡ isStructure (shapeOf (rowAt rows i .kind))
       kind-is = is ∙ ap (λ (r : Row). isStructure (shapeOf (r .kind))) at
 
-      pub whole-other : {why : Refusal} {room : List ℕ} → b ≡ false → why ≡ refusedAt (row .key) reason.Kind
-          → WholeLaid (layoutAt settings s rows attrs n sizeOf i) (rowLay settings s rows attrs n sizeOf i) (whole.Refused why) room room
-      unfolding layoutAt rowLay layoutBy
+      pub whole-other : {why : Refusal} {room : List ℕ} → b ≡ false → why ≡ refusedAt (row .key) reason.Kind → rowAnswer (whole.Refused why) room room
+      unfolding layoutAt rowLay saidLayoutWhole _>>=_
       whole-other {why} t q =
-          let other : unlaid why ≡ rowLay settings s rows attrs n sizeOf i =
-          ap unlaid (q ∙ ap (λ (r : Row). refusedAt (r .key) reason.Kind) at) ∙ shape-other (shapeOf (rowAt rows i .kind)) (sym kind-is ∙ t) in
+          let other : refusal why ≡ rowLay settings s rows attrs n sizeOf i =
+          must-failed kind-is reason.Kind (rowAt rows i .key) (membersOf settings s rows attrs n i >>= laidMembers) t
+          (ap refusal (q ∙ ap (λ (r : Row). refusedAt (r .key) reason.Kind) at))
+          in
           record {
-            answer-is = ap (layoutBy settings s rows attrs n sizeOf i) other;
-            room-is = λ xs l e. absurd (subst isNowhere (other ∙ e) tt);
+            answer-is = ap (λ (d : Said Lay). d >>= λ l. gives (layoutOf settings s rows attrs n sizeOf i l)) other;
+            room-is = λ l e. absurd (given-refused (sym (other ∙ e)));
           }
 
-      module _ (t : b ≡ true) {run : Run} {own : Word} {bounded : Bool} (at′ : run ≡ runOf (settings .endian) rows i)
-          (own-is : own ≡ wordOf s attrs run attribute.ByteSize) (bounded-is : bounded ≡ hasByteSize own) where
-        own-size : own ≡ ownSize settings s rows attrs n sizeOf i
+      module _ (t : b ≡ true) {run : Run} {word : Word} {bounded : Bool} (at′ : run ≡ runOf (settings .endian) rows i)
+          (own-is : word ≡ wordOf s attrs run attribute.ByteSize) (bounded-is : bounded ≡ hasByteSize word) where
+        own-size : word ≡ own
         unfolding ownSize
         own-size = own-is ∙ ap (λ (x : Run). wordOf s attrs x attribute.ByteSize) at′
 
         row-laid : structureLaid settings s rows attrs n sizeOf bounded i ≡ rowLay settings s rows attrs n sizeOf i
         unfolding structureLaid rowLay
         row-laid =
-            ap (λ (x : Bool). structureLaid settings s rows attrs n sizeOf x i) (bounded-is ∙ ap hasByteSize own-size)
-            ∙ fault-laid (structureFault settings s rows attrs n i) refl
-            ∙ shape-structure (shapeOf (rowAt rows i .kind)) (sym kind-is ∙ t)
+            must-passed kind-is reason.Kind (rowAt rows i .key) (membersOf settings s rows attrs n i >>= laidMembers) t
+            (ap (λ (x : Bool). structureLaid settings s rows attrs n sizeOf x i) (bounded-is ∙ ap hasByteSize own-size)
+            ∙ fault-laid (structureFault settings s rows attrs n i) refl)
 
         module _ {told : Laying} {room room′ : List ℕ} (g : Lays (structureLaid settings s rows attrs n sizeOf bounded i) 0 told room room′) where
-          told-is : told ≡ layingOf 0 (rowLay settings s rows attrs n sizeOf i)
-          told-is = g .answer-is ∙ ap (layingOf 0) row-laid
-
-          pub whole-laid : {count largest size : ℕ} → told ≡ laying.Is count largest → size ≡ sizeOrLargest largest own
-              → WholeLaid (layoutAt settings s rows attrs n sizeOf i) (rowLay settings s rows attrs n sizeOf i)
-              (whole.Is (record { row = i; size = size; members = count })) room room′
+          row-answer : {x : Laying} {r : LayoutWhole} → told ≡ x → saidLayoutWhole r ≡ (saidLaying x >>= λ y. gives (asLayout y)) → rowAnswer r room room′
           unfolding layoutAt
-          whole-laid {count} {largest} p q =
+          row-answer p h =
               record {
                 answer-is =
-                    ap (λ (x : ℕ). whole.Is (record { row = i; size = x; members = count })) (q ∙ ap (sizeOrLargest largest) own-size)
-                    ∙ laid-answer (rowLay settings s rows attrs n sizeOf i) (sym p ∙ told-is);
-                room-is = λ xs l e. g .room-is xs l (row-laid ∙ e);
+                    goes-on saidLaying (g .answer-is ∙ ap (layingOf 0) row-laid) p (λ y. gives (asLayout y)) h
+                    ∙ laying-layout (rowLay settings s rows attrs n sizeOf i);
+                room-is = λ l e. g .room-is l (row-laid ∙ e);
               }
 
-          pub whole-refused : {why : Refusal} → told ≡ laying.Refused why
-              → WholeLaid (layoutAt settings s rows attrs n sizeOf i) (rowLay settings s rows attrs n sizeOf i) (whole.Refused why) room room′
-          unfolding layoutAt
-          whole-refused p =
-              record {
-                answer-is = unlaid-answer (rowLay settings s rows attrs n sizeOf i) (sym p ∙ told-is);
-                room-is = λ xs l e. g .room-is xs l (row-laid ∙ e);
-              }
+          pub whole-laid : {count largest size : ℕ} → told ≡ laying.Is count largest → size ≡ sizeOrLargest largest word
+              → rowAnswer (whole.Is (record { row = i; size = size; members = count })) room room′
+          unfolding saidLayoutWhole saidLaying _>>=_
+          whole-laid {count} {largest} p q =
+              row-answer p (ap (λ (x : ℕ). gives (record { row = i; size = x; members = count })) (q ∙ ap (sizeOrLargest largest) own-size))
+
+          pub whole-refused : {why : Refusal} → told ≡ laying.Refused why → rowAnswer (whole.Refused why) room room′
+          unfolding saidLayoutWhole saidLaying _>>=_
+          whole-refused p = row-answer p refl
 
 -- ---- into lent room
 
-given-as : {o : Outcome LayoutRead ℕ} {r : LayoutRead} {room : List ℕ} → outcome r room ≡ o → Given o r room
-given-as p = record { answer-is = ap (λ (x : Outcome LayoutRead ℕ). x .answer) p; room-is = ap (λ (x : Outcome LayoutRead ℕ). x .room) p }
+-- so many members fit
+abbrev pub fitting : List ℕ → Lay → Bool
+fitting room l = leb (length (l .members)) (length room / laidWidth)
 
-abbrev pub isNone : LayoutWhole → Type 0
-isNone (whole.Is x) = ⊥
-isNone (whole.Refused why) = Unit
+-- a layout is that of what was laid
+pub record LaidAs (d : Said Lay) (whole : Lay → Layout) (x : Layout) : Type 0 where
+  pub laid : Lay
+  pub are : d ≡ gives laid
+  pub same : whole laid ≡ x
 
--- members that are laid
-pub record AllLaid (lay : Lay) : Type 0 where
-  pub list : List Laid
-  pub most : ℕ
-  pub are : lay ≡ laid list most
+module _ (settings : Settings) (s rows attrs : List ℕ) (n : ℕ) (sizeOf : «Type» → Said ℕ) (i : ℕ) where
+  abbrev wholeOf : Lay → Layout
+  wholeOf l = layoutOf settings s rows attrs n sizeOf i l
 
-module _ (settings : Settings) (s rows attrs : List ℕ) (n : ℕ) (sizeOf : «Type» → Sized) (i : ℕ) where
-  pub answer-laid : (lay : Lay) {x : Layout} → layoutBy settings s rows attrs n sizeOf i lay ≡ whole.Is x → AllLaid lay
-  unfolding layoutBy
-  answer-laid (laid xs l) p = record { list = xs; most = l; are = refl }
-  answer-laid (unlaid why) p = absurd (subst isNone p tt)
+  pub laid-as : {x : Layout} → layoutAt settings s rows attrs n sizeOf i ≡ gives x → LaidAs (rowLay settings s rows attrs n sizeOf i) wholeOf x
+  unfolding layoutAt
+  laid-as {x} p =
+      let all : (l : Lay) × (rowLay settings s rows attrs n sizeOf i ≡ gives l) × (gives (wholeOf l) ≡ gives x) =
+      step-gave (rowLay settings s rows attrs n sizeOf i) (λ l. gives (wholeOf l)) p
+      in
+      record { laid = all .0; are = all .1; same = given-is (all .2) }
 
-  module _ (room : List ℕ) {told : LayoutWhole} (is : told ≡ layoutAt settings s rows attrs n sizeOf i) where
-    abbrev given : LayoutRead → List ℕ → Type 0
-    given r room′ = Given (layoutInto room (rowLay settings s rows attrs n sizeOf i) (layoutAt settings s rows attrs n sizeOf i)) r room′
+  module _ (room : List ℕ) where
+    abbrev given : Said Layout → List ℕ → Type 0
+    given z room′ = Given (layoutInto settings s rows attrs n sizeOf room i) z room′
 
-    module _ {x : Layout} (p : told ≡ whole.Is x) where
-      into-is : cond (leb (x .members) (length room / laidWidth)) (layInto room (rowLay settings s rows attrs n sizeOf i) (layout.Is x)) (outcome (layout.Room (x .members)) room)
-          ≡ layoutInto room (rowLay settings s rows attrs n sizeOf i) (layoutAt settings s rows attrs n sizeOf i)
-      unfolding layoutInto
-      into-is = ap (layoutInto room (rowLay settings s rows attrs n sizeOf i)) (sym p ∙ is)
+    -- a layout and its members, if they fit
+    abbrev pub intoRoom : Lay → Outcome (Said Layout) ℕ
+    intoRoom l = fillsRoom (fitting room l) (wholeOf l) (length (l .members) ∷ []) (laidWords (l .members)) room
 
-      these : AllLaid (rowLay settings s rows attrs n sizeOf i)
-      unfolding layoutAt
-      these = answer-laid (rowLay settings s rows attrs n sizeOf i) (sym is ∙ p)
+    -- a refusal goes on
+    refused-in : (d : Said Lay) {number place : ℕ} {counts : List ℕ} → refuses number place counts ≡ (d >>= λ l. gives (wholeOf l))
+        → Given (inRoom room d intoRoom) (refuses number place counts) room
+    unfolding inRoom _>>=_
+    refused-in (gives l) p = absurd (given-refused (sym p))
+    refused-in (refuses other elsewhere more) p = record { answer-is = p; room-is = refl }
 
-      pub give-laid : {r : LayoutWhole} {room′ : List ℕ} → x .members ≤ length room / laidWidth
-          → WholeLaid (layoutAt settings s rows attrs n sizeOf i) (rowLay settings s rows attrs n sizeOf i) r room room′ → given (layout.Is x) room′
-      unfolding layInto
-      give-laid h g =
-          given-as
-          (ap (outcome (layout.Is x)) (g .room-is (these .list) (these .most) (these .are))
-          ∙ ap (λ (lay : Lay). layInto room lay (layout.Is x)) (sym (these .are))
-          ∙ test-passed refl _ (le-leb (x .members) (length room / laidWidth) h) refl
-          ∙ into-is)
+    module _ {told : LayoutWhole} (is : saidLayoutWhole told ≡ layoutAt settings s rows attrs n sizeOf i) where
+      module _ {x : Layout} (p : told ≡ whole.Is x) where
+        these : LaidAs (rowLay settings s rows attrs n sizeOf i) wholeOf x
+        unfolding saidLayoutWhole
+        these = laid-as (sym (case-said saidLayoutWhole is p))
 
-      pub give-unfit : length room / laidWidth < x .members → given (layout.Room (x .members)) room
-      give-unfit h = given-as (test-failed refl _ (lt-leb (x .members) (length room / laidWidth) h) refl ∙ into-is)
+        many : length (these .laid .members) ≡ x .members
+        unfolding layoutOf
+        many = ap (λ (y : Layout). y .members) (these .same)
 
-    pub give-unlaid : {why : Refusal} → told ≡ whole.Refused why → given (layout.Refused why) room
-    unfolding layoutInto
-    give-unlaid p = given-as (ap (layoutInto room (rowLay settings s rows attrs n sizeOf i)) (sym p ∙ is))
+        -- the layout is there: its members fit, or not
+        give-in : {z : Said Layout} {room′ : List ℕ} → Given (intoRoom (these .laid)) z room′ → given z room′
+        unfolding layoutInto inRoom
+        give-in g = goes-in (λ (d : Said Lay). d) refl (these .are) room intoRoom g
 
-module _ (settings : Settings) (vendors sizes s rows attrs : List ℕ) (counts : Counts) (key : ℕ) (room : List ℕ) {told : Keyed}
-    (is : told ≡ inRowOfKey (table s settings vendors sizes rows attrs counts) key keyed.Refused keyed.Row) where
-  abbrev kept : Refusal → Outcome LayoutRead ℕ
-  kept why = outcome (layout.Refused why) room
+        pub give-laid : {r : LayoutWhole} {room′ : List ℕ} → x .members ≤ length room / laidWidth
+            → WholeLaid (layoutAt settings s rows attrs n sizeOf i) (rowLay settings s rows attrs n sizeOf i) r room room′ → given (saidLayoutRead (layout.Is x)) room′
+        unfolding saidLayoutRead
+        give-laid h g =
+            let as-many : length (these .laid .members) ≡ x .members = many in
+            give-in
+            (fills (wholeOf (these .laid)) (length (these .laid .members) ∷ []) (laidWords (these .laid .members)) room
+            (le-leb (length (these .laid .members)) (length room / laidWidth) (omega arith)) (ap gives (sym (these .same))) (g .room-is (these .laid) (these .are)))
 
-  abbrev there : ℕ → Outcome LayoutRead ℕ
-  there i =
-      layoutInto room (rowLay settings s rows attrs (counts .rows) (typeSize settings sizes s rows attrs (counts .rows) (depthLimit - 1)) i)
-      (layoutAt settings s rows attrs (counts .rows) (typeSize settings sizes s rows attrs (counts .rows) (depthLimit - 1)) i)
+        pub give-unfit : length room / laidWidth < x .members → given (saidLayoutRead (layout.Room (x .members))) room
+        unfolding saidLayoutRead
+        give-unfit h =
+            let as-many : length (these .laid .members) ≡ x .members = many in
+            give-in
+            (wants (wholeOf (these .laid)) (length (these .laid .members) ∷ []) (laidWords (these .laid .members)) room
+            (lt-leb (length (these .laid .members)) (length room / laidWidth) (omega arith)) (ap (λ (k : ℕ). wanting (k ∷ [])) (sym many)) refl)
 
-  pub layout-there : {i : ℕ} {r : LayoutRead} {room′ : List ℕ} → told ≡ keyed.Row i
-      → Given (layoutInto room (rowLay settings s rows attrs (counts .rows) (typeSizeFrom settings sizes s rows attrs (counts .rows) [] (depthLimit - 1)) i)
-      (layoutAt settings s rows attrs (counts .rows) (typeSizeFrom settings sizes s rows attrs (counts .rows) [] (depthLimit - 1)) i)) r room′
-      → Given (layoutOfKey (table s settings vendors sizes rows attrs counts) key room) r room′
-  unfolding layoutOfKey typeSizeFrom typeSize entrySizeFrom
-  layout-there {r = r} {room′ = room′} p g =
-      subst (λ (o : Outcome LayoutRead ℕ). Given o r room′) (in-row settings vendors sizes s rows attrs counts key is kept there p) g
+      pub give-unlaid : {why : Refusal} → told ≡ whole.Refused why → given (saidLayoutRead (layout.Refused why)) room
+      unfolding layoutInto layoutAt saidLayoutWhole saidLayoutRead
+      give-unlaid p = refused-in (rowLay settings s rows attrs n sizeOf i) (case-said saidLayoutWhole is p)
 
-  pub layout-unlaid : {why : Refusal} → told ≡ keyed.Refused why → Given (layoutOfKey (table s settings vendors sizes rows attrs counts) key room) (layout.Refused why) room
-  unfolding layoutOfKey
-  layout-unlaid p = given-as (no-row settings vendors sizes s rows attrs counts key is kept there p)
+-- no sizes are known
+pub layout-there : (settings : Settings) (vendors sizes s rows attrs : List ℕ) (counts : Counts) (key : ℕ) (room : List ℕ) {told : Keyed}
+    → saidKeyed told ≡ rowOf (table s settings vendors sizes rows attrs counts) key → {i : ℕ} {z : Said Layout} {room′ : List ℕ} → told ≡ keyed.Row i
+    → Given (layoutInto settings s rows attrs (counts .rows) (typeSizeFrom settings sizes s rows attrs (counts .rows) [] (depthLimit - 1)) room i) z room′
+    → Given (layoutOfKey (table s settings vendors sizes rows attrs counts) key room) z room′
+unfolding layoutOfKey typeSizeFrom typeSize entrySizeFrom saidKeyed inRoom
+layout-there settings vendors sizes s rows attrs counts key room is p g = goes-in saidKeyed is p room _ g

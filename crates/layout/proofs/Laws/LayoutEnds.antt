@@ -1,9 +1,9 @@
 -- Without ByteSize every member of a layout ends at or before its size: so say the members, and so say the words in the room.
-use Prim.Native.Nat.{ℕ, zero, suc, _+_, _-_, _*_, _≤_, _<_}
+use Prim.Native.Nat.{ℕ, zero, suc, _+_, _*_, _≤_, _<_}
 use native.Mathlib.Nat.{le-refl, le-trans}
 use native.Mathlib.Omega.{arith}
 use mathlib.Core.Path.{_≡_, refl, sym, ap, _∙_, subst}
-use mathlib.Core.Bool.{Bool, true, false, cond, true≢false}
+use mathlib.Core.Bool.{Bool, true, false, true≢false}
 use mathlib.Core.List.{List, [], _∷_}
 use lib.ListN.{length, getD}
 use lib.Seq.{getD-take}
@@ -12,35 +12,28 @@ use borrow.Author.Tests.{leb-true, leb-false}
 use Rattle.tables.specs.Table.{table}
 use Rattle.lent.specs.Outcome.{Given}
 use Rattle.numbers.proofs.Laws.Tests.{cond-all}
+use Rattle.format.specs.Said.{Said, gives, refuses, must, _>>=_, _>>_}
+use Rattle.format.proofs.Laws.Said.{Of, of-next, of-test, given-is}
 use Rattle.format.specs.declared.settings.Settings.{Settings}
 use Rattle.format.specs.declared.refusal.Reason.the-variants as reason
 use Rattle.blocks.specs.declared.types.Type.{«Type»}
 use Rattle.tables.specs.Row.{rowAt}
-use Rattle.tables.specs.Tests.{refusedAt}
 use Rattle.tables.specs.declared.row.Counts.{Counts}
-use Rattle.records.specs.Unions.{Placed, Members, members, membersRefused}
+use Rattle.records.specs.Unions.{Placed}
 use Rattle.records.specs.declared.fields.Word.{Word}
 use Rattle.records.specs.declared.fields.Word.the-variants as word
-use Rattle.sizes.specs.Size.{innerSize, sizeLimit, membersOf, memberSize, larger, endThen, shapeOf}
-use Rattle.layout.specs.Layout.{Laid, Lay, laid, unlaid, laidMember, andLaid, layThen, endOr, laidFrom, hasByteSize, sizeOrLargest, ownSize, membersLaid, shapeLaid, rowLay, layoutAt, laidWords, laidWidth, layoutOfKey}
-use Rattle.sizes.specs.Size.{isStructure}
+use Rattle.sizes.specs.Size.{innerSize, sizeLimit, membersOf, memberSize, larger, withEnd, shapeOf, isStructure}
+use Rattle.layout.specs.Layout.{Laid, Lay, lay, laidMember, endOr, laidFrom, hasByteSize, sizeOrLargest, ownSize, rowLay, layoutOf, layoutAt, laidWords, laidWidth, layoutOfKey}
 use Rattle.layout.specs.LayoutFilled.{LayoutFilled}
-use Rattle.layout.proofs.Laws.LayoutFilled.{LaidAs, laid-as, layout-filled}
-use Rattle.sizes.specs.declared.prepare.Shape.{Shape}
-use Rattle.sizes.specs.declared.prepare.Shape.the-variants as shape
-use Rattle.sizes.specs.declared.sized.Sized.{Sized}
-use Rattle.sizes.specs.declared.sized.Sized.the-variants.{Is, Refused}
+use Rattle.layout.proofs.Laws.Layout.{LaidAs, laid-as}
+use Rattle.layout.proofs.Laws.LayoutFilled.{layout-filled}
 use Rattle.layout.specs.declared.one.Layout.{Layout}
-use Rattle.layout.specs.declared.one.LayoutWhole.the-variants as whole
-use Rattle.layout.specs.declared.one.LayoutRead.{LayoutRead}
-use Rattle.layout.specs.declared.one.LayoutRead.the-variants as layout
 use Rattle.layout.specs.LayoutEnds.{EndInside}
 
 -- ---- member by member
 
-abbrev inside : ℕ → Lay → Type 0
-inside largest (laid xs most) = (largest ≤ most) × EndInside most xs
-inside largest (unlaid why) = Unit
+abbrev Inside : ℕ → Lay → Type 0
+Inside largest l = (largest ≤ l .largest) × EndInside (l .largest) (l .members)
 
 larger-first : (a b : ℕ) → a ≤ larger a b
 unfolding larger
@@ -54,57 +47,48 @@ larger-second a b =
     let less : b < a = leb-false a b t in
     omega arith)
 
-and-inside : (x : Laid) (largest next : ℕ) (lay : Lay) → largest ≤ next → x .offset + x .size ≤ next → inside next lay → inside largest (andLaid x lay)
-unfolding andLaid EndInside
-and-inside x largest next (laid xs most) a b h = (le-trans a (h .0), (le-trans b (h .0), h .1))
-and-inside x largest next (unlaid why) a b h = tt
+-- a member, and those after it
+and-inside : (x : Laid) (largest next : ℕ) (d : Said Lay) → largest ≤ next → x .offset + x .size ≤ next → Of (Inside next) d
+    → Of (Inside largest) (d >>= λ l. gives (lay (x ∷ l .members) (l .largest)))
+unfolding EndInside _>>=_
+and-inside x largest next (gives l) a b h = (le-trans a (h .0), (le-trans b (h .0), h .1))
+and-inside x largest next (refuses number place counts) a b h = tt
 
-module _ (f : ℕ → Lay) (rest : (next : ℕ) → inside next (f next)) (largest key : ℕ) where
-  -- an end, then what goes on from it
-  end-inside : (x : Laid) (b : Bool)
-      → inside largest (layThen (λ (y : ℕ). andLaid x (f y)) (cond b (Is (larger largest (x .offset + x .size))) (Refused (refusedAt key reason.Big))))
-  unfolding layThen
-  end-inside x true =
-      and-inside x largest (larger largest (x .offset + x .size)) (f (larger largest (x .offset + x .size))) (larger-first largest (x .offset + x .size))
-      (larger-second largest (x .offset + x .size)) (rest (larger largest (x .offset + x .size)))
-  end-inside x false = tt
+-- an end, then what goes on from it
+end-by : (P : Lay → Type 0) (key y : ℕ) (b : Bool) (next : ℕ → Said Lay) → Of P (next y) → Of P ((must b reason.Big key >> gives y) >>= next)
+unfolding must _>>_ _>>=_
+end-by P key y true next h = h
+end-by P key y false next h = tt
 
-  -- the same, after a size
-  sized-inside : (m : Placed) (size : Sized)
-      → inside largest (layThen (λ (y : ℕ). layThen (λ (z : ℕ). andLaid (laidMember m y) (f z)) (endOr false key largest (m .member .offset + y))) size)
-  unfolding layThen endOr endThen laidMember
-  sized-inside m (Is y) = end-inside (laidMember m y) (leb (m .member .offset + y) sizeLimit)
-  sized-inside m (Refused why) = tt
+end-inside : (P : Lay → Type 0) (key largest end : ℕ) (next : ℕ → Said Lay) → Of P (next (larger largest end)) → Of P (endOr false key largest end >>= next)
+unfolding endOr withEnd
+end-inside P key largest end next h = end-by P key (larger largest end) (leb end sizeLimit) next h
 
-module _ (rows : List ℕ) (sizeOf : «Type» → Sized) where
-  from-inside : (largest : ℕ) (ms : List Placed) → inside largest (laidFrom rows sizeOf false largest ms)
-  unfolding laidFrom EndInside
+module _ (rows : List ℕ) (sizeOf : «Type» → Said ℕ) where
+  from-inside : (largest : ℕ) (ms : List Placed) → Of (Inside largest) (laidFrom rows sizeOf false largest ms)
+  unfolding laidFrom laidMember EndInside
   from-inside largest [] = (le-refl largest, tt)
   from-inside largest (m ∷ ms) =
-      sized-inside (λ (next : ℕ). laidFrom rows sizeOf false next ms) (λ next. from-inside next ms) largest (rowAt rows (m .row) .key) m (memberSize sizeOf m)
+      of-next (Inside largest) (memberSize sizeOf m) _
+      (λ size.
+      let end : ℕ = m .member .offset + size in
+      end-inside (Inside largest) (rowAt rows (m .row) .key) largest end _
+      (and-inside (laidMember m size) largest (larger largest end) (laidFrom rows sizeOf false (larger largest end) ms) (larger-first largest end) (larger-second largest end)
+      (from-inside (larger largest end) ms)))
 
 -- ---- a row
 
-module _ (settings : Settings) (s rows attrs : List ℕ) (n : ℕ) (sizeOf : «Type» → Sized) (i : ℕ) (unbounded : hasByteSize (ownSize settings s rows attrs n sizeOf i) ≡ false) where
-  members-end : (all : Members) → inside 0 (membersLaid settings s rows attrs n sizeOf i all)
-  unfolding membersLaid
-  members-end (members ms) = subst (λ (b : Bool). inside 0 (laidFrom rows sizeOf b 0 ms)) (sym unbounded) (from-inside rows sizeOf 0 ms)
-  members-end (membersRefused why) = tt
-
-  shape-ends : (x : Shape) → inside 0 (shapeLaid settings s rows attrs n sizeOf i x)
-  unfolding isStructure shapeLaid
-  shape-ends shape.Structure = members-end (membersOf settings s rows attrs n i)
-  shape-ends shape.Array = tt
-  shape-ends shape.Enumeration = tt
-  shape-ends shape.Union = tt
-  shape-ends shape.PtrToMember = tt
-  shape-ends shape.Subroutine = tt
-  shape-ends shape.Other = tt
+module _ (settings : Settings) (s rows attrs : List ℕ) (n : ℕ) (sizeOf : «Type» → Said ℕ) (i : ℕ) (unbounded : hasByteSize (ownSize settings s rows attrs i) ≡ false) where
+  row-inside : Of (Inside 0) (rowLay settings s rows attrs n sizeOf i)
+  unfolding rowLay
+  row-inside =
+      of-test (Inside 0) (isStructure (shapeOf (rowAt rows i .kind))) reason.Kind (rowAt rows i .key) _
+      (λ t. of-next (Inside 0) (membersOf settings s rows attrs n i) _
+      (λ ms. subst (λ (b : Bool). Of (Inside 0) (laidFrom rows sizeOf b 0 ms)) (sym unbounded) (from-inside rows sizeOf 0 ms)))
 
   -- every member ends at or before the largest end
-  pub members-inside : {xs : List Laid} {largest : ℕ} → rowLay settings s rows attrs n sizeOf i ≡ laid xs largest → EndInside largest xs
-  unfolding rowLay
-  members-inside p = subst (inside 0) p (shape-ends (shapeOf (rowAt rows i .kind))) .1
+  pub members-inside : {xs : List Laid} {largest : ℕ} → rowLay settings s rows attrs n sizeOf i ≡ gives (lay xs largest) → EndInside largest xs
+  members-inside p = subst (Of (Inside 0)) p row-inside .1
 
   -- which is the size
   largest-size : (w : Word) (largest : ℕ) → hasByteSize w ≡ false → sizeOrLargest largest w ≡ largest
@@ -112,16 +96,18 @@ module _ (settings : Settings) (s rows attrs : List ℕ) (n : ℕ) (sizeOf : «T
   largest-size (word.Is size) largest t = absurd (true≢false t)
   largest-size word.Nothing largest t = refl
 
-  pub layout-inside : {x : Layout} → layoutAt settings s rows attrs n sizeOf i ≡ whole.Is x
-      → {xs : List Laid} {largest : ℕ} → rowLay settings s rows attrs n sizeOf i ≡ laid xs largest → EndInside (x .size) xs
-  layout-inside {x} p {xs} q =
-      let these : LaidAs settings s rows attrs n sizeOf i (rowLay settings s rows attrs n sizeOf i) x = laid-as settings s rows attrs n sizeOf i p in
-      let size-is : these .largest ≡ x .size = sym (largest-size (ownSize settings s rows attrs n sizeOf i) (these .largest) unbounded) ∙ these .size-is in
-      subst (λ (lay : Lay). these-inside (x .size) lay) (sym (these .are) ∙ q) (subst (λ (k : ℕ). EndInside k (these .list)) size-is (members-inside (these .are)))
-    where
-      these-inside : ℕ → Lay → Type 0
-      these-inside size (laid ys most) = EndInside size ys
-      these-inside size (unlaid why) = Unit
+  pub layout-inside : {x : Layout} → layoutAt settings s rows attrs n sizeOf i ≡ gives x
+      → {xs : List Laid} {largest : ℕ} → rowLay settings s rows attrs n sizeOf i ≡ gives (lay xs largest) → EndInside (x .size) xs
+  unfolding layoutOf
+  layout-inside {x} p {xs} {largest} q =
+      let own : Word = ownSize settings s rows attrs i in
+      let these : LaidAs (rowLay settings s rows attrs n sizeOf i) (layoutOf settings s rows attrs n sizeOf i) x = laid-as settings s rows attrs n sizeOf i p in
+      let size-is : largest ≡ x .size =
+      sym (largest-size own largest unbounded)
+      ∙ ap (λ (l : Lay). sizeOrLargest (l .largest) own) (given-is (sym q ∙ these .are))
+      ∙ ap (λ (y : Layout). y .size) (these .same)
+      in
+      subst (λ (k : ℕ). EndInside k xs) size-is (members-inside q)
 
 -- ---- the words in the room
 
@@ -136,13 +122,13 @@ words-inside size (x ∷ xs) h (suc k) l =
     let less : k < length xs = omega arith in
     rw (at, next) (words-inside size xs (h .1) k less)
 
-module _ (settings : Settings) (vendors sizes s rows attrs : List ℕ) (counts : Counts) (key : ℕ) (room : List ℕ) {r : LayoutRead} {room′ : List ℕ} {x : Layout}
-    (g : Given (layoutOfKey (table s settings vendors sizes rows attrs counts) key room) r room′) (p : r ≡ layout.Is x) where
+module _ (settings : Settings) (vendors sizes s rows attrs : List ℕ) (counts : Counts) (key : ℕ) (room : List ℕ) {room′ : List ℕ} {x : Layout}
+    (g : Given (layoutOfKey (table s settings vendors sizes rows attrs counts) key room) (gives x) room′) where
   -- member k of the room: offset and size come to the layout's size at most
-  pub given-inside : hasByteSize (ownSize settings s rows attrs (counts .rows) (innerSize (table s settings vendors sizes rows attrs counts)) (x .row)) ≡ false
+  pub given-inside : hasByteSize (ownSize settings s rows attrs (x .row)) ≡ false
       → (k : ℕ) → k < x .members → getD room′ (k * laidWidth) 0 + getD room′ (k * laidWidth + 1) 0 ≤ x .size
   given-inside unbounded k l =
-      let f : LayoutFilled (table s settings vendors sizes rows attrs counts) key x room room′ = layout-filled settings vendors sizes s rows attrs counts key room g p in
+      let f : LayoutFilled (table s settings vendors sizes rows attrs counts) key x room room′ = layout-filled settings vendors sizes s rows attrs counts key room g in
       let many : length (f .list) ≡ x .members = f .many in
       let ends : EndInside (x .size) (f .list) = layout-inside settings s rows attrs (counts .rows) (innerSize (table s settings vendors sizes rows attrs counts)) (x .row) unbounded (f .layout-is) (f .are) in
       let same : (j : ℕ) → j < x .members * laidWidth → getD (laidWords (f .list)) j 0 ≡ getD room′ j 0 =

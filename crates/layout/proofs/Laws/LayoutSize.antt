@@ -1,311 +1,262 @@
--- A layout's size is what the size call answers. A structure whose size is membersRefused has no layout, for the same reason; without ByteSize a structure whose layout
--- is membersRefused has no size, for the same reason. With ByteSize a layout still takes the size of every member, so it may be membersRefused where the size is not.
-use Prim.Native.Nat.{ℕ, _+_, _-_, _/_}
-use mathlib.Core.Path.{_≡_, refl, sym, ap, _∙_, subst}
-use mathlib.Core.Bool.{Bool, true, false, cond, true≢false}
+-- A layout's size is what the size call answers. A structure whose size is refused has no layout, for the same reason; without ByteSize a structure whose layout
+-- is refused has no size, for the same reason. With ByteSize a layout still takes the size of every member, so it may be refused where the size is not.
+use Prim.Native.Nat.{ℕ, _+_, _-_}
+use native.Mathlib.Omega.{arith}
+use mathlib.Core.Path.{_≡_, refl, sym, ap, _∙_}
+use mathlib.Core.Bool.{Bool, true, false, true≢false}
 use mathlib.Core.List.{List, [], _∷_}
 use lib.ListN.{length}
-use lib.Dec.{leb, ltb}
-use Rattle.tables.specs.Table.{table}
+use Rattle.tables.specs.Table.{Table, table}
 use Rattle.lent.specs.Outcome.{Outcome}
-use Rattle.format.specs.Limits.{sectionLimit, depthLimit}
-use Rattle.format.specs.Settings.{settingsHold}
+use Rattle.format.specs.Limits.{depthLimit}
+use Rattle.format.specs.Said.{Said, gives, refuses, _>>=_, _>>_, inRoom, fillsRoom}
+use Rattle.format.proofs.Laws.Said.{given-is, given-refused, must-gave, must-passed, past-gave, step-gave}
 use Rattle.format.specs.declared.settings.Settings.{Settings}
-use Rattle.format.specs.declared.refusal.Refusal.{Refusal}
 use Rattle.format.specs.declared.refusal.Reason.the-variants as reason
 use Rattle.blocks.specs.declared.types.Type.{«Type»}
 use Rattle.tables.specs.Row.{rowAt}
 use Rattle.tables.specs.Find.{rowOfKey}
-use Rattle.tables.specs.Holds.{tableHolds}
-use Rattle.tables.specs.Tests.{refusedAt, afterTests, tested}
+use Rattle.tables.specs.Tests.{testTable}
+use Rattle.tables.specs.Keyed.{foundRow, rowOf}
 use Rattle.tables.specs.declared.row.Counts.{Counts}
 use Rattle.tables.specs.declared.find.Found.{Found}
 use Rattle.tables.specs.declared.find.Found.the-variants as found
-use Rattle.tables.specs.Keyed.{rowBy, inRowOfKey}
-use Rattle.records.specs.Unions.{Placed, Members, members, membersRefused}
+use Rattle.records.specs.Unions.{Placed}
 use Rattle.records.specs.declared.fields.Word.{Word}
 use Rattle.records.specs.declared.fields.Word.the-variants as word
-use Rattle.sizes.specs.Size.{innerSize, sizeLimit, sizeThen, membersOf, memberSize, larger, endThen, endsFrom, sizeOrEnds, membersSize, shapeOf, shapeSize, rowSize, foundSize, entrySize, sizeOfKey}
+use Rattle.sizes.specs.Size.{innerSize, membersOf, memberSize, withEnd, endsFrom, sizeOrEnds, shapeOf, isStructure, shapeSize, rowSize, sizeOfKey}
 use Rattle.sizes.proofs.Laws.Size.{entry-more}
-use Rattle.layout.specs.Layout.{Laid, Lay, laid, unlaid, laidMember, andLaid, layThen, endOr, laidFrom, hasByteSize, sizeOrLargest, ownSize, membersLaid, shapeLaid, rowLay, layoutBy, layoutAt, laidWidth, layInto, layoutInto, layoutOfKey}
-use Rattle.sizes.specs.Size.{isStructure}
-use Rattle.layout.proofs.Laws.Layout.{isNowhere}
-use Rattle.layout.proofs.Laws.LayoutFilled.{LaidAs, laid-as, into-answer, fits}
+use Rattle.layout.specs.Layout.{Laid, Lay, lay, laidMember, endOr, laidFrom, hasByteSize, sizeOrLargest, ownSize, rowLay, layoutOf, laidWords, layoutInto, layoutOfKey}
+use Rattle.layout.proofs.Laws.Layout.{fitting, intoRoom}
+use Rattle.layout.proofs.Laws.LayoutFilled.{Fits, fits}
 use Rattle.sizes.specs.declared.prepare.Shape.{Shape}
 use Rattle.sizes.specs.declared.prepare.Shape.the-variants as shape
-use Rattle.sizes.specs.declared.sized.Sized.{Sized}
-use Rattle.sizes.specs.declared.sized.Sized.the-variants.{Is, Refused}
 use Rattle.layout.specs.declared.one.Layout.{Layout}
-use Rattle.layout.specs.declared.one.LayoutWhole.{LayoutWhole}
-use Rattle.layout.specs.declared.one.LayoutWhole.the-variants as whole
-use Rattle.layout.specs.declared.one.LayoutRead.{LayoutRead}
-use Rattle.layout.specs.declared.one.LayoutRead.the-variants as layout
 
--- what each answer says
-abbrev isSize : Sized → Type 0
-isSize (Is size) = Unit
-isSize (Refused why) = ⊥
-
-abbrev isGiven : LayoutRead → Type 0
-isGiven (layout.Is x) = Unit
-isGiven (layout.Refused why) = ⊥
-isGiven (layout.Room k) = ⊥
-
-abbrev isKept : Refusal → LayoutRead → Type 0
-isKept why (layout.Is x) = ⊥
-isKept why (layout.Refused w) = w ≡ why
-isKept why (layout.Room k) = ⊥
-
-abbrev isRefusal : Refusal → Sized → Type 0
-isRefusal why (Is size) = ⊥
-isRefusal why (Refused w) = w ≡ why
+-- a refusal is the same, whatever would have been given
+retold : {A B : Type 0} {number number′ place place′ : ℕ} {counts counts′ : List ℕ}
+    → _≡_ {A = Said A} (refuses number place counts) (refuses number′ place′ counts′) → _≡_ {A = Said B} (refuses number place counts) (refuses number′ place′ counts′)
+unfolding _>>=_
+retold {A} {B} p =
+    let none : A → Said B = λ x. refuses 0 0 [] in
+    ap (λ (d : Said A). d >>= none) p
 
 -- ---- without ByteSize the largest end of a layout is the largest end of a size
 
 -- a layout's largest end
-abbrev endIn : Lay → Sized
-endIn (laid xs largest) = Is largest
-endIn (unlaid why) = Refused why
+abbrev endIn : Said Lay → Said ℕ
+endIn d = d >>= λ l. gives (l .largest)
 
-and-end : (x : Laid) (lay : Lay) → endIn (andLaid x lay) ≡ endIn lay
-unfolding andLaid
-and-end x (laid xs largest) = refl
-and-end x (unlaid why) = refl
+and-end : (x : Laid) (d : Said Lay) → endIn (d >>= λ l. gives (lay (x ∷ l .members) (l .largest))) ≡ endIn d
+unfolding _>>=_
+and-end x (gives l) = refl
+and-end x (refuses number place counts) = refl
 
-module _ (f : ℕ → Lay) (g : ℕ → Sized) (same : (next : ℕ) → endIn (f next) ≡ g next) where
-  -- an end, then what goes on from it
-  end-then : (x : Laid) (key next : ℕ) (b : Bool)
-      → endIn (layThen (λ (y : ℕ). andLaid x (f y)) (cond b (Is next) (Refused (refusedAt key reason.Big)))) ≡ cond b (g next) (Refused (refusedAt key reason.Big))
-  unfolding layThen
-  end-then x key next true = and-end x (f next) ∙ same next
-  end-then x key next false = refl
+-- what goes on from a size or an end
+next-end : (d : Said ℕ) (f : ℕ → Said Lay) (g : ℕ → Said ℕ) → ((x : ℕ) → endIn (f x) ≡ g x) → endIn (d >>= f) ≡ (d >>= g)
+unfolding _>>=_
+next-end (gives x) f g same = same x
+next-end (refuses number place counts) f g same = refl
 
-  -- the same, after a size
-  sized-then : (x : ℕ → Laid) (key largest offset : ℕ) (size : Sized)
-      → endIn (layThen (λ (y : ℕ). layThen (λ (z : ℕ). andLaid (x y) (f z)) (endOr false key largest (offset + y))) size)
-      ≡ sizeThen (λ (y : ℕ). endThen key g largest (offset + y)) size
-  unfolding layThen sizeThen endOr endThen
-  sized-then x key largest offset (Is y) = end-then (x y) key (larger largest (offset + y)) (leb (offset + y) sizeLimit)
-  sized-then x key largest offset (Refused why) = refl
+unlaid-end : (d : Said Lay) {number place : ℕ} {counts : List ℕ} → endIn d ≡ refuses number place counts → d ≡ refuses number place counts
+unfolding _>>=_
+unlaid-end (gives l) p = absurd (given-refused p)
+unlaid-end (refuses number place counts) p = retold p
 
-module _ (rows : List ℕ) (sizeOf : «Type» → Sized) where
+module _ (rows : List ℕ) (sizeOf : «Type» → Said ℕ) where
   ends-same : (largest : ℕ) (ms : List Placed) → endIn (laidFrom rows sizeOf false largest ms) ≡ endsFrom rows sizeOf largest ms
-  unfolding laidFrom endsFrom
+  unfolding laidFrom endsFrom endOr _>>=_
   ends-same largest [] = refl
   ends-same largest (m ∷ ms) =
-      sized-then (λ (next : ℕ). laidFrom rows sizeOf false next ms) (λ (next : ℕ). endsFrom rows sizeOf next ms) (λ next. ends-same next ms) (laidMember m)
-      (rowAt rows (m .row) .key) largest (m .member .offset) (memberSize sizeOf m)
-
-  unlaid-end : (lay : Lay) {why : Refusal} → endIn lay ≡ Refused why → lay ≡ unlaid why
-  unlaid-end (laid xs l) p = absurd (subst isSize p tt)
-  unlaid-end (unlaid w) {why} p = ap unlaid (subst (isRefusal why) (sym p) refl)
+      let key : ℕ = rowAt rows (m .row) .key in
+      let end : ℕ → ℕ = λ size. m .member .offset + size in
+      let after : ℕ → ℕ → Said Lay = λ size next. laidFrom rows sizeOf false next ms >>= λ l. gives (lay (laidMember m size ∷ l .members) (l .largest)) in
+      next-end (memberSize sizeOf m) (λ size. withEnd key largest (end size) >>= after size) (λ size. withEnd key largest (end size) >>= λ next. endsFrom rows sizeOf next ms)
+      (λ size. next-end (withEnd key largest (end size)) (after size) (λ next. endsFrom rows sizeOf next ms)
+      (λ next. and-end (laidMember m size) (laidFrom rows sizeOf false next ms) ∙ ends-same next ms))
 
   -- with a ByteSize or without one
-  laid-sized : (w : Word) (ms : List Placed) {xs : List Laid} {largest : ℕ} → laidFrom rows sizeOf (hasByteSize w) 0 ms ≡ laid xs largest
-      → sizeOrEnds rows sizeOf ms w ≡ Is (sizeOrLargest largest w)
-  unfolding hasByteSize sizeOrEnds sizeOrLargest
+  laid-sized : (w : Word) (ms : List Placed) {l : Lay} → laidFrom rows sizeOf (hasByteSize w) 0 ms ≡ gives l
+      → sizeOrEnds rows sizeOf ms w ≡ gives (sizeOrLargest (l .largest) w)
+  unfolding hasByteSize sizeOrEnds sizeOrLargest _>>=_
   laid-sized (word.Is size) ms p = refl
   laid-sized word.Nothing ms p = sym (ends-same 0 ms) ∙ ap endIn p
 
-  sized-unlaid : (w : Word) (ms : List Placed) {why : Refusal} → sizeOrEnds rows sizeOf ms w ≡ Refused why → laidFrom rows sizeOf (hasByteSize w) 0 ms ≡ unlaid why
-  unfolding hasByteSize sizeOrEnds
-  sized-unlaid (word.Is size) ms p = absurd (subst isSize p tt)
-  sized-unlaid word.Nothing ms p = unlaid-end (laidFrom rows sizeOf false 0 ms) (ends-same 0 ms ∙ p)
+  module _ {number place : ℕ} {counts : List ℕ} where
+    sized-unlaid : (w : Word) (ms : List Placed) → sizeOrEnds rows sizeOf ms w ≡ refuses number place counts
+        → laidFrom rows sizeOf (hasByteSize w) 0 ms ≡ refuses number place counts
+    unfolding hasByteSize sizeOrEnds
+    sized-unlaid (word.Is size) ms p = absurd (given-refused p)
+    sized-unlaid word.Nothing ms p = unlaid-end (laidFrom rows sizeOf false 0 ms) (ends-same 0 ms ∙ p)
 
-  unlaid-sized : (w : Word) (ms : List Placed) {why : Refusal} → hasByteSize w ≡ false → laidFrom rows sizeOf (hasByteSize w) 0 ms ≡ unlaid why
-      → sizeOrEnds rows sizeOf ms w ≡ Refused why
-  unfolding hasByteSize sizeOrEnds
-  unlaid-sized (word.Is size) ms t p = absurd (true≢false t)
-  unlaid-sized word.Nothing ms t p = sym (ends-same 0 ms) ∙ ap endIn p
+    unlaid-sized : (w : Word) (ms : List Placed) → hasByteSize w ≡ false → laidFrom rows sizeOf (hasByteSize w) 0 ms ≡ refuses number place counts
+        → sizeOrEnds rows sizeOf ms w ≡ refuses number place counts
+    unfolding hasByteSize sizeOrEnds _>>=_
+    unlaid-sized (word.Is size) ms t p = absurd (true≢false t)
+    unlaid-sized word.Nothing ms t p = sym (ends-same 0 ms) ∙ ap endIn p
 
 -- ---- a row
 
-module _ (settings : Settings) (s rows attrs : List ℕ) (n : ℕ) (sizeOf : «Type» → Sized) (i : ℕ) where
+shape-is : (x : Shape) → isStructure x ≡ true → x ≡ shape.Structure
+unfolding isStructure
+shape-is shape.Structure t = refl
+shape-is shape.Array t = absurd (true≢false (sym t))
+shape-is shape.Enumeration t = absurd (true≢false (sym t))
+shape-is shape.Union t = absurd (true≢false (sym t))
+shape-is shape.PtrToMember t = absurd (true≢false (sym t))
+shape-is shape.Subroutine t = absurd (true≢false (sym t))
+shape-is shape.Other t = absurd (true≢false (sym t))
+
+module _ (settings : Settings) (s rows attrs : List ℕ) (n : ℕ) (sizeOf : «Type» → Said ℕ) (i : ℕ) where
   abbrev own : Word
-  own = ownSize settings s rows attrs n sizeOf i
+  own = ownSize settings s rows attrs i
 
-  members-laid : (all : Members) {xs : List Laid} {largest : ℕ} → membersLaid settings s rows attrs n sizeOf i all ≡ laid xs largest
-      → membersSize rows sizeOf own all ≡ Is (sizeOrLargest largest own)
-  unfolding membersLaid membersSize
-  members-laid (members ms) p = laid-sized rows sizeOf own ms p
-  members-laid (membersRefused why) p = absurd (subst isNowhere p tt)
+  abbrev all : Said (List Placed)
+  all = membersOf settings s rows attrs n i
 
-  members-sizeless : (all : Members) {why : Refusal} → membersSize rows sizeOf own all ≡ Refused why
-      → membersLaid settings s rows attrs n sizeOf i all ≡ unlaid why
-  unfolding membersLaid membersSize
-  members-sizeless (members ms) p = sized-unlaid rows sizeOf own ms p
-  members-sizeless (membersRefused w) {why} p = ap unlaid (subst (isRefusal why) (sym p) refl)
+  abbrev laidAll : List Placed → Said Lay
+  laidAll ms = laidFrom rows sizeOf (hasByteSize own) 0 ms
 
-  members-unlaid : (all : Members) {why : Refusal} → hasByteSize own ≡ false → membersLaid settings s rows attrs n sizeOf i all ≡ unlaid why
-      → membersSize rows sizeOf own all ≡ Refused why
-  unfolding membersLaid membersSize
-  members-unlaid (members ms) t p = unlaid-sized rows sizeOf own ms t p
-  members-unlaid (membersRefused w) t p = ap endIn p
+  abbrev sizeAll : List Placed → Said ℕ
+  sizeAll ms = sizeOrEnds rows sizeOf ms own
 
-  shape-sized : (x : Shape) {xs : List Laid} {largest : ℕ} → shapeLaid settings s rows attrs n sizeOf i x ≡ laid xs largest
-      → shapeSize settings s rows attrs n sizeOf i x ≡ Is (sizeOrLargest largest own)
-  unfolding isStructure shapeLaid shapeSize ownSize
-  shape-sized shape.Structure p = members-laid (membersOf settings s rows attrs n i) p
-  shape-sized shape.Array p = absurd (subst isNowhere p tt)
-  shape-sized shape.Enumeration p = absurd (subst isNowhere p tt)
-  shape-sized shape.Union p = absurd (subst isNowhere p tt)
-  shape-sized shape.PtrToMember p = absurd (subst isNowhere p tt)
-  shape-sized shape.Subroutine p = absurd (subst isNowhere p tt)
-  shape-sized shape.Other p = absurd (subst isNowhere p tt)
+  size-is : isStructure (shapeOf (rowAt rows i .kind)) ≡ true → rowSize settings s rows attrs n sizeOf i ≡ (all >>= sizeAll)
+  unfolding rowSize shapeSize ownSize
+  size-is t = ap (shapeSize settings s rows attrs n sizeOf i) (shape-is (shapeOf (rowAt rows i .kind)) t)
 
-  -- the size of a row's layout is the row's size
-  pub row-layout-size : {x : Layout} → layoutAt settings s rows attrs n sizeOf i ≡ whole.Is x → rowSize settings s rows attrs n sizeOf i ≡ Is (x .size)
-  unfolding rowLay rowSize
-  row-layout-size {x} p =
-      let these : LaidAs settings s rows attrs n sizeOf i (rowLay settings s rows attrs n sizeOf i) x = laid-as settings s rows attrs n sizeOf i p in
-      shape-sized (shapeOf (rowAt rows i .kind)) (these .are) ∙ ap Is (these .size-is)
+  -- the size of what is laid out is the row's size
+  pub row-laid-size : {l : Lay} → rowLay settings s rows attrs n sizeOf i ≡ gives l → rowSize settings s rows attrs n sizeOf i ≡ gives (sizeOrLargest (l .largest) own)
+  unfolding rowLay _>>=_
+  row-laid-size {l} p =
+      let kind : (isStructure (shapeOf (rowAt rows i .kind)) ≡ true) × ((all >>= laidAll) ≡ gives l) =
+      must-gave (isStructure (shapeOf (rowAt rows i .kind))) reason.Kind (rowAt rows i .key) (all >>= laidAll) p
+      in
+      let each : (ms : List Placed) × (all ≡ gives ms) × (laidAll ms ≡ gives l) = step-gave all laidAll (kind .1) in
+      size-is (kind .0) ∙ ap (λ (d : Said (List Placed)). d >>= sizeAll) (each .1) ∙ laid-sized rows sizeOf own (each .0) (each .2)
 
   module _ (structure : isStructure (shapeOf (rowAt rows i .kind)) ≡ true) where
-    shape-is : (x : Shape) → isStructure x ≡ true → x ≡ shape.Structure
-    unfolding isStructure
-    shape-is shape.Structure t = refl
-    shape-is shape.Array t = absurd (true≢false (sym t))
-    shape-is shape.Enumeration t = absurd (true≢false (sym t))
-    shape-is shape.Union t = absurd (true≢false (sym t))
-    shape-is shape.PtrToMember t = absurd (true≢false (sym t))
-    shape-is shape.Subroutine t = absurd (true≢false (sym t))
-    shape-is shape.Other t = absurd (true≢false (sym t))
+    lay-is : rowLay settings s rows attrs n sizeOf i ≡ (all >>= laidAll)
+    unfolding rowLay
+    lay-is = sym (must-passed {b = true} (sym structure) reason.Kind (rowAt rows i .key) (all >>= laidAll) refl refl)
 
-    size-is : rowSize settings s rows attrs n sizeOf i ≡ membersSize rows sizeOf own (membersOf settings s rows attrs n i)
-    unfolding rowSize shapeSize ownSize
-    size-is = ap (shapeSize settings s rows attrs n sizeOf i) (shape-is (shapeOf (rowAt rows i .kind)) structure)
+    module _ {number place : ℕ} {counts : List ℕ} where
+      members-sizeless : (d : Said (List Placed)) → (d >>= sizeAll) ≡ refuses number place counts → (d >>= laidAll) ≡ refuses number place counts
+      unfolding _>>=_
+      members-sizeless (gives ms) p = sized-unlaid rows sizeOf own ms p
+      members-sizeless (refuses other elsewhere more) p = retold p
 
-    lay-is : rowLay settings s rows attrs n sizeOf i ≡ membersLaid settings s rows attrs n sizeOf i (membersOf settings s rows attrs n i)
-    unfolding rowLay isStructure shapeLaid
-    lay-is = ap (shapeLaid settings s rows attrs n sizeOf i) (shape-is (shapeOf (rowAt rows i .kind)) structure)
+      -- no size, no layout
+      pub row-size-refused : rowSize settings s rows attrs n sizeOf i ≡ refuses number place counts → rowLay settings s rows attrs n sizeOf i ≡ refuses number place counts
+      row-size-refused p = lay-is ∙ members-sizeless all (sym (size-is structure) ∙ p)
 
-    -- no size, no layout
-    pub row-size-refused : {why : Refusal} → rowSize settings s rows attrs n sizeOf i ≡ Refused why → layoutAt settings s rows attrs n sizeOf i ≡ whole.Refused why
-    unfolding layoutAt layoutBy
-    row-size-refused p =
-        ap (layoutBy settings s rows attrs n sizeOf i) (lay-is ∙ members-sizeless (membersOf settings s rows attrs n i) (sym size-is ∙ p))
+      members-unlaid : hasByteSize own ≡ false → (d : Said (List Placed)) → (d >>= laidAll) ≡ refuses number place counts → (d >>= sizeAll) ≡ refuses number place counts
+      unfolding _>>=_
+      members-unlaid t (gives ms) p = unlaid-sized rows sizeOf own ms t p
+      members-unlaid t (refuses other elsewhere more) p = retold p
 
-    abbrev isRefused : Refusal → LayoutWhole → Type 0
-    isRefused why (whole.Is x) = ⊥
-    isRefused why (whole.Refused w) = w ≡ why
-
-    refused-lay : (lay : Lay) {why : Refusal} → layoutBy settings s rows attrs n sizeOf i lay ≡ whole.Refused why → lay ≡ unlaid why
-    unfolding layoutBy
-    refused-lay (laid xs l) {why} p = absurd (subst (isRefused why) (sym p) refl)
-    refused-lay (unlaid w) {why} p = ap unlaid (subst (isRefused why) (sym p) refl)
-
-    -- without ByteSize: no layout, no size
-    pub row-layout-refused : {why : Refusal} → hasByteSize (ownSize settings s rows attrs n sizeOf i) ≡ false
-        → layoutAt settings s rows attrs n sizeOf i ≡ whole.Refused why → rowSize settings s rows attrs n sizeOf i ≡ Refused why
-    unfolding layoutAt
-    row-layout-refused t p =
-        size-is ∙ members-unlaid (membersOf settings s rows attrs n i) t (sym lay-is ∙ refused-lay (rowLay settings s rows attrs n sizeOf i) p)
+      -- without ByteSize: no layout, no size
+      pub row-layout-refused : hasByteSize (ownSize settings s rows attrs i) ≡ false → rowLay settings s rows attrs n sizeOf i ≡ refuses number place counts
+          → rowSize settings s rows attrs n sizeOf i ≡ refuses number place counts
+      row-layout-refused t p = size-is structure ∙ members-unlaid t all (sym lay-is ∙ p)
 
 -- ---- a key
 
-module _ (room : List ℕ) where
-  abbrev kept : Refusal → Outcome LayoutRead ℕ
-  kept why = record { answer = layout.Refused why; room = room }
+-- a test, then a step and what follows it
+past-next : {A B : Type 0} (d : Said Unit) (e : Said A) (f : A → Said B) → (d >> (e >>= f)) ≡ ((d >> e) >>= f)
+unfolding _>>_ _>>=_
+past-next (gives x) e f = refl
+past-next (refuses number place counts) e f = refl
 
-  -- what holds after the tests
-  tests-size : (a b c : Bool) (o : Outcome LayoutRead ℕ) (z : Sized) {x : Layout} → (o .answer ≡ layout.Is x → z ≡ Is (x .size))
-      → afterTests a b c kept o .answer ≡ layout.Is x → afterTests a b c Refused z ≡ Is (x .size)
-  unfolding afterTests
-  tests-size true true true o z h p = h p
-  tests-size true true false o z h p = absurd (subst isGiven (sym p) tt)
-  tests-size true false c o z h p = absurd (subst isGiven (sym p) tt)
-  tests-size false b c o z h p = absurd (subst isGiven (sym p) tt)
+-- the row that a found one gave
+row-found : (key : ℕ) (f : Found) {i : ℕ} → foundRow key f ≡ gives i → f ≡ found.At i
+unfolding foundRow
+row-found key (found.At j) p = ap found.At (given-is p)
+row-found key found.Nothing p = absurd (given-refused (sym p))
 
-  tests-layout-refused : (a b c : Bool) (o : Outcome LayoutRead ℕ) (z : Sized) {why : Refusal} → (o .answer ≡ layout.Refused why → z ≡ Refused why)
-      → afterTests a b c kept o .answer ≡ layout.Refused why → afterTests a b c Refused z ≡ Refused why
-  unfolding afterTests
-  tests-layout-refused true true true o z h p = h p
-  tests-layout-refused true true false o z {why} h p = ap Refused (subst (isKept why) (sym p) refl)
-  tests-layout-refused true false c o z {why} h p = ap Refused (subst (isKept why) (sym p) refl)
-  tests-layout-refused false b c o z {why} h p = ap Refused (subst (isKept why) (sym p) refl)
+-- so many counts are told
+abbrev countsIn : {A : Type 0} → Said A → ℕ
+countsIn (gives x) = 0
+countsIn (refuses number place counts) = length counts
 
-  tests-size-refused : (a b c : Bool) (o : Outcome LayoutRead ℕ) (z : Sized) {why : Refusal} → (z ≡ Refused why → o .answer ≡ layout.Refused why)
-      → afterTests a b c Refused z ≡ Refused why → afterTests a b c kept o .answer ≡ layout.Refused why
-  unfolding afterTests
-  tests-size-refused true true true o z h p = h p
-  tests-size-refused true true false o z {why} h p = ap layout.Refused (subst (isRefusal why) (sym p) refl)
-  tests-size-refused true false c o z {why} h p = ap layout.Refused (subst (isRefusal why) (sym p) refl)
-  tests-size-refused false b c o z {why} h p = ap layout.Refused (subst (isRefusal why) (sym p) refl)
-
-  -- a refusal is never one for want of room
-  kept-by : (lay : Lay) (x : Layout) (b : Bool) {why : Refusal}
-      → cond b (layInto room lay (layout.Is x)) (record { answer = layout.Room (x .members); room = room }) .answer ≡ layout.Refused why → ⊥
-  kept-by lay x true {why} p = subst (isKept why) (sym p ∙ into-answer room lay (layout.Is x)) refl
-  kept-by lay x false {why} p = subst (isKept why) (sym p) refl
-
-  whole-kept : (lay : Lay) (w : LayoutWhole) {why : Refusal} → layoutInto room lay w .answer ≡ layout.Refused why → w ≡ whole.Refused why
-  unfolding layoutInto
-  whole-kept lay (whole.Is x) p = absurd (kept-by lay x (leb (x .members) (length room / laidWidth)) p)
-  whole-kept lay (whole.Refused w) {why} p = ap whole.Refused (subst (isKept why) (sym p) refl)
+-- want of room tells a count
+filled-told : {A E : Type 0} (b : Bool) (answer : A) (many : ℕ) (words room : List E) {number place : ℕ}
+    → fillsRoom b answer (many ∷ []) words room .answer ≡ refuses number place [] → ⊥
+unfolding fillsRoom
+filled-told true answer many words room p = given-refused p
+filled-told {A} false answer many words room p =
+    let none : _≡_ {A = ℕ} 1 0 = ap (countsIn {A = A}) p in
+    absurd (omega arith)
 
 module _ (settings : Settings) (vendors sizes s rows attrs : List ℕ) (counts : Counts) (key : ℕ) (room : List ℕ) where
-  abbrev there : ℕ → Outcome LayoutRead ℕ
-  there i =
-      layoutInto room (rowLay settings s rows attrs (counts .rows) (innerSize (table s settings vendors sizes rows attrs counts)) i) (layoutAt settings s rows attrs (counts .rows) (innerSize (table s settings vendors sizes rows attrs counts)) i)
+  abbrev t : Table
+  t = table s settings vendors sizes rows attrs counts
 
-  abbrev sizeThere : Found → Sized
-  sizeThere f = foundSize (rowSize settings s rows attrs (counts .rows) (innerSize (table s settings vendors sizes rows attrs counts))) key f
+  abbrev sizeAt : ℕ → Said ℕ
+  sizeAt i = rowSize settings s rows attrs (counts .rows) (innerSize t) i
 
-  abbrev layoutThere : Found → Outcome LayoutRead ℕ
-  layoutThere f = rowBy key (kept room) there f
+  abbrev laidAt : ℕ → Said Lay
+  laidAt i = rowLay settings s rows attrs (counts .rows) (innerSize t) i
+
+  abbrev into : ℕ → Outcome (Said Layout) ℕ
+  into i = layoutInto settings s rows attrs (counts .rows) (innerSize t) room i
+
+  abbrev filling : ℕ → Lay → Outcome (Said Layout) ℕ
+  filling i l = intoRoom settings s rows attrs (counts .rows) (innerSize t) i room l
 
   -- the entry that is asked for is one level above its members' types
-  size-there : entrySize settings sizes s rows attrs (counts .rows) depthLimit key ≡ sizeThere (rowOfKey rows (counts .rows) key)
-  size-there = entry-more settings sizes s rows attrs (counts .rows) (depthLimit - 1) key refl
-
-  found-size : (f : Found) {x : Layout} → layoutThere f .answer ≡ layout.Is x → sizeThere f ≡ Is (x .size)
-  unfolding rowBy foundSize
-  found-size (found.At i) p =
-      row-layout-size settings s rows attrs (counts .rows) (innerSize (table s settings vendors sizes rows attrs counts)) i
-      (fits room (rowLay settings s rows attrs (counts .rows) (innerSize (table s settings vendors sizes rows attrs counts)) i) (layoutAt settings s rows attrs (counts .rows) (innerSize (table s settings vendors sizes rows attrs counts)) i) p .read)
-  found-size found.Nothing p = absurd (subst isGiven (sym p) tt)
+  size-there : sizeOfKey t key ≡ (rowOf t key >>= sizeAt)
+  unfolding sizeOfKey rowOf
+  size-there =
+      ap (λ (d : Said ℕ). testTable t >> d) (entry-more settings sizes s rows attrs (counts .rows) (depthLimit - 1) key refl)
+      ∙ past-next (testTable t) (foundRow key (rowOfKey rows (counts .rows) key)) sizeAt
 
   -- the size of a key's layout is the key's size
-  pub layout-size : {x : Layout} → layoutOfKey (table s settings vendors sizes rows attrs counts) key room .answer ≡ layout.Is x
-      → sizeOfKey (table s settings vendors sizes rows attrs counts) key ≡ Is (x .size)
-  unfolding layoutOfKey inRowOfKey sizeOfKey tested
-  layout-size p =
-      tests-size room (settingsHold settings vendors sizes) (ltb (length s) sectionLimit) (tableHolds s vendors rows attrs counts)
-      (layoutThere (rowOfKey rows (counts .rows) key)) (entrySize settings sizes s rows attrs (counts .rows) depthLimit key)
-      (λ q. size-there ∙ found-size (rowOfKey rows (counts .rows) key) q) p
+  pub layout-size : {x : Layout} → layoutOfKey (table s settings vendors sizes rows attrs counts) key room .answer ≡ gives x
+      → sizeOfKey (table s settings vendors sizes rows attrs counts) key ≡ gives (x .size)
+  unfolding layoutOf _>>=_
+  layout-size {x} p =
+      let f : Fits settings vendors sizes s rows attrs counts key room x (layoutOfKey t key room .room) =
+      fits settings vendors sizes s rows attrs counts key room (record { answer-is = sym p; room-is = refl })
+      in
+      size-there ∙ ap (λ (d : Said ℕ). d >>= sizeAt) (f .found) ∙ row-laid-size settings s rows attrs (counts .rows) (innerSize t) (f .row) (f .are)
+      ∙ ap (λ (y : Layout). gives (y .size)) (sym (f .same))
+
+  found-at : {i : ℕ} → rowOf t key ≡ gives i → rowOfKey rows (counts .rows) key ≡ found.At i
+  unfolding rowOf
+  found-at p = row-found key (rowOfKey rows (counts .rows) key) (past-gave (testTable t) (foundRow key (rowOfKey rows (counts .rows) key)) p)
 
   -- an entry that the key has, if it has any, is a structure or a class
   module _ (structure : (i : ℕ) → rowOfKey rows (counts .rows) key ≡ found.At i → isStructure (shapeOf (rowAt rows i .kind)) ≡ true) where
-    found-size-refused : (f : Found) → rowOfKey rows (counts .rows) key ≡ f → {why : Refusal} → sizeThere f ≡ Refused why → layoutThere f .answer ≡ layout.Refused why
-    unfolding rowBy foundSize layoutInto
-    found-size-refused (found.At i) is p =
-        ap (λ (w : LayoutWhole). layoutInto room (rowLay settings s rows attrs (counts .rows) (innerSize (table s settings vendors sizes rows attrs counts)) i) w .answer)
-        (row-size-refused settings s rows attrs (counts .rows) (innerSize (table s settings vendors sizes rows attrs counts)) i (structure i is) p)
-    found-size-refused found.Nothing is {why} p = ap layout.Refused (subst (isRefusal why) (sym p) refl)
+    module _ {number place : ℕ} {more : List ℕ} where
+      row-sizeless : (d : Said ℕ) → rowOf t key ≡ d → (d >>= sizeAt) ≡ refuses number place more → inRoom room d into .answer ≡ refuses number place more
+      unfolding layoutInto inRoom _>>=_
+      row-sizeless (gives i) is p =
+          ap (λ (d : Said Lay). inRoom room d (filling i) .answer)
+          (row-size-refused settings s rows attrs (counts .rows) (innerSize t) i (structure i (found-at is)) p)
+      row-sizeless (refuses other elsewhere others) is p = retold p
 
-    -- no size, no layout
-    pub size-refused : {why : Refusal} → sizeOfKey (table s settings vendors sizes rows attrs counts) key ≡ Refused why
-        → layoutOfKey (table s settings vendors sizes rows attrs counts) key room .answer ≡ layout.Refused why
-    unfolding layoutOfKey inRowOfKey sizeOfKey tested
-    size-refused p =
-        tests-size-refused room (settingsHold settings vendors sizes) (ltb (length s) sectionLimit) (tableHolds s vendors rows attrs counts)
-        (layoutThere (rowOfKey rows (counts .rows) key)) (entrySize settings sizes s rows attrs (counts .rows) depthLimit key)
-        (λ q. found-size-refused (rowOfKey rows (counts .rows) key) refl (sym size-there ∙ q)) p
+      -- no size, no layout
+      pub size-refused : sizeOfKey (table s settings vendors sizes rows attrs counts) key ≡ refuses number place more
+          → layoutOfKey (table s settings vendors sizes rows attrs counts) key room .answer ≡ refuses number place more
+      unfolding layoutOfKey
+      size-refused p = row-sizeless (rowOf t key) refl (sym size-there ∙ p)
 
     -- and it has no ByteSize
-    module _ (unbounded : (i : ℕ) → rowOfKey rows (counts .rows) key ≡ found.At i → hasByteSize (ownSize settings s rows attrs (counts .rows) (innerSize (table s settings vendors sizes rows attrs counts)) i) ≡ false) where
-      found-layout-refused : (f : Found) → rowOfKey rows (counts .rows) key ≡ f → {why : Refusal} → layoutThere f .answer ≡ layout.Refused why → sizeThere f ≡ Refused why
-      unfolding rowBy foundSize
-      found-layout-refused (found.At i) is p =
-          row-layout-refused settings s rows attrs (counts .rows) (innerSize (table s settings vendors sizes rows attrs counts)) i (structure i is) (unbounded i is)
-          (whole-kept room (rowLay settings s rows attrs (counts .rows) (innerSize (table s settings vendors sizes rows attrs counts)) i) (layoutAt settings s rows attrs (counts .rows) (innerSize (table s settings vendors sizes rows attrs counts)) i) p)
-      found-layout-refused found.Nothing is {why} p = ap Refused (subst (isKept why) (sym p) refl)
+    module _ (unbounded : (i : ℕ) → rowOfKey rows (counts .rows) key ≡ found.At i → hasByteSize (ownSize settings s rows attrs i) ≡ false) {number place : ℕ} where
+      -- a refusal is never one for want of room
+      into-refused : (i : ℕ) (d : Said Lay) → inRoom room d (filling i) .answer ≡ refuses number place [] → d ≡ refuses number place []
+      unfolding inRoom
+      into-refused i (gives l) p = absurd (filled-told (fitting room l) _ (length (l .members)) (laidWords (l .members)) room p)
+      into-refused i (refuses other elsewhere others) p = retold p
 
-      -- no layout, no size
-      pub layout-refused : {why : Refusal} → layoutOfKey (table s settings vendors sizes rows attrs counts) key room .answer ≡ layout.Refused why
-          → sizeOfKey (table s settings vendors sizes rows attrs counts) key ≡ Refused why
-      unfolding layoutOfKey inRowOfKey sizeOfKey tested
-      layout-refused p =
-          tests-layout-refused room (settingsHold settings vendors sizes) (ltb (length s) sectionLimit) (tableHolds s vendors rows attrs counts)
-          (layoutThere (rowOfKey rows (counts .rows) key)) (entrySize settings sizes s rows attrs (counts .rows) depthLimit key)
-          (λ q. size-there ∙ found-layout-refused (rowOfKey rows (counts .rows) key) refl q) p
+      row-unlaid : (d : Said ℕ) → rowOf t key ≡ d → inRoom room d into .answer ≡ refuses number place [] → (d >>= sizeAt) ≡ refuses number place []
+      unfolding layoutInto inRoom _>>=_
+      row-unlaid (gives i) is p =
+          row-layout-refused settings s rows attrs (counts .rows) (innerSize t) i (structure i (found-at is)) (unbounded i (found-at is)) (into-refused i (laidAt i) p)
+      row-unlaid (refuses other elsewhere others) is p = retold p
+
+      -- no layout, no size: want of room, which tells a count, is no such refusal
+      pub layout-refused : layoutOfKey (table s settings vendors sizes rows attrs counts) key room .answer ≡ refuses number place []
+          → sizeOfKey (table s settings vendors sizes rows attrs counts) key ≡ refuses number place []
+      unfolding layoutOfKey
+      layout-refused p = size-there ∙ row-unlaid (rowOf t key) refl p

@@ -10,7 +10,7 @@ use lib.ListN.{length, getD, set, length-set}
 use lib.Seq.{getD-set-same, getD-set-other}
 use lib.Dec.{eqb}
 use borrow.Author.Tests.{eq-eqb, ne-eqb}
-use Rattle.format.specs.Refusal.{numberOf}
+use Rattle.format.specs.Said.{Said, gives, refuses, refuse, refusal, _>>=_, _>>_}
 use Rattle.format.specs.declared.settings.Settings.{Settings}
 use Rattle.format.specs.declared.refusal.Refusal.{Refusal}
 use Rattle.format.specs.declared.refusal.Reason.the-variants as reason
@@ -19,10 +19,11 @@ use Rattle.tables.specs.Row.{rowAt}
 use Rattle.tables.specs.declared.row.Row.{Row}
 use Rattle.tables.specs.Find.{rowOfKey}
 use Rattle.tables.proofs.Laws.Find.{row-found, row-of-own-key}
-use Rattle.tables.specs.Tests.{refusedAt}
+use Rattle.tables.specs.Inside.Keyed.{refusedAt}
+use Rattle.tables.specs.Keyed.{foundRow}
 use Rattle.tables.specs.declared.find.Found.{Found}
 use Rattle.tables.specs.declared.find.Found.the-variants as found
-use Rattle.sizes.specs.Size.{typeSizeBy, shapeOf, shapeSize, rowSize, foundSize, entrySize, typeSize}
+use Rattle.sizes.specs.Size.{saidSized, typeSizeBy, shapeOf, shapeSize, rowSize, entrySize, typeSize}
 use Rattle.sizes.specs.Inside.Known.{knownWidth, knownAt, PutKnown}
 use Rattle.sizes.proofs.Laws.Known.{known-same}
 use Rattle.sizes.specs.Inside.Kept.{PartsKept, AllKept}
@@ -34,16 +35,15 @@ use Rattle.records.proofs.Laws.Fields.{by-told}
 use Rattle.layout.specs.Inside.Levels.{deepest, lastLevel, settled, nextLevel, sizeLeft, KnownUpTo, LevelFilled, TakenOver}
 use Rattle.sizes.specs.declared.prepare.Shape.{Shape}
 use Rattle.sizes.specs.declared.prepare.Shape.the-variants as shape
-use Rattle.sizes.specs.declared.sized.Sized.{Sized}
-use Rattle.sizes.specs.declared.sized.Sized.the-variants.{Is, Refused}
+use Rattle.sizes.specs.declared.sized.Sized.the-variants.{Refused}
 
 -- ---- row after row
 
-module _ (sizeAt : ℕ → Sized) (n : ℕ) where
+module _ (sizeAt : ℕ → Said ℕ) (n : ℕ) where
   pub filled-none : {known : List ℕ} → n * knownWidth ≤ length known → KnownUpTo sizeAt n 0 known
   filled-none h = record { fits = h; each = λ i l. absurd (omega (arith, l)) }
 
-  pub filled-more : {known known′ : List ℕ} {k : ℕ} {size : Sized} → KnownUpTo sizeAt n k known → PutKnown k size known known′ → size ≡ sizeAt k
+  pub filled-more : {known known′ : List ℕ} {k : ℕ} {size : Said ℕ} → KnownUpTo sizeAt n k known → PutKnown k size known known′ → size ≡ sizeAt k
       → KnownUpTo sizeAt n (k + 1) known′
   filled-more {known} {known′} {k} {size} w g p =
       record {
@@ -61,7 +61,7 @@ module _ (sizeAt : ℕ → Sized) (n : ℕ) where
   pub level-none : {known : List ℕ} {all : Bool} → n * knownWidth ≤ length known → LevelFilled sizeAt n 0 known all
   level-none h = record { filled = filled-none h; stay = λ t i l. absurd (omega (arith, l)) }
 
-  pub level-row : {known known′ : List ℕ} {all all′ : Bool} {k : ℕ} {size : Sized} → LevelFilled sizeAt n k known all → PutKnown k size known known′
+  pub level-row : {known known′ : List ℕ} {all all′ : Bool} {k : ℕ} {size : Said ℕ} → LevelFilled sizeAt n k known all → PutKnown k size known known′
       → size ≡ sizeAt k → all′ ≡ cond all (settled size) false → LevelFilled sizeAt n (k + 1) known′ all′
   level-row {known} {known′} {all} {all′} {k} {size} w g p q =
       record {
@@ -86,12 +86,12 @@ known-kept parts fits = record { parts = parts; paired = λ i l h. omega (arith,
 
 -- ---- a size that is settled
 
-settled-is : (x : Sized) → settled x ≡ true → Settled x
+settled-is : (x : Said ℕ) → settled x ≡ true → Settled x
 unfolding settled
-settled-is (Is size) t = tt
-settled-is (Refused why) t = λ z. true≢false (sym t ∙ ap not (eq-eqb (numberOf (why .reason)) 10 z))
+settled-is (gives size) t = tt
+settled-is (refuses number place counts) t = λ z. true≢false (sym t ∙ ap not (eq-eqb number 10 z))
 
-module _ (known : List ℕ) (i : ℕ) {size : Sized} {b : Bool} (at : size ≡ knownAt known i) (is : b ≡ settled size) (settings : Settings) (sizes s rows attrs : List ℕ) (n : ℕ) where
+module _ (known : List ℕ) (i : ℕ) {size : Said ℕ} {b : Bool} (at : size ≡ knownAt known i) (is : b ≡ settled size) (settings : Settings) (sizes s rows attrs : List ℕ) (n : ℕ) where
   test-is : {x : Bool} → b ≡ x → settled (knownAt known i) ≡ x
   test-is t = ap settled (sym at) ∙ sym is ∙ t
 
@@ -99,18 +99,18 @@ module _ (known : List ℕ) (i : ℕ) {size : Sized} {b : Bool} (at : size ≡ k
   unfolding nextLevel
   next-kept t = at ∙ sym (rw (test-is t))
 
-  pub next-taken : b ≡ false → {r : Sized} → r ≡ rowSize settings s rows attrs n (typeSizeFrom settings sizes s rows attrs n known 0) i → r ≡ nextLevel settings sizes s rows attrs n known i
+  pub next-taken : b ≡ false → {r : Said ℕ} → r ≡ rowSize settings s rows attrs n (typeSizeFrom settings sizes s rows attrs n known 0) i → r ≡ nextLevel settings sizes s rows attrs n known i
   unfolding nextLevel
   next-taken t p = p ∙ sym (rw (test-is t))
 
   -- a row whose kind has no size
   pub next-other : b ≡ false → {row : Row} {x : Shape} {why : Refusal} → row ≡ rowAt rows i → x ≡ shapeOf (row .kind) → x ≡ shape.Other
-      → why ≡ refusedAt (row .key) reason.Kind → Refused why ≡ nextLevel settings sizes s rows attrs n known i
-  unfolding rowSize shapeSize
+      → why ≡ refusedAt (row .key) reason.Kind → saidSized (Refused why) ≡ nextLevel settings sizes s rows attrs n known i
+  unfolding saidSized rowSize shapeSize
   next-other t p is o q =
       next-taken t
       (by-told (shapeSize settings s rows attrs n (typeSizeFrom settings sizes s rows attrs n known 0) i) (is ∙ ap (λ (r : Row). shapeOf (r .kind)) p) o
-      (ap Refused (q ∙ ap (λ (r : Row). refusedAt (r .key) reason.Kind) p)))
+      (ap refusal (q ∙ ap (λ (r : Row). refusedAt (r .key) reason.Kind) p)))
 
 -- ---- the sizes of a level are those that the next asks for
 
@@ -119,8 +119,8 @@ module _ (settings : Settings) (sizes s rows attrs : List ℕ) (n : ℕ) (ready 
   own-key i l = row-of-own-key (ready .table .rising) i l
 
   -- what holds of each row's size holds of every key's
-  key-sizes : {entry : ℕ → Sized} (levels : ℕ) → ((i : ℕ) → i < n → entry (rowAt rows i .key) ≡ sizeLeft settings sizes s rows attrs n levels i)
-      → ((key : ℕ) → rowOfKey rows n key ≡ found.Nothing → entry key ≡ Refused (refusedAt key reason.Entry))
+  key-sizes : {entry : ℕ → Said ℕ} (levels : ℕ) → ((i : ℕ) → i < n → entry (rowAt rows i .key) ≡ sizeLeft settings sizes s rows attrs n levels i)
+      → ((key : ℕ) → rowOfKey rows n key ≡ found.Nothing → entry key ≡ refuse reason.Entry key)
       → entry ≡ entrySize settings sizes s rows attrs n levels
   unfolding sizeLeft
   key-sizes {entry} levels each none = fun-ext (λ key. by-found key (rowOfKey rows n key) refl)
@@ -133,7 +133,7 @@ module _ (settings : Settings) (sizes s rows attrs : List ℕ) (n : ℕ) (ready 
 
   module _ {known : List ℕ} (levels : ℕ) (w : KnownUpTo (sizeLeft settings sizes s rows attrs n levels) n n known) (some : 0 < length known) where
     known-entries : (left : ℕ) → entrySizeFrom settings sizes s rows attrs n known left ≡ entrySize settings sizes s rows attrs n levels
-    unfolding entrySizeFrom knownFound
+    unfolding entrySizeFrom knownFound foundRow _>>=_
     known-entries left =
         let test : eqb (length known) 0 ≡ false = ne-eqb (length known) 0 (λ z. omega (arith, z)) in
         key-sizes levels (λ i l. rw test (known-row i l)) (λ key p. rw test (known-none key p))
@@ -141,7 +141,7 @@ module _ (settings : Settings) (sizes s rows attrs : List ℕ) (n : ℕ) (ready 
         known-row : (i : ℕ) → i < n → knownFound known (rowAt rows i .key) (rowOfKey rows n (rowAt rows i .key)) ≡ sizeLeft settings sizes s rows attrs n levels i
         known-row i l = ap (knownFound known (rowAt rows i .key)) (own-key i l) ∙ w .each i l
 
-        known-none : (key : ℕ) → rowOfKey rows n key ≡ found.Nothing → knownFound known key (rowOfKey rows n key) ≡ Refused (refusedAt key reason.Entry)
+        known-none : (key : ℕ) → rowOfKey rows n key ≡ found.Nothing → knownFound known key (rowOfKey rows n key) ≡ refuse reason.Entry key
         known-none key p = ap (knownFound known key) p
 
     -- with known sizes a type has the size that it has with the levels left
@@ -151,28 +151,28 @@ module _ (settings : Settings) (sizes s rows attrs : List ℕ) (n : ℕ) (ready 
 
   -- no level is left
   pub level-last : {known : List ℕ} → KnownUpTo (lastLevel rows) n n known → KnownUpTo (sizeLeft settings sizes s rows attrs n 0) n n known
-  unfolding lastLevel sizeLeft foundSize
+  unfolding lastLevel sizeLeft foundRow _>>_
   level-last w =
       record { fits = w .fits; each = λ i l. w .each i l ∙ sym (entry-zero settings sizes s rows attrs n (rowAt rows i .key) (own-key i l)) }
 
   -- one level more
   pub level-more : {known next : List ℕ} (levels : ℕ) → KnownUpTo (sizeLeft settings sizes s rows attrs n levels) n n known
       → KnownUpTo (nextLevel settings sizes s rows attrs n known) n n next → KnownUpTo (sizeLeft settings sizes s rows attrs n (suc levels)) n n next
-  unfolding nextLevel sizeLeft foundSize
+  unfolding nextLevel sizeLeft foundRow _>>=_
   level-more {known} {next} levels w g =
       record {
         fits = g .fits;
         each = λ i l. g .each i l
-            ∙ cond-all (λ (x : Sized). x ≡ entrySize settings sizes s rows attrs n (suc levels) (rowAt rows i .key)) (settled (knownAt known i))
+            ∙ cond-all (λ (x : Said ℕ). x ≡ entrySize settings sizes s rows attrs n (suc levels) (rowAt rows i .key)) (settled (knownAt known i))
             (λ t. w .each i l ∙ sym (size-stays settings sizes s rows attrs n levels (rowAt rows i .key) (subst Settled (w .each i l) (settled-is (knownAt known i) t))))
-            (λ t. ap (λ (f : «Type» → Sized). rowSize settings s rows attrs n f i) (known-types levels w (omega (arith, w .fits, l)) 0)
+            (λ t. ap (λ (f : «Type» → Said ℕ). rowSize settings s rows attrs n f i) (known-types levels w (omega (arith, w .fits, l)) 0)
             ∙ sym (entry-more settings sizes s rows attrs n levels (rowAt rows i .key) (own-key i l)));
       }
 
   -- ---- a level that changes nothing
 
-  abbrev oneMore : (ℕ → Sized) → ℕ → Sized
-  oneMore entry key = foundSize (rowSize settings s rows attrs n (typeSizeBy sizes entry)) key (rowOfKey rows n key)
+  abbrev oneMore : (ℕ → Said ℕ) → ℕ → Said ℕ
+  oneMore entry key = foundRow key (rowOfKey rows n key) >>= rowSize settings s rows attrs n (typeSizeBy sizes entry)
 
   same-above : (levels : ℕ) → entrySize settings sizes s rows attrs n levels ≡ entrySize settings sizes s rows attrs n (suc levels)
       → (k : ℕ) → entrySize settings sizes s rows attrs n (k + levels) ≡ entrySize settings sizes s rows attrs n levels
@@ -197,7 +197,7 @@ module _ (settings : Settings) (sizes s rows attrs : List ℕ) (n : ℕ) (ready 
       key-sizes (suc levels)
       (λ i l. sym (size-stays settings sizes s rows attrs n levels (rowAt rows i .key) (subst Settled (w .each i l) (settled-is (knownAt known i) (all i l)))))
       (λ key p. entry-none settings sizes s rows attrs n levels key p) in
-      record { fits = w .fits; each = λ i l. w .each i l ∙ ap (λ (f : ℕ → Sized). f (rowAt rows i .key)) (fixed-above levels most fixed h) }
+      record { fits = w .fits; each = λ i l. w .each i l ∙ ap (λ (f : ℕ → Said ℕ). f (rowAt rows i .key)) (fixed-above levels most fixed h) }
 
   module _ {known next known′ : List ℕ} (levels : ℕ) {same : Bool} (w : KnownUpTo (sizeLeft settings sizes s rows attrs n levels) n n known)
       (g : TakenOver (n * knownWidth) known next same known′) where
@@ -205,7 +205,7 @@ module _ (settings : Settings) (sizes s rows attrs : List ℕ) (n : ℕ) (ready 
     over-same i l = known-same known′ next i (g .taken (i * 3) (omega arith)) (g .taken (i * 3 + 1) (omega arith)) (g .taken (i * 3 + 2) (omega arith))
 
     -- what was taken over is known
-    pub level-over : {sizeAt : ℕ → Sized} → KnownUpTo sizeAt n n next → KnownUpTo sizeAt n n known′
+    pub level-over : {sizeAt : ℕ → Said ℕ} → KnownUpTo sizeAt n n next → KnownUpTo sizeAt n n known′
     level-over v = record { fits = omega (arith, w .fits, g .same-long); each = λ i l. over-same i l ∙ v .each i l }
 
     -- nothing changed: so it is with every level above
@@ -218,7 +218,7 @@ module _ (settings : Settings) (sizes s rows attrs : List ℕ) (n : ℕ) (ready 
         (λ key p. entry-none settings sizes s rows attrs n levels key p) in
         record {
           fits = omega (arith, w .fits, g .same-long);
-          each = λ i l. ap (λ (u : List ℕ). knownAt u i) (g .kept t) ∙ w .each i l ∙ ap (λ (f : ℕ → Sized). f (rowAt rows i .key)) (fixed-above levels most fixed h);
+          each = λ i l. ap (λ (u : List ℕ). knownAt u i) (g .kept t) ∙ w .each i l ∙ ap (λ (f : ℕ → Said ℕ). f (rowAt rows i .key)) (fixed-above levels most fixed h);
         }
 
 -- ---- level after level

@@ -6,6 +6,7 @@ use mathlib.Core.List.{List, [], _∷_}
 use lib.ListN.{length}
 use lib.Seq.{sets}
 use Rattle.format.specs.Limits.{entryLimit}
+use Rattle.format.specs.Said.{Said, gives, _>>=_}
 use Rattle.format.specs.declared.settings.Settings.{Settings}
 use Rattle.blocks.specs.declared.types.Type.{«Type»}
 use Rattle.tables.specs.Row.{rowAt}
@@ -18,14 +19,11 @@ use Rattle.sizes.specs.Inside.Known.{knownWidth, knownAt}
 use Rattle.layout.specs.Layout.{layoutAt, laidWidth}
 use Rattle.sizes.specs.Size.{isStructure}
 use Rattle.layout.specs.All.{Structure, alsoIf, structureAt, structuresFrom, countsOf, structureWords, structureWidth, allMemberWords, memberCount}
-use Rattle.sizes.specs.declared.sized.Sized.{Sized}
-use Rattle.sizes.specs.declared.sized.Sized.the-variants.{Is, Refused}
-use Rattle.layout.specs.declared.one.LayoutWhole.{LayoutWhole}
-use Rattle.layout.specs.declared.one.LayoutWhole.the-variants as whole
+use Rattle.layout.specs.declared.one.Layout.{Layout}
 use Rattle.layout.specs.declared.all.LayoutCounts.{LayoutCounts}
 
 -- row i, if it is a structure
-unfoldable pub rowStructures : Settings → List ℕ → List ℕ → List ℕ → ℕ → («Type» → Sized) → ℕ → List Structure
+unfoldable pub rowStructures : Settings → List ℕ → List ℕ → List ℕ → ℕ → («Type» → Said ℕ) → ℕ → List Structure
 rowStructures settings s rows attrs n sizeOf i = alsoIf (isStructure (shapeOf (rowAt rows i .kind))) (structureAt settings s rows attrs n sizeOf i) []
 
 unfoldable pub eightWords : ℕ → ℕ → ℕ → ℕ → ℕ → ℕ → Name → List ℕ
@@ -51,11 +49,12 @@ pub record CountAsked (s rows : List ℕ) (n i : ℕ) (counts : LayoutCounts) : 
   pub few-members : counts .members ≤ i * entryLimit
 
 -- what a layout tells: its size, or its refusal
-unfoldable pub wholeTold : LayoutWhole → Sized
-wholeTold (whole.Is x) = Is (x .size)
-wholeTold (whole.Refused why) = Refused why
+unfoldable pub wholeTold : Said Layout → Said ℕ
+wholeTold d = do
+  x ← d
+  gives (x .size)
 
-module _ (settings : Settings) (s rows attrs : List ℕ) (n : ℕ) (sizeOf : «Type» → Sized) where
+module _ (settings : Settings) (s rows attrs : List ℕ) (n : ℕ) (sizeOf : «Type» → Said ℕ) where
   -- the structures among the first k of n rows have told
   pub record WholesTold (k : ℕ) (told : List ℕ) : Type 0 where
     pub fits : n * knownWidth ≤ length told

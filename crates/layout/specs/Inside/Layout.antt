@@ -9,6 +9,7 @@ use lib.Dec.{eqb}
 use Rattle.numbers.specs.declared.Endian.{Endian}
 use Rattle.format.specs.AttributeKind as attribute
 use Rattle.format.specs.TagKind as tag
+use Rattle.format.specs.Said.{Said, gives, refusal, _>>=_, _>>_}
 use Rattle.format.specs.declared.settings.Settings.{Settings}
 use Rattle.blocks.specs.declared.types.Type.{«Type»}
 use Rattle.tables.specs.Row.{rowAt}
@@ -18,16 +19,13 @@ use Rattle.records.specs.Member.{memberAt}
 use Rattle.records.specs.Scan.{runOf}
 use Rattle.records.specs.Fields.{nameOf}
 use Rattle.records.specs.MemberWords.{namePlace, nameLength}
-use Rattle.records.specs.declared.scan.Fault.{Fault}
-use Rattle.records.specs.declared.scan.Fault.the-variants as fault
-use Rattle.records.specs.declared.member.MemberRead.{MemberRead}
-use Rattle.records.specs.declared.member.MemberRead.the-variants as read
+use Rattle.records.specs.declared.member.Member.{Member}
 use Rattle.sizes.specs.Inside.Prepare.{structureFault}
-use Rattle.layout.specs.Layout.{Laid, Lay, laid, unlaid, layThen, endOr, laidFrom, laidWords, laidWidth}
-use Rattle.sizes.specs.declared.kept.Added.{Added}
-use Rattle.sizes.specs.declared.kept.Added.the-variants as added
-use Rattle.sizes.specs.declared.sized.Sized.{Sized}
+use Rattle.sizes.specs.Inside.Size.{Extent}
+use Rattle.layout.specs.Layout.{Laid, Lay, lay, endOr, laidFrom, laidWords, laidWidth}
+use Rattle.layout.specs.declared.one.Layout.{Layout}
 use Rattle.layout.specs.declared.one.LayoutWhole.{LayoutWhole}
+use Rattle.layout.specs.declared.one.LayoutWhole.the-variants as whole
 use Rattle.layout.specs.declared.one.Laying.{Laying}
 use Rattle.layout.specs.declared.one.Laying.the-variants as laying
 
@@ -41,15 +39,16 @@ laidAt e s rows attrs c offset size =
       length = nameLength (nameOf s attrs (runOf e rows c) attribute.Name);
     }
 
-module _ (e : Endian) (s rows attrs : List ℕ) (bounded : Bool) (largest c : ℕ) where
+module _ (e : Endian) (s rows attrs : List ℕ) (sized : Bool) (largest c : ℕ) where
   -- a member whose size is known
-  unfoldable pub sizedLaid : ℕ → ℕ → Lay
-  sizedLaid offset size =
-      layThen (λ next. laid (laidAt e s rows attrs c offset size ∷ []) next) (endOr bounded (rowAt rows c .key) largest (offset + size))
+  unfoldable pub sizedLaid : ℕ → ℕ → Said Lay
+  sizedLaid offset size = do
+    next ← endOr sized (rowAt rows c .key) largest (offset + size)
+    gives (lay (laidAt e s rows attrs c offset size ∷ []) next)
 
-  unfoldable pub addedLaid : Added → Lay
-  addedLaid (added.Is offset size) = sizedLaid offset size
-  addedLaid (added.Refused why) = unlaid why
+  -- what a member adds, laid
+  unfoldable pub addedLaid : Said Extent → Said Lay
+  addedLaid d = d >>= λ x. sizedLaid (x .offset) (x .size)
 
 -- a child, and a count that can grow
 pub record LayAsked (s rows : List ℕ) (n c count : ℕ) : Type 0 where
@@ -58,49 +57,70 @@ pub record LayAsked (s rows : List ℕ) (n c count : ℕ) : Type 0 where
 
 -- ---- children one at a time
 
--- what is laid, and what follows from the largest end on
-unfoldable pub layBefore : List Laid → Lay → Lay
-layBefore xs (laid ys largest) = laid (xs ++ ys) largest
-layBefore xs (unlaid why) = unlaid why
+-- what is laid, and what follows
+unfoldable pub layBefore : List Laid → Said Lay → Said Lay
+layBefore xs d = do
+  l ← d
+  gives (lay (xs ++ l .members) (l .largest))
 
-unfoldable pub layOn : (ℕ → Lay) → Lay → Lay
-layOn next (laid xs largest) = layBefore xs (next largest)
-layOn next (unlaid why) = unlaid why
+-- the same, what follows going on from the largest end
+unfoldable pub layOn : (ℕ → Said Lay) → Said Lay → Said Lay
+layOn next d = do
+  l ← d
+  layBefore (l .members) (next (l .largest))
 
-module _ (rows : List ℕ) (sizeOf : «Type» → Sized) (bounded : Bool) (largest c : ℕ) where
-  unfoldable pub readLaid : MemberRead → Lay
-  readLaid (read.Is m) = laidFrom rows sizeOf bounded largest (record { row = c; member = m } ∷ [])
-  readLaid (read.Refused why) = unlaid why
+module _ (rows : List ℕ) (sizeOf : «Type» → Said ℕ) (sized : Bool) (largest c : ℕ) where
+  -- a member that was read
+  unfoldable pub readLaid : Said Member → Said Lay
+  readLaid d = d >>= λ m. laidFrom rows sizeOf sized largest (record { row = c; member = m } ∷ [])
 
-module _ (settings : Settings) (s rows attrs : List ℕ) (n : ℕ) (sizeOf : «Type» → Sized) (bounded : Bool) where
-  unfoldable pub childLaid : ℕ → ℕ → Lay
+module _ (settings : Settings) (s rows attrs : List ℕ) (n : ℕ) (sizeOf : «Type» → Said ℕ) (sized : Bool) where
+  -- child c, if it is a Member
+  unfoldable pub childLaid : ℕ → ℕ → Said Lay
   childLaid largest c =
-      cond (eqb (rowAt rows c .kind) tag.Member) (readLaid rows sizeOf bounded largest c (memberAt settings s rows attrs n c)) (laid [] largest)
+      cond (eqb (rowAt rows c .kind) tag.Member) (readLaid rows sizeOf sized largest c (memberAt settings s rows attrs n c)) (gives (lay [] largest))
 
-  unfoldable pub childrenLaid : ℕ → List ℕ → Lay
-  childrenLaid largest [] = laid [] largest
+  -- children one after the other
+  unfoldable pub childrenLaid : ℕ → List ℕ → Said Lay
+  childrenLaid largest [] = gives (lay [] largest)
   childrenLaid largest (c ∷ cs) = layOn (λ next. childrenLaid next cs) (childLaid largest c)
 
-  unfoldable pub faultLaid : ℕ → Fault → Lay
-  faultLaid i fault.Clear = childrenLaid 0 (kidsOf (settings .endian) s rows attrs n i)
-  faultLaid i (fault.Refused why) = unlaid why
-
   -- all are read whole before any size is taken
-  unfoldable pub structureLaid : ℕ → Lay
-  structureLaid i = faultLaid i (structureFault settings s rows attrs n i)
+  unfoldable pub structureLaid : ℕ → Said Lay
+  structureLaid i = do
+    structureFault settings s rows attrs n i
+    childrenLaid 0 (kidsOf (settings .endian) s rows attrs n i)
 
 -- ---- what the code answers, after k others
 
-unfoldable pub layingOf : ℕ → Lay → Laying
-layingOf k (laid xs largest) = laying.Is (k + length xs) largest
-layingOf k (unlaid why) = laying.Refused why
+-- how many are laid, and their largest end
+pub record Progress : Type 0 where
+  pub count : ℕ
+  pub largest : ℕ
+
+-- what an answer says
+unfoldable pub saidLaying : Laying → Said Progress
+saidLaying (laying.Is count largest) = gives (record { count = count; largest = largest })
+saidLaying (laying.Refused why) = refusal why
+
+-- what a layout says, before any room is looked at
+unfoldable pub saidLayoutWhole : LayoutWhole → Said Layout
+saidLayoutWhole (whole.Is x) = gives x
+saidLayoutWhole (whole.Refused why) = refusal why
+
+-- what is laid after k others
+unfoldable pub layingOf : ℕ → Said Lay → Said Progress
+layingOf k d = do
+  l ← d
+  gives (record { count = k + length (l .members); largest = l .largest })
 
 -- of the room something is said only where there was no refusal
-pub record Lays (lay : Lay) (k : ℕ) (r : Laying) (room room′ : List ℕ) : Type 0 where
-  pub answer-is : r ≡ layingOf k lay
-  pub room-is : (xs : List Laid) (largest : ℕ) → lay ≡ laid xs largest → room′ ≡ sets room (k * laidWidth) (laidWords xs)
+pub record Lays (d : Said Lay) (k : ℕ) (r : Laying) (room room′ : List ℕ) : Type 0 where
+  pub answer-is : saidLaying r ≡ layingOf k d
+  pub room-is : (l : Lay) → d ≡ gives l → room′ ≡ sets room (k * laidWidth) (laidWords (l .members))
   pub same-room : length room′ ≡ length room
 
-pub record WholeLaid (answer : LayoutWhole) (lay : Lay) (r : LayoutWhole) (room room′ : List ℕ) : Type 0 where
-  pub answer-is : r ≡ answer
-  pub room-is : (xs : List Laid) (largest : ℕ) → lay ≡ laid xs largest → room′ ≡ sets room 0 (laidWords xs)
+-- the whole structure
+pub record WholeLaid (answer : Said Layout) (d : Said Lay) (r : LayoutWhole) (room room′ : List ℕ) : Type 0 where
+  pub answer-is : saidLayoutWhole r ≡ answer
+  pub room-is : (l : Lay) → d ≡ gives l → room′ ≡ sets room 0 (laidWords (l .members))

@@ -3,48 +3,45 @@ use Prim.Native.Nat.{ℕ, _*_, _≤_, _<_}
 use mathlib.Core.Path.{_≡_}
 use mathlib.Core.Bool.{Bool, true, not, cond}
 use lib.Dec.{eqb}
-use Rattle.format.specs.Refusal.{numberOf}
 use mathlib.Core.List.{List}
 use lib.ListN.{length, getD}
+use Rattle.format.specs.Said.{Said, gives, refuses, refuse}
 use Rattle.format.specs.declared.settings.Settings.{Settings}
 use Rattle.format.specs.declared.refusal.Reason.the-variants as reason
 use Rattle.tables.specs.Row.{rowAt}
-use Rattle.tables.specs.Tests.{refusedAt}
 use Rattle.sizes.specs.Size.{rowSize, entrySize}
 use Rattle.sizes.specs.Inside.Size.{TableReady, typeSizeFrom}
 use Rattle.sizes.specs.Inside.Known.{knownWidth, knownAt}
-use Rattle.sizes.specs.declared.sized.Sized.{Sized}
-use Rattle.sizes.specs.declared.sized.Sized.the-variants.{Is, Refused}
 
 -- the levels that a structure's members have left: one less than the limit
 abbrev pub deepest : ℕ
 deepest = 31
 
 -- row i where no level is left
-unfoldable pub lastLevel : List ℕ → ℕ → Sized
-lastLevel rows i = Refused (refusedAt (rowAt rows i .key) reason.Depth)
+unfoldable pub lastLevel : List ℕ → ℕ → Said ℕ
+lastLevel rows i = refuse reason.Depth (rowAt rows i .key)
 
 -- only a refusal for its depth can change with a level more
-unfoldable pub settled : Sized → Bool
-settled (Is size) = true
-settled (Refused why) = not (eqb (numberOf (why .reason)) 10)
+unfoldable pub settled : Said ℕ → Bool
+settled (gives size) = true
+settled (refuses number place counts) = not (eqb number 10)
 
 module _ (settings : Settings) (sizes s rows attrs : List ℕ) (n : ℕ) where
   -- row i: its known size if that is settled; else its size where the entries that it names have known sizes
-  unfoldable pub nextLevel : List ℕ → ℕ → Sized
+  unfoldable pub nextLevel : List ℕ → ℕ → Said ℕ
   nextLevel known i = cond (settled (knownAt known i)) (knownAt known i) (rowSize settings s rows attrs n (typeSizeFrom settings sizes s rows attrs n known 0) i)
 
   -- row i with so many levels left
-  unfoldable pub sizeLeft : ℕ → ℕ → Sized
+  unfoldable pub sizeLeft : ℕ → ℕ → Said ℕ
   sizeLeft levels i = entrySize settings sizes s rows attrs n levels (rowAt rows i .key)
 
 -- the first k of n rows are known
-pub record KnownUpTo (sizeAt : ℕ → Sized) (n k : ℕ) (known : List ℕ) : Type 0 where
+pub record KnownUpTo (sizeAt : ℕ → Said ℕ) (n k : ℕ) (known : List ℕ) : Type 0 where
   pub fits : n * knownWidth ≤ length known
   pub each : (i : ℕ) → i < k → knownAt known i ≡ sizeAt i
 
 -- and all of them are settled, if that is told
-pub record LevelFilled (sizeAt : ℕ → Sized) (n k : ℕ) (known : List ℕ) (all : Bool) : Type 0 where
+pub record LevelFilled (sizeAt : ℕ → Said ℕ) (n k : ℕ) (known : List ℕ) (all : Bool) : Type 0 where
   pub filled : KnownUpTo sizeAt n k known
   pub stay : all ≡ true → (i : ℕ) → i < k → settled (sizeAt i) ≡ true
 

@@ -1,7 +1,7 @@
 -- What is kept of a row says what the row says.
 use Prim.Native.Nat.{ℕ, _+_, _*_, _<_}
 use native.Mathlib.Omega.{arith}
-use mathlib.Core.Path.{_≡_, refl, sym, ap, _∙_, subst, fun-ext}
+use mathlib.Core.Path.{_≡_, refl, sym, ap, _∙_, fun-ext}
 use mathlib.Core.Bool.{Bool, true, false, cond}
 use mathlib.Core.List.{List, []}
 use lib.ListN.{length, getD}
@@ -10,6 +10,8 @@ use borrow.Author.Tests.{ne-eqb, eq-eqb}
 use Rattle.numbers.specs.declared.Endian.{Endian}
 use Rattle.format.specs.TagKind as tag
 use Rattle.format.specs.Refusal.{numberOf}
+use Rattle.format.specs.Said.{Said, gives, refuses, refuse, must, _>>=_, _>>_}
+use Rattle.format.proofs.Laws.Said.{case-said, goes-on, given-is, given-refused}
 use Rattle.format.specs.declared.settings.Settings.{Settings}
 use Rattle.format.specs.declared.refusal.Refusal.{Refusal}
 use Rattle.format.specs.Lookup.{indexOf}
@@ -20,26 +22,21 @@ use Rattle.blocks.specs.declared.types.TypeKind.{TypeKind}
 use Rattle.blocks.specs.declared.types.TypeKind.the-variants as kind
 use Rattle.tables.specs.Row.{rowAt}
 use Rattle.tables.specs.Find.{rowOfKey}
-use Rattle.tables.specs.Tests.{refusedAt}
+use Rattle.tables.specs.Keyed.{foundRow}
 use Rattle.tables.specs.declared.row.Row.{Row}
 use Rattle.tables.specs.declared.find.Found.{Found}
 use Rattle.tables.specs.declared.find.Found.the-variants as found
 use Rattle.links.specs.Links.{siblingRow}
+use Rattle.records.proofs.Laws.Taken.{by-case, test-passed, test-failed}
 use Rattle.records.specs.Member.{memberAt}
-use Rattle.records.specs.declared.scan.Fault.{Fault}
-use Rattle.records.specs.declared.scan.Fault.the-variants as fault
 use Rattle.records.specs.declared.fields.Word.{Word}
 use Rattle.records.specs.declared.fields.Word.the-variants as word
-use Rattle.records.specs.declared.member.MemberRead.{MemberRead}
-use Rattle.records.specs.declared.member.MemberRead.the-variants as read
-use Rattle.sizes.specs.Size.{fundamentalSize, kindSize, typeSizeBy, sizeOr, foundSize, shapeOf}
+use Rattle.records.specs.declared.member.Member.{Member}
+use Rattle.sizes.specs.Size.{saidSized, fundamentalSize, kindSize, typeSizeBy, sizeOr, shapeOf, isStructure}
 use Rattle.sizes.specs.Inside.Known.{knownAt}
-use Rattle.sizes.specs.Inside.Prepare.{readFault, memberFault, structureFault}
-use Rattle.sizes.specs.Inside.Size.{withSize, readAdded, memberAdded, knownFound, entrySizeFrom, typeSizeFrom}
-use Rattle.sizes.specs.Size.{isStructure}
+use Rattle.sizes.specs.Inside.Prepare.{memberFault, structureFault}
+use Rattle.sizes.specs.Inside.Size.{Extent, withSize, memberAdded, knownFound, entrySizeFrom, typeSizeFrom}
 use Rattle.sizes.specs.Inside.Kept.{rowNamed, sizeNamed, firstOf, secondOf, sizeKept, addedBy, addedKept, faultSize, sizeFault, faultKept, SiblingsKept, FaultsKept, AllKept, MemberAsked, StructureAsked}
-use Rattle.sizes.specs.declared.kept.Added.{Added}
-use Rattle.sizes.specs.declared.kept.Added.the-variants as added
 use Rattle.sizes.specs.declared.prepare.Shape.{Shape}
 use Rattle.sizes.specs.declared.prepare.Shape.the-variants as shape
 use Rattle.sizes.specs.declared.sized.Sized.{Sized}
@@ -47,84 +44,53 @@ use Rattle.sizes.specs.declared.sized.Sized.the-variants.{Is, Refused}
 
 -- ---- a size, an offset with it
 
-module _ (offset : ℕ) {told : Sized} where
-  pub with-is : {size : ℕ} → told ≡ Is size → added.Is offset size ≡ withSize offset told
-  unfolding withSize
-  with-is p = ap (withSize offset) (sym p)
-
-  pub with-refused : {why : Refusal} → told ≡ Refused why → added.Refused why ≡ withSize offset told
-  unfolding withSize
-  with-refused p = ap (withSize offset) (sym p)
-
 module _ (known : List ℕ) {told : Sized} where
-  pub size-given : {size : ℕ} → told ≡ Is size → Is size ≡ sizeKept known told
-  unfolding sizeKept
-  size-given p = ap (sizeKept known) (sym p)
+  size-as : {x : Sized} {z : Said ℕ} → told ≡ x → z ≡ sizeKept known (saidSized x) → z ≡ sizeKept known (saidSized told)
+  size-as p h = by-case (λ (x : Sized). sizeKept known (saidSized x)) p h
+
+  pub size-given : {size : ℕ} → told ≡ Is size → saidSized (Is size) ≡ sizeKept known (saidSized told)
+  unfolding sizeKept saidSized
+  size-given p = size-as p refl
 
   module _ {why : Refusal} (p : told ≡ Refused why) {number : ℕ} (is : number ≡ numberOf (why .reason)) where
-    pub size-known : number ≡ 10 → {r : Sized} → r ≡ knownAt known (why .place) → r ≡ sizeKept known told
-    unfolding sizeKept
-    size-known h q =
-        let test : eqb (numberOf (why .reason)) 10 ≡ true = eq-eqb (numberOf (why .reason)) 10 (sym is ∙ h) in
-        q ∙ sym (rw test) ∙ ap (sizeKept known) (sym p)
+    pub size-known : number ≡ 10 → {z : Said ℕ} → z ≡ knownAt known (why .place) → z ≡ sizeKept known (saidSized told)
+    unfolding sizeKept saidSized
+    size-known h q = size-as p (test-passed (ap (λ (k : ℕ). eqb k 10) is) _ (eq-eqb number 10 h) q)
 
-    pub size-refused : (number ≡ 10 → ⊥) → Refused why ≡ sizeKept known told
-    unfolding sizeKept
-    size-refused h =
-        let test : eqb (numberOf (why .reason)) 10 ≡ false = ne-eqb (numberOf (why .reason)) 10 (λ z. h (is ∙ z)) in
-        sym (rw test) ∙ ap (sizeKept known) (sym p)
+    pub size-refused : (number ≡ 10 → ⊥) → saidSized (Refused why) ≡ sizeKept known (saidSized told)
+    unfolding sizeKept saidSized
+    size-refused h = size-as p (test-failed (ap (λ (k : ℕ). eqb k 10) is) _ (ne-eqb number 10 h) refl)
 
-module _ (known kept : List ℕ) (c : ℕ) {first : Sized} (at : first ≡ knownAt kept (c * 3)) where
-  pub kept-offset : {offset : ℕ} {second size : Sized} {r : Added} → first ≡ Is offset → second ≡ knownAt kept (c * 3 + 1) → size ≡ sizeKept known second
-      → r ≡ withSize offset size → r ≡ addedKept known kept c
-  unfolding addedKept addedBy
-  kept-offset {offset} {second} p q h k =
-      k ∙ ap (withSize offset) (h ∙ ap (sizeKept known) q) ∙ ap (λ (x : Sized). addedBy known x (knownAt kept (c * 3 + 1))) (sym p ∙ at)
-
-  pub kept-refused : {why : Refusal} → first ≡ Refused why → added.Refused why ≡ addedKept known kept c
-  unfolding addedKept addedBy
-  kept-refused p = ap (λ (x : Sized). addedBy known x (knownAt kept (c * 3 + 1))) (sym p ∙ at)
-
-module _ (kept : List ℕ) (c : ℕ) {first : Sized} (at : first ≡ knownAt kept (c * 3)) where
-  pub fault-clear : {size : ℕ} → first ≡ Is size → fault.Clear ≡ faultKept kept c
-  unfolding faultKept sizeFault
-  fault-clear p = ap sizeFault (sym p ∙ at)
-
-  pub fault-refused : {why : Refusal} → first ≡ Refused why → fault.Refused why ≡ faultKept kept c
-  unfolding faultKept sizeFault
-  fault-refused p = ap sizeFault (sym p ∙ at)
+pub kept-offset : (known kept : List ℕ) (c : ℕ) {told : Sized} → saidSized told ≡ knownAt kept (c * 3) → {offset : ℕ} {second size : Said ℕ} {z : Said Extent}
+    → told ≡ Is offset → second ≡ knownAt kept (c * 3 + 1) → size ≡ sizeKept known second → z ≡ withSize offset size → z ≡ addedKept known kept c
+unfolding addedKept addedBy saidSized _>>=_
+kept-offset known kept c at {offset} p q h k = goes-on saidSized at p _ (k ∙ ap (withSize offset) (h ∙ ap (sizeKept known) q))
 
 -- ---- siblings
 
-abbrev isRow : ℕ → Sized → Type 0
-isRow r (Is size) = r ≡ size
-isRow r (Refused why) = ⊥
-
-abbrev isSize : Sized → Type 0
-isSize (Is size) = Unit
-isSize (Refused why) = ⊥
-
 module _ {e : Endian} {s rows attrs : List ℕ} {n : ℕ} {kept : List ℕ} (w : SiblingsKept e s rows attrs n kept) (c : ℕ) (l : c < n) (h : 0 < length kept)
-    {told : Sized} (at : told ≡ knownAt kept (c * 3 + 2)) where
+    {told : Sized} (at : saidSized told ≡ knownAt kept (c * 3 + 2)) where
   pub sibling-kept : {r : ℕ} → told ≡ Is r → r ≡ siblingRow e s rows attrs n c
-  sibling-kept {r} p = subst (isRow r) (sym p ∙ at ∙ w .sibling c l h) refl
+  unfolding saidSized
+  sibling-kept p = given-is (case-said saidSized at p ∙ w .sibling c l h)
 
   pub sibling-there : {why : Refusal} {r : ℕ} → told ≡ Refused why → r ≡ siblingRow e s rows attrs n c
-  sibling-there p = absurd (subst isSize (sym (w .sibling c l h) ∙ sym at ∙ p) tt)
+  unfolding saidSized
+  sibling-there p = absurd (given-refused (sym (case-said saidSized at p ∙ w .sibling c l h)))
 
 -- ---- members
 
 module _ (sizes rows : List ℕ) (n : ℕ) (known : List ℕ) where
-  abbrev entryKnown : ℕ → Sized
+  abbrev entryKnown : ℕ → Said ℕ
   entryKnown key = knownFound known key (rowOfKey rows n key)
 
-  found-kept : (key : ℕ) (f : Found) → sizeKept known (foundSize (λ i. Refused (refusedAt i reason.Depth)) key f) ≡ knownFound known key f
-  unfolding sizeKept foundSize knownFound numberOf
+  found-kept : (key : ℕ) (f : Found) → sizeKept known (foundRow key f >>= λ i. refuse reason.Depth i) ≡ knownFound known key f
+  unfolding sizeKept foundRow knownFound numberOf _>>=_
   found-kept key (found.At i) = refl
   found-kept key found.Nothing = refl
 
-  line-kept : (b : Bool) (size : ℕ) → sizeKept known (cond b (Is size) (Refused (refusedAt 0 reason.Number))) ≡ cond b (Is size) (Refused (refusedAt 0 reason.Number))
-  unfolding sizeKept numberOf
+  line-kept : (b : Bool) (size : ℕ) → sizeKept known (must b reason.Number 0 >> gives size) ≡ (must b reason.Number 0 >> gives size)
+  unfolding sizeKept numberOf must _>>_
   line-kept true size = refl
   line-kept false size = refl
 
@@ -133,11 +99,11 @@ module _ (sizes rows : List ℕ) (n : ℕ) (known : List ℕ) where
   fundamental-kept number = line-kept (ltb (indexOf number fundTypes) (length sizes)) (getD sizes (indexOf number fundTypes) 0)
 
   kind-kept : (k : TypeKind) → sizeKept known (kindSize sizes (rowNamed rows n) k) ≡ kindSize sizes entryKnown k
-  unfolding kindSize rowNamed sizeKept
+  unfolding kindSize rowNamed
   kind-kept (kind.Fundamental number) = fundamental-kept number
   kind-kept (kind.UserDefined key) = found-kept key (rowOfKey rows n key)
 
-  pointer-kept : (b : Bool) (k : TypeKind) → sizeKept known (cond b (Is 4) (kindSize sizes (rowNamed rows n) k)) ≡ cond b (Is 4) (kindSize sizes entryKnown k)
+  pointer-kept : (b : Bool) (k : TypeKind) → sizeKept known (cond b (gives 4) (kindSize sizes (rowNamed rows n) k)) ≡ cond b (gives 4) (kindSize sizes entryKnown k)
   unfolding sizeKept
   pointer-kept true k = refl
   pointer-kept false k = kind-kept k
@@ -147,10 +113,14 @@ module _ (sizes rows : List ℕ) (n : ℕ) (known : List ℕ) where
   or-kept t (word.Is size) = refl
   or-kept t word.Nothing = pointer-kept (t .pointer) (t .kind)
 
-  read-kept : (m : MemberRead) → addedBy known (firstOf m) (secondOf sizes rows n m) ≡ readAdded (typeSizeBy sizes entryKnown) m
-  unfolding addedBy firstOf secondOf sizeNamed readAdded
-  read-kept (read.Is m) = ap (withSize (m .offset)) (or-kept (m .of) (m .«byte_size»))
-  read-kept (read.Refused why) = refl
+  -- what a member that was read adds
+  abbrev addedOf : (ℕ → Said ℕ) → Member → Said Extent
+  addedOf entry m = withSize (m .offset) (sizeOr (typeSizeBy sizes entry) (m .of) (m .«byte_size»))
+
+  read-kept : (d : Said Member) → addedBy known (firstOf d) (secondOf sizes rows n d) ≡ (d >>= addedOf entryKnown)
+  unfolding addedBy firstOf secondOf sizeNamed _>>=_
+  read-kept (gives m) = ap (withSize (m .offset)) (or-kept (m .of) (m .«byte_size»))
+  read-kept (refuses number place counts) = refl
 
 module _ {settings : Settings} {sizes s rows attrs : List ℕ} {n : ℕ} {known kept : List ℕ} {c : ℕ} (w : MemberAsked settings sizes s rows attrs n known kept c)
     (h : 0 < length kept) where
@@ -165,38 +135,37 @@ module _ {settings : Settings} {sizes s rows attrs : List ℕ} {n : ℕ} {known 
       fun-ext (λ key. sym (rw test))
 
   -- the member that is kept is the member at row c
-  pub member-kept : (levels : ℕ) {r : Added} → r ≡ addedKept known kept c
-      → r ≡ memberAdded settings s rows attrs n (typeSizeFrom settings sizes s rows attrs n known levels) c
+  pub member-kept : (levels : ℕ) {z : Said Extent} → z ≡ addedKept known kept c
+      → z ≡ memberAdded settings s rows attrs n (typeSizeFrom settings sizes s rows attrs n known levels) c
   unfolding addedKept memberAdded typeSizeFrom
   member-kept levels p =
       p
-      ∙ ap (λ (x : Sized). addedBy known x (knownAt kept (c * 3 + 1))) (w .all-kept .parts .rows-kept .faults .first c (w .asked .asked .there) h (w .is-member))
+      ∙ ap (λ (x : Said ℕ). addedBy known x (knownAt kept (c * 3 + 1))) (w .all-kept .parts .rows-kept .faults .first c (w .asked .asked .there) h (w .is-member))
       ∙ ap (addedBy known (firstOf (memberAt settings s rows attrs n c))) (w .all-kept .parts .second c (w .asked .asked .there) h (w .is-member))
       ∙ read-kept sizes rows n known (memberAt settings s rows attrs n c)
-      ∙ ap (λ (f : ℕ → Sized). readAdded (typeSizeBy sizes f) (memberAt settings s rows attrs n c)) (entry-known levels)
+      ∙ ap (λ (entry : ℕ → Said ℕ). memberAt settings s rows attrs n c >>= addedOf sizes rows n known entry) (entry-known levels)
 
 -- ---- faults
 
-read-fault : (m : MemberRead) → sizeFault (firstOf m) ≡ readFault m
-unfolding sizeFault firstOf readFault
-read-fault (read.Is m) = refl
-read-fault (read.Refused why) = refl
+read-fault : (d : Said Member) → sizeFault (firstOf d) ≡ (d >> gives tt)
+unfolding sizeFault firstOf _>>=_ _>>_
+read-fault (gives m) = refl
+read-fault (refuses number place counts) = refl
 
-same-fault : (f : Fault) → sizeFault (faultSize f) ≡ f
-unfolding sizeFault faultSize
-same-fault fault.Clear = refl
-same-fault (fault.Refused why) = refl
+same-fault : (d : Said Unit) → sizeFault (faultSize d) ≡ d
+unfolding sizeFault faultSize _>>_
+same-fault (gives x) = refl
+same-fault (refuses number place counts) = refl
 
 module _ {settings : Settings} {s rows attrs : List ℕ} {n : ℕ} {kept : List ℕ} (h : 0 < length kept) where
   pub member-fault-kept : FaultsKept settings s rows attrs n kept → (c : ℕ) → c < n → {row : Row} → row ≡ rowAt rows c → row .kind ≡ tag.Member
-      → {r : Fault} → r ≡ faultKept kept c → r ≡ memberFault settings s rows attrs n c
+      → {z : Said Unit} → z ≡ faultKept kept c → z ≡ memberFault settings s rows attrs n c
   unfolding faultKept memberFault
-  member-fault-kept w c l at k p =
-      let member : rowAt rows c .kind ≡ tag.Member = ap (λ (x : Row). x .kind) (sym at) ∙ k in
-      let test : eqb (rowAt rows c .kind) tag.Member ≡ true = eq-eqb (rowAt rows c .kind) tag.Member member in
-      p ∙ ap sizeFault (w .first c l h member) ∙ read-fault (memberAt settings s rows attrs n c) ∙ sym (rw test)
+  member-fault-kept w c l {row} at k p =
+      test-passed (ap (λ (x : Row). eqb (x .kind) tag.Member) at) _ (eq-eqb (row .kind) tag.Member k)
+      (p ∙ ap sizeFault (w .first c l h (ap (λ (x : Row). x .kind) (sym at) ∙ k)) ∙ read-fault (memberAt settings s rows attrs n c))
 
-  pub structure-fault-kept : {i : ℕ} → StructureAsked settings s rows attrs n kept i → {r : Fault} → r ≡ faultKept kept i → r ≡ structureFault settings s rows attrs n i
+  pub structure-fault-kept : {i : ℕ} → StructureAsked settings s rows attrs n kept i → {z : Said Unit} → z ≡ faultKept kept i → z ≡ structureFault settings s rows attrs n i
   unfolding faultKept
   structure-fault-kept {i} w p =
       p ∙ ap sizeFault (w .kept-rows .structure i (w .asked .there) h (w .is-structure)) ∙ same-fault (structureFault settings s rows attrs n i)

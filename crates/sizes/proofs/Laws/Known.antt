@@ -13,16 +13,17 @@ use lib.Dec.{eqb}
 use borrow.Author.Tests.{eq-eqb, ne-eqb}
 use Rattle.format.specs.Refusal.{numberOf, reasonOf}
 use Rattle.format.proofs.Laws.Refusal.{reason-of-number, number-some}
+use Rattle.format.specs.Said.{Said, gives, refuse, refusal}
 use Rattle.format.specs.declared.refusal.Refusal.{Refusal}
 use Rattle.format.specs.declared.refusal.Reason.{Reason}
 use Rattle.lent.proofs.Laws.Stores.{sets-before, sets-after, sets-back}
+use Rattle.sizes.specs.Size.{saidSized}
 use Rattle.sizes.specs.Inside.Known.{knownWidth, knownAt, PutKnown}
 use Rattle.sizes.specs.declared.sized.Sized.{Sized}
-use Rattle.sizes.specs.declared.sized.Sized.the-variants.{Is, Refused}
 
 module _ (known : List ℕ) (i : ℕ) where
   -- past the end a size is 0
-  pub known-past : length known ≤ i → Is 0 ≡ knownAt known i
+  pub known-past : length known ≤ i → gives 0 ≡ knownAt known i
   unfolding knownAt
   known-past h =
       let none : getD known (i * 3) 0 ≡ 0 = List·getD-eq-default known 0 (omega arith) in
@@ -30,18 +31,18 @@ module _ (known : List ℕ) (i : ℕ) where
       rw (none, size)
 
   module _ {number : ℕ} (is : number ≡ getD known (i * 3) 0) where
-    pub known-size : number ≡ 0 → {size : ℕ} → size ≡ getD known (i * 3 + 1) 0 → Is (size % 4294967296) ≡ knownAt known i
+    pub known-size : number ≡ 0 → {size : ℕ} → size ≡ getD known (i * 3 + 1) 0 → gives (size % 4294967296) ≡ knownAt known i
     unfolding knownAt
     known-size h {size} p =
         let test : eqb (getD known (i * 3) 0) 0 ≡ true = eq-eqb (getD known (i * 3) 0) 0 (sym is ∙ h) in
-        rw test (ap (λ (x : ℕ). Is (x % 4294967296)) p)
+        rw test (ap (λ (x : ℕ). gives (x % 4294967296)) p)
 
     pub known-refused : (number ≡ 0 → ⊥) → {why : Reason} {place : ℕ} → why ≡ reasonOf (number % 4294967296) → place ≡ getD known (i * 3 + 2) 0
-        → Refused (record { reason = why; place = place }) ≡ knownAt known i
+        → refuse why place ≡ knownAt known i
     unfolding knownAt
     known-refused h p q =
         let test : eqb (getD known (i * 3) 0) 0 ≡ false = ne-eqb (getD known (i * 3) 0) 0 (λ z. h (is ∙ z)) in
-        rw test (ap₂ (λ (why : Reason) (place : ℕ). Refused (record { reason = why; place = place })) (p ∙ ap (λ (x : ℕ). reasonOf (x % 4294967296)) is) q)
+        rw test (ap₂ (λ (why : Reason) (place : ℕ). refuse why place) (p ∙ ap (λ (x : ℕ). reasonOf (x % 4294967296)) is) q)
 
 -- ---- the words of a size
 
@@ -78,20 +79,20 @@ module _ (known : List ℕ) {known′ : List ℕ} (i a b d : ℕ) (fits : i * kn
             (word-other (j * 3 + 2) (inr (omega arith)))
       ]
 
-  put-as : {size : Sized} → knownAt known′ i ≡ size → PutKnown i size known known′
+  put-as : {size : Said ℕ} → knownAt known′ i ≡ size → PutKnown i size known known′
   put-as q = record { here = q; others = row-other; same-long = ap length p ∙ length-sets known (i * 3) (a ∷ b ∷ d ∷ []) }
 
 pub put-size : (known : List ℕ) {known′ : List ℕ} (i size : ℕ) → i * knownWidth + knownWidth ≤ length known → size < 4294967296
-    → known′ ≡ sets known (i * knownWidth) (0 ∷ size ∷ 0 ∷ []) → PutKnown i (Is size) known known′
+    → known′ ≡ sets known (i * knownWidth) (0 ∷ size ∷ 0 ∷ []) → PutKnown i (gives size) known known′
 unfolding knownAt
 put-size known {known′} i size fits small p =
     let none : getD known′ (i * 3) 0 ≡ 0 = first-word known i 0 size 0 fits p in
     let one : getD known′ (i * 3 + 1) 0 ≡ size = back known i 0 size 0 fits p 1 (omega arith) in
     let less : size % 4294967296 ≡ size = omega arith in
-    put-as known i 0 size 0 fits p (rw (none, one) (ap Is less))
+    put-as known i 0 size 0 fits p (rw (none, one) (ap gives less))
 
 pub put-refusal : (known : List ℕ) {known′ : List ℕ} (i number : ℕ) (why : Refusal) → i * knownWidth + knownWidth ≤ length known → number ≡ numberOf (why .reason)
-    → known′ ≡ sets known (i * knownWidth) (number ∷ 0 ∷ why .place ∷ []) → PutKnown i (Refused why) known known′
+    → known′ ≡ sets known (i * knownWidth) (number ∷ 0 ∷ why .place ∷ []) → PutKnown i (refusal why) known known′
 unfolding knownAt
 put-refusal known {known′} i number why fits is p =
     let some : (0 < numberOf (why .reason)) × (numberOf (why .reason) ≤ 20) = number-some (why .reason) in
@@ -103,5 +104,6 @@ put-refusal known {known′} i number why fits is p =
     let less : number % 4294967296 ≡ numberOf (why .reason) = omega arith in
     put-as known i number 0 (why .place) fits p (rw (head, test, last, less, reason-of-number (why .reason)))
 
-pub put-same : {i : ℕ} {size size′ : Sized} {known known′ : List ℕ} → size ≡ size′ → PutKnown i size′ known known′ → PutKnown i size known known′
-put-same {i} {size} {size′} {known} {known′} p g = subst (λ (x : Sized). PutKnown i x known known′) (sym p) g
+pub put-same : {i : ℕ} {size size′ : Sized} {known known′ : List ℕ} → size ≡ size′ → PutKnown i (saidSized size′) known known′
+    → PutKnown i (saidSized size) known known′
+put-same {i} {size} {size′} {known} {known′} p g = subst (λ (x : Sized). PutKnown i (saidSized x) known known′) (sym p) g

@@ -7,23 +7,21 @@ use mathlib.Core.Bool.{false}
 use mathlib.Core.List.{List}
 use lib.ListN.{length, take, drop, length-drop}
 use lib.Seq.{take-all}
-use lib.Dec.{eqb, leb}
+use lib.Dec.{eqb}
 use lib.Pow.{pow-pos}
 use borrow.Author.Tests.{eq-eqb, ne-eqb, le-leb, lt-leb}
-use Rattle.numbers.proofs.Laws.Tests.{cond-map}
 use Rattle.numbers.specs.declared.Endian.{Endian}
+use Rattle.format.specs.Said.{Said, gives, refusal, placed, _>>=_}
+use Rattle.format.proofs.Laws.Said.{case-said, must-passed, must-failed}
 use Rattle.format.specs.declared.refusal.Refusal.{Refusal}
 use Rattle.format.specs.declared.refusal.Reason.the-variants as reason
-use Rattle.blocks.specs.Subscript.{nextSubscript}
-use Rattle.blocks.specs.Subscript.{UsesInside}
+use Rattle.blocks.specs.Subscript.{Part, saidSubscript, nextSubscript, UsesInside}
 use Rattle.blocks.proofs.Laws.Subscript.{used-inside}
 use Rattle.blocks.specs.declared.types.Type.{«Type»}
 use Rattle.blocks.specs.declared.subscript.Subscript.{Subscript}
 use Rattle.blocks.specs.declared.subscript.Subscript.the-variants as subscript
-use Rattle.tables.specs.Tests.{refusedAt}
-use Rattle.records.proofs.Laws.Taken.{test-passed, test-failed}
-use Rattle.sizes.specs.Size.{sizeLimit, sizeThen, times, subscriptThen, productFrom, productOf}
-use Rattle.sizes.specs.Inside.Prepare.{timesOf}
+use Rattle.tables.specs.Inside.Keyed.{refusedAt}
+use Rattle.sizes.specs.Size.{sizeLimit, saidSized, times, partThen, productFrom, productOf}
 use Rattle.sizes.specs.declared.sized.Sized.{Sized}
 use Rattle.sizes.specs.declared.sized.Sized.the-variants.{Is, Refused}
 
@@ -34,31 +32,27 @@ pub product-fits : {a b : ℕ} → a < 2 ^ 32 → b < 2 ^ 32 → a * b < 2 ^ 64
 product-fits {a} p q = lt-of-le-of-lt (mul-le-mul-left a (le-of-lt q)) (mul-lt-mul-of-pos-right p (pow-pos 32))
 
 module _ (key size many : ℕ) where
-  pub times-is : size * many ≤ sizeLimit → Is (size * many) ≡ timesOf key size many
-  unfolding timesOf
-  times-is h = test-passed refl _ (le-leb (size * many) sizeLimit h) refl
+  pub times-is : size * many ≤ sizeLimit → gives (size * many) ≡ times key size many
+  unfolding times
+  times-is h = must-passed refl reason.Big key _ (le-leb (size * many) sizeLimit h) refl
 
-  pub times-big : {why : Refusal} → sizeLimit < size * many → why ≡ refusedAt key reason.Big → Refused why ≡ timesOf key size many
-  unfolding timesOf
-  times-big h p = test-failed refl _ (lt-leb (size * many) sizeLimit h) (ap Refused p)
-
-  -- a running product is a product and what follows it
-  times-then : (next : ℕ → Sized) → sizeThen next (timesOf key size many) ≡ times key next size many
-  unfolding sizeThen timesOf times
-  times-then next = cond-map (sizeThen next) (leb (size * many) sizeLimit) (Is (size * many)) (Refused (refusedAt key reason.Big))
+  pub times-big : {why : Refusal} → sizeLimit < size * many → why ≡ refusedAt key reason.Big → refusal why ≡ times key size many
+  unfolding times
+  times-big h p = must-failed refl reason.Big key _ (lt-leb (size * many) sizeLimit h) (ap refusal p)
 
 -- ---- a turn of the walk
 
 module _ (e : Endian) (key size : ℕ) (block : List ℕ) where
   -- at the end nothing is read
-  at-end : (turns : ℕ) → length block ≡ 0 → productFrom e key turns size block ≡ Is size
+  at-end : (turns : ℕ) → length block ≡ 0 → productFrom e key turns size block ≡ gives size
   unfolding productFrom
   at-end zero h = refl
   at-end (suc turns) h = rw (eq-eqb (length block) 0 h, productFrom)
 
   -- before it, one subscript and then the rest
   one-turn : (turns : ℕ) → 0 < length block → length block ≤ turns
-      → productFrom e key turns size block ≡ subscriptThen e key (λ used product. productFrom e key (turns - 1) product (drop used block)) size (nextSubscript e block)
+      → productFrom e key turns size block
+      ≡ (placed key (nextSubscript e block) >>= partThen e key (λ used product. productFrom e key (turns - 1) product (drop used block)) size)
   unfolding productFrom
   one-turn zero h k = absurd (omega arith)
   one-turn (suc turns) h k =
@@ -77,70 +71,80 @@ unfolding productOf
 begin e key block element = record { turns = length block; enough = le-refl (length block); left = refl }
 
 module _ {e : Endian} {key : ℕ} {block : List ℕ} {element : ℕ} {rest : List ℕ} {size : ℕ} (l : Left e key block element rest size) where
-  pub product-done : length rest ≤ 0 → Is size ≡ productOf e key block element
+  pub product-done : length rest ≤ 0 → gives size ≡ productOf e key block element
   product-done h = sym (at-end e key size rest (l .turns) (omega arith)) ∙ l .left
 
-  module _ (more : 0 < length rest) {told : Subscript} (is : told ≡ nextSubscript e rest) where
-    -- the rest as a part that is handed on
-    abbrev after : ℕ → List ℕ
-    after used = take (length rest - used) (drop used rest)
+  -- the rest as a part that is handed on
+  abbrev after : ℕ → List ℕ
+  after used = take (length rest - used) (drop used rest)
 
-    is-after : (used : ℕ) → drop used rest ≡ after used
-    is-after used = sym (take-all (length rest - used) (drop used rest) (omega (arith, length-drop used rest)))
+  is-after : (used : ℕ) → drop used rest ≡ after used
+  is-after used = sym (take-all (length rest - used) (drop used rest) (omega (arith, length-drop used rest)))
 
-    abbrev goesOn : ℕ → ℕ → Sized
-    goesOn used product = productFrom e key (l .turns - 1) product (drop used rest)
+  abbrev goesOn : ℕ → ℕ → Said ℕ
+  goesOn used product = productFrom e key (l .turns - 1) product (drop used rest)
 
-    turned : {r : Subscript} → told ≡ r → subscriptThen e key goesOn size r ≡ productOf e key block element
-    turned p = sym (one-turn e key size rest (l .turns) more (l .enough) ∙ ap (subscriptThen e key goesOn size) (sym is ∙ p)) ∙ l .left
+  shorter : {used : ℕ} → (1 ≤ used) × (used ≤ length rest) → length (drop used rest) < length rest
+  shorter {used} h = omega (arith, h .0, h .1, length-drop used rest)
 
-    inside : {r : Subscript} → told ≡ r → UsesInside rest r
-    inside p = used-inside e rest (sym is ∙ p)
+  less : {used : ℕ} → (1 ≤ used) × (used ≤ length rest) → length (after used) < length rest
+  less {used} h = subst (λ (u : List ℕ). length u < length rest) (is-after used) (shorter h)
 
-    shorter : {used : ℕ} → (1 ≤ used) × (used ≤ length rest) → length (drop used rest) < length rest
-    shorter {used} h = omega (arith, h .0, h .1, length-drop used rest)
+  again : {used product : ℕ} → (1 ≤ used) × (used ≤ length rest) → goesOn used product ≡ productOf e key block element
+      → Left e key block element (after used) product
+  again {used} {product} h p =
+      let fewer : length (drop used rest) < length rest = shorter h in
+      subst (λ (u : List ℕ). Left e key block element u product) (is-after used)
+      (record { turns = l .turns - 1; enough = omega (arith, l .enough); left = p })
 
-    less : {used : ℕ} → (1 ≤ used) × (used ≤ length rest) → length (after used) < length rest
-    less {used} h = subst (λ (u : List ℕ). length u < length rest) (is-after used) (shorter h)
+  module _ (more : 0 < length rest) {told : Subscript} (is : saidSubscript told ≡ nextSubscript e rest) where
+    turned : {r : Subscript} → told ≡ r → (placed key (saidSubscript r) >>= partThen e key goesOn size) ≡ productOf e key block element
+    turned p =
+        ap (λ (d : Said Part). placed key d >>= partThen e key goesOn size) (case-said saidSubscript is p)
+        ∙ sym (one-turn e key size rest (l .turns) more (l .enough)) ∙ l .left
 
-    again : {used product : ℕ} → (1 ≤ used) × (used ≤ length rest) → goesOn used product ≡ productOf e key block element
-        → Left e key block element (after used) product
-    again {used} {product} h p =
-        let fewer : length (drop used rest) < length rest = shorter h in
-        subst (λ (u : List ℕ). Left e key block element u product) (is-after used)
-        (record { turns = l .turns - 1; enough = omega (arith, l .enough); left = p })
+    inside : {r : Subscript} {part : Part} → told ≡ r → saidSubscript r ≡ gives part → UsesInside rest part
+    inside p q = used-inside e rest (sym (case-said saidSubscript is p) ∙ q)
 
     module _ {index many used : ℕ} (p : told ≡ subscript.Dimension index many used) where
+      dimension-used : (1 ≤ used) × (used ≤ length rest)
+      unfolding saidSubscript
+      dimension-used = inside p refl
+
       pub dimension-inside : used ≤ length rest
-      dimension-inside = inside p .1
+      dimension-inside = dimension-used .1
 
       pub dimension-less : length (after used) < length rest
-      dimension-less = less (inside p)
+      dimension-less = less dimension-used
 
-      module _ {sized : Sized} (q : sized ≡ timesOf key size many) where
-        multiplied : {r : Sized} → sized ≡ r → sizeThen (goesOn used) r ≡ productOf e key block element
-        unfolding subscriptThen
-        multiplied h = ap (sizeThen (goesOn used)) (sym h ∙ q) ∙ times-then key size many (goesOn used) ∙ turned p
+      module _ {sized : Sized} (q : saidSized sized ≡ times key size many) where
+        multiplied : {r : Sized} → sized ≡ r → (saidSized r >>= goesOn used) ≡ productOf e key block element
+        unfolding saidSubscript placed partThen _>>=_
+        multiplied h = ap (λ (d : Said ℕ). d >>= goesOn used) (case-said saidSized q h) ∙ turned p
 
         pub again-dimension : {product : ℕ} → sized ≡ Is product → Left e key block element (after used) product
-        unfolding sizeThen
-        again-dimension h = again (inside p) (multiplied h)
+        unfolding saidSized _>>=_
+        again-dimension h = again dimension-used (multiplied h)
 
-        pub product-big : {why : Refusal} → sized ≡ Refused why → Refused why ≡ productOf e key block element
-        unfolding sizeThen
+        pub product-big : {why : Refusal} → sized ≡ Refused why → refusal why ≡ productOf e key block element
+        unfolding saidSized _>>=_
         product-big h = multiplied h
 
     module _ {t : «Type»} {used : ℕ} (p : told ≡ subscript.Element t used) where
+      element-used : (1 ≤ used) × (used ≤ length rest)
+      unfolding saidSubscript
+      element-used = inside p refl
+
       pub element-inside : used ≤ length rest
-      element-inside = inside p .1
+      element-inside = element-used .1
 
       pub element-less : length (after used) < length rest
-      element-less = less (inside p)
+      element-less = less element-used
 
       pub again-element : Left e key block element (after used) size
-      unfolding subscriptThen
-      again-element = again (inside p) (turned p)
+      unfolding saidSubscript placed partThen _>>=_
+      again-element = again element-used (turned p)
 
-    pub product-refused : {why why′ : Refusal} → told ≡ subscript.Refused why → why′ ≡ refusedAt key (why .reason) → Refused why′ ≡ productOf e key block element
-    unfolding subscriptThen
-    product-refused p q = ap Refused q ∙ turned p
+    pub product-refused : {why why′ : Refusal} → told ≡ subscript.Refused why → why′ ≡ refusedAt key (why .reason) → refusal why′ ≡ productOf e key block element
+    unfolding saidSubscript placed _>>=_
+    product-refused p q = ap refusal q ∙ turned p

@@ -7,31 +7,23 @@ use lib.ListN.{length}
 use lib.Dec.{eqb}
 use Rattle.numbers.specs.declared.Endian.{Endian}
 use Rattle.format.specs.TagKind as tag
-use Rattle.format.specs.Refusal.{numberOf}
+use Rattle.format.specs.Said.{Said, gives, refuses, refuse, _>>=_, _>>_}
 use Rattle.format.specs.declared.settings.Settings.{Settings}
 use Rattle.format.specs.declared.refusal.Reason.the-variants as reason
 use Rattle.tables.specs.Row.{rowAt}
 use Rattle.tables.specs.Find.{rowOfKey}
-use Rattle.tables.specs.Tests.{refusedAt}
+use Rattle.tables.specs.Keyed.{foundRow}
 use Rattle.links.specs.Links.{siblingRow}
 use Rattle.links.specs.Inside.Links.{Rows}
 use Rattle.links.specs.Inside.Children.{Asked}
 use Rattle.records.specs.Inside.Enumeration.{AskedShort}
 use Rattle.records.specs.Member.{memberAt}
-use Rattle.records.specs.declared.scan.Fault.{Fault}
-use Rattle.records.specs.declared.scan.Fault.the-variants as fault
 use Rattle.records.specs.declared.member.Member.{Member}
-use Rattle.records.specs.declared.member.MemberRead.{MemberRead}
-use Rattle.records.specs.declared.member.MemberRead.the-variants as read
-use Rattle.sizes.specs.Size.{typeSizeBy, sizeOr, foundSize, shapeOf}
+use Rattle.sizes.specs.Size.{typeSizeBy, sizeOr, shapeOf}
 use Rattle.sizes.specs.Inside.Known.{knownAt}
 use Rattle.sizes.specs.Inside.Prepare.{structureFault}
-use Rattle.sizes.specs.Inside.Size.{withSize}
+use Rattle.sizes.specs.Inside.Size.{Extent, withSize}
 use Rattle.sizes.specs.Size.{isStructure}
-use Rattle.sizes.specs.declared.kept.Added.{Added}
-use Rattle.sizes.specs.declared.kept.Added.the-variants as added
-use Rattle.sizes.specs.declared.sized.Sized.{Sized}
-use Rattle.sizes.specs.declared.sized.Sized.the-variants.{Is, Refused}
 
 -- the words of a row
 abbrev pub keptWidth : ℕ
@@ -40,49 +32,57 @@ keptWidth = 9
 -- ---- a member: its offset, or why it is refused; its size, or the row of the entry that has it
 
 -- the row of the entry that has a key, told as 10 at it; 11 where there is none
-unfoldable pub rowNamed : List ℕ → ℕ → ℕ → Sized
-rowNamed rows n key = foundSize (λ i. Refused (refusedAt i reason.Depth)) key (rowOfKey rows n key)
+unfoldable pub rowNamed : List ℕ → ℕ → ℕ → Said ℕ
+rowNamed rows n key = foundRow key (rowOfKey rows n key) >>= λ i. refuse reason.Depth i
 
-unfoldable pub sizeNamed : List ℕ → List ℕ → ℕ → Member → Sized
+-- a member's size, or the row of the entry that has it
+unfoldable pub sizeNamed : List ℕ → List ℕ → ℕ → Member → Said ℕ
 sizeNamed sizes rows n m = sizeOr (typeSizeBy sizes (rowNamed rows n)) (m .of) (m .«byte_size»)
 
-unfoldable pub firstOf : MemberRead → Sized
-firstOf (read.Is m) = Is (m .offset)
-firstOf (read.Refused why) = Refused why
+-- the first answer: the offset
+unfoldable pub firstOf : Said Member → Said ℕ
+firstOf d = do
+  m ← d
+  gives (m .offset)
 
-unfoldable pub secondOf : List ℕ → List ℕ → ℕ → MemberRead → Sized
-secondOf sizes rows n (read.Is m) = sizeNamed sizes rows n m
-secondOf sizes rows n (read.Refused why) = Is 0
+-- the second: the size
+unfoldable pub secondOf : List ℕ → List ℕ → ℕ → Said Member → Said ℕ
+secondOf sizes rows n (gives m) = sizeNamed sizes rows n m
+secondOf sizes rows n (refuses number place counts) = gives 0
 
 -- and back, with known sizes
-unfoldable pub sizeKept : List ℕ → Sized → Sized
-sizeKept known (Is size) = Is size
-sizeKept known (Refused why) = cond (eqb (numberOf (why .reason)) 10) (knownAt known (why .place)) (Refused why)
+unfoldable pub sizeKept : List ℕ → Said ℕ → Said ℕ
+sizeKept known (gives size) = gives size
+sizeKept known (refuses number place counts) = cond (eqb number 10) (knownAt known place) (refuses number place counts)
 
-unfoldable pub addedBy : List ℕ → Sized → Sized → Added
-addedBy known (Is offset) second = withSize offset (sizeKept known second)
-addedBy known (Refused why) second = added.Refused why
+-- both answers together
+unfoldable pub addedBy : List ℕ → Said ℕ → Said ℕ → Said Extent
+addedBy known first second = do
+  offset ← first
+  withSize offset (sizeKept known second)
 
-unfoldable pub addedKept : List ℕ → List ℕ → ℕ → Added
+-- those that are kept of row c
+unfoldable pub addedKept : List ℕ → List ℕ → ℕ → Said Extent
 addedKept known kept c = addedBy known (knownAt kept (c * 3)) (knownAt kept (c * 3 + 1))
 
 -- ---- a fault, a structure's or a member's
 
-unfoldable pub faultSize : Fault → Sized
-faultSize fault.Clear = Is 0
-faultSize (fault.Refused why) = Refused why
+-- as a size
+unfoldable pub faultSize : Said Unit → Said ℕ
+faultSize d = d >> gives 0
 
-unfoldable pub sizeFault : Sized → Fault
-sizeFault (Is size) = fault.Clear
-sizeFault (Refused why) = fault.Refused why
+-- and back
+unfoldable pub sizeFault : Said ℕ → Said Unit
+sizeFault d = d >> gives tt
 
-unfoldable pub faultKept : List ℕ → ℕ → Fault
+-- the one that is kept of row c
+unfoldable pub faultKept : List ℕ → ℕ → Said Unit
 faultKept kept c = sizeFault (knownAt kept (c * 3))
 
 -- ---- what is kept of all rows
 
 pub record SiblingsKept (e : Endian) (s rows attrs : List ℕ) (n : ℕ) (kept : List ℕ) : Type 0 where
-  pub sibling : (c : ℕ) → c < n → 0 < length kept → knownAt kept (c * 3 + 2) ≡ Is (siblingRow e s rows attrs n c)
+  pub sibling : (c : ℕ) → c < n → 0 < length kept → knownAt kept (c * 3 + 2) ≡ gives (siblingRow e s rows attrs n c)
 
 module _ (settings : Settings) (s rows attrs : List ℕ) (n : ℕ) (kept : List ℕ) where
   -- siblings, and members' faults
@@ -144,7 +144,7 @@ pub record FaultAsked (settings : Settings) (s rows attrs : List ℕ) (n : ℕ) 
   pub faults : FaultsKept settings s rows attrs n kept
 
 -- two answers about row c, all others as before
-pub record PutTwo (c : ℕ) (first second : Sized) (kept kept′ : List ℕ) : Type 0 where
+pub record PutTwo (c : ℕ) (first second : Said ℕ) (kept kept′ : List ℕ) : Type 0 where
   pub first-is : knownAt kept′ (c * 3) ≡ first
   pub second-is : knownAt kept′ (c * 3 + 1) ≡ second
   pub others : (j : ℕ) → (j ≡ c * 3 → ⊥) → (j ≡ c * 3 + 1 → ⊥) → knownAt kept′ j ≡ knownAt kept j
@@ -152,7 +152,7 @@ pub record PutTwo (c : ℕ) (first second : Sized) (kept kept′ : List ℕ) : T
 
 -- row c, those before it as before
 pub record PutRow (settings : Settings) (sizes s rows attrs : List ℕ) (n c : ℕ) (kept kept′ : List ℕ) : Type 0 where
-  pub sibling-is : knownAt kept′ (c * 3 + 2) ≡ Is (siblingRow (settings .endian) s rows attrs n c)
+  pub sibling-is : knownAt kept′ (c * 3 + 2) ≡ gives (siblingRow (settings .endian) s rows attrs n c)
   pub first-is : rowAt rows c .kind ≡ tag.Member → knownAt kept′ (c * 3) ≡ firstOf (memberAt settings s rows attrs n c)
   pub second-is : rowAt rows c .kind ≡ tag.Member → knownAt kept′ (c * 3 + 1) ≡ secondOf sizes rows n (memberAt settings s rows attrs n c)
   pub before : (j : ℕ) → j < c * 3 → knownAt kept′ j ≡ knownAt kept j

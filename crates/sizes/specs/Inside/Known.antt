@@ -6,21 +6,20 @@ use mathlib.Core.List.{List}
 use lib.ListN.{length, getD}
 use lib.Dec.{eqb}
 use Rattle.format.specs.Refusal.{reasonOf}
-use Rattle.sizes.specs.declared.sized.Sized.{Sized}
-use Rattle.sizes.specs.declared.sized.Sized.the-variants.{Is, Refused}
+use Rattle.format.specs.Said.{Said, gives, refuse}
 
 -- the words of a size
 abbrev pub knownWidth : ℕ
 knownWidth = 3
 
 -- the size of row i: 0, the size and 0; or a refusal's number, 0 and its place
-unfoldable pub knownAt : List ℕ → ℕ → Sized
+unfoldable pub knownAt : List ℕ → ℕ → Said ℕ
 knownAt known i =
-    cond (eqb (getD known (i * 3) 0) 0) (Is (getD known (i * 3 + 1) 0 % 0x100000000))
-    (Refused (record { reason = reasonOf (getD known (i * 3) 0 % 0x100000000); place = getD known (i * 3 + 2) 0 }))
+    cond (eqb (getD known (i * 3) 0) 0) (gives (getD known (i * 3 + 1) 0 % 0x100000000))
+    (refuse (reasonOf (getD known (i * 3) 0 % 0x100000000)) (getD known (i * 3 + 2) 0))
 
 -- row i's size is known now, the others as before
-pub record PutKnown (i : ℕ) (size : Sized) (known known′ : List ℕ) : Type 0 where
+pub record PutKnown (i : ℕ) (size : Said ℕ) (known known′ : List ℕ) : Type 0 where
   pub here : knownAt known′ i ≡ size
   pub others : (j : ℕ) → (j ≡ i → ⊥) → knownAt known′ j ≡ knownAt known j
   pub same-long : length known′ ≡ length known

@@ -1,138 +1,136 @@
 -- How the code comes to a size: first all that needs no other size, then the element's size or the members' ends.
-use Prim.Native.Nat.{ℕ, _*_, _^_, _<_}
+use Prim.Native.Nat.{ℕ, _^_, _<_}
 use mathlib.Core.Bool.{cond}
 use mathlib.Core.List.{List, [], _∷_}
-use lib.Dec.{eqb, leb}
+use lib.Dec.{eqb}
 use Rattle.format.specs.AttributeKind as attribute
 use Rattle.format.specs.TagKind as tag
+use Rattle.format.specs.Said.{Said, gives, refuse, refusal, _>>=_, _>>_}
 use Rattle.format.specs.declared.settings.Settings.{Settings}
 use Rattle.format.specs.declared.refusal.Reason.the-variants as reason
-use Rattle.blocks.specs.Subscripts.{countSubscripts}
 use Rattle.blocks.specs.declared.types.Type.{«Type»}
-use Rattle.blocks.specs.declared.subscripts.Counted.{Counted}
-use Rattle.blocks.specs.declared.subscripts.Counted.the-variants as counted
 use Rattle.tables.specs.Row.{rowAt}
-use Rattle.tables.specs.Tests.{refusedAt}
-use Rattle.tables.specs.declared.find.Found.{Found}
-use Rattle.tables.specs.declared.find.Found.the-variants as found
 use Rattle.links.specs.Walk.{Walk, ends, endless}
 use Rattle.links.specs.Links.{childWalk, nonNull}
-use Rattle.records.specs.Scan.{runOf, faultsFrom, orElse}
+use Rattle.records.specs.Scan.{runOf, faultsFrom}
 use Rattle.records.specs.Fields.{lastOf, wordOf}
-use Rattle.records.specs.Front.{unless}
 use Rattle.records.specs.Member.{memberAt}
 use Rattle.records.specs.Unions.{unionAt}
 use Rattle.records.specs.Enumeration.{enumerationAt}
 use Rattle.records.specs.PtrToMember.{ptrAt}
 use Rattle.records.specs.declared.scan.Run.{Run}
-use Rattle.records.specs.declared.scan.Fault.{Fault}
-use Rattle.records.specs.declared.scan.Fault.the-variants as fault
 use Rattle.records.specs.declared.fields.Sought.the-variants as sought
 use Rattle.records.specs.declared.fields.Word.{Word}
 use Rattle.records.specs.declared.fields.Word.the-variants as word
-use Rattle.records.specs.declared.member.MemberRead.{MemberRead}
-use Rattle.records.specs.declared.member.MemberRead.the-variants as read
-use Rattle.records.specs.declared.enumeration.EnumerationWhole.{EnumerationWhole}
-use Rattle.records.specs.declared.enumeration.EnumerationWhole.the-variants as enumeration
-use Rattle.records.specs.declared.unions.UnionWhole.{UnionWhole}
-use Rattle.records.specs.declared.unions.UnionWhole.the-variants as union
-use Rattle.records.specs.declared.ptr_to_member.PtrToMemberRead.{PtrToMemberRead}
-use Rattle.records.specs.declared.ptr_to_member.PtrToMemberRead.the-variants as pointer
-use Rattle.sizes.specs.Size.{sizeLimit, shapeOf, subscriptBlock, subscriptFault, productOf, sizeThen, membersSize, membersOf}
+use Rattle.sizes.specs.Size.{shapeOf, neededAt, subscriptBlock, subscriptsAt, subscriptFault, productOf, membersOf, endsFrom}
 use Rattle.sizes.specs.declared.prepare.Shape.{Shape}
 use Rattle.sizes.specs.declared.prepare.Shape.the-variants as shape
 use Rattle.sizes.specs.declared.prepare.Prepared.{Prepared}
 use Rattle.sizes.specs.declared.prepare.Prepared.the-variants as prepared
-use Rattle.sizes.specs.declared.sized.Sized.{Sized}
-use Rattle.sizes.specs.declared.sized.Sized.the-variants.{Is, Refused}
-
--- a product, or 20 at the array
-unfoldable pub timesOf : ℕ → ℕ → ℕ → Sized
-timesOf key size many = cond (leb (size * many) sizeLimit) (Is (size * many)) (Refused (refusedAt key reason.Big))
 
 -- a place to which a 32-bit number can be added
 pub record SmallPlace (j : ℕ) : Type 0 where
   pub small : j < 2 ^ 32
 
+-- a size, or what is still needed for it: that of an array's element, whose subscripts are an attribute of the table; the ends of a structure's members
+pub data Ready : Type 0 where
+  sized : ℕ → Ready
+  elementOf : «Type» → ℕ → Ready
+  endsWanted : Ready
+
+-- what an answer says
+unfoldable pub saidPrepared : Prepared → Said Ready
+saidPrepared (prepared.Size size) = gives (sized size)
+saidPrepared (prepared.Element t k) = gives (elementOf t k)
+saidPrepared prepared.Ends = gives endsWanted
+saidPrepared (prepared.Refused why) = refusal why
+
 -- ---- arrays
 
 module _ (s attrs : List ℕ) (run : Run) where
-  unfoldable pub countedPrepared : ℕ → Counted → Prepared
-  countedPrepared k (counted.Are t n) = prepared.Element t k
-  countedPrepared k (counted.Refused why) = prepared.Refused (refusedAt (run .key) (why .reason))
+  -- attribute k of the table, whose subscripts count
+  unfoldable pub preparedLast : ℕ → Said Ready
+  preparedLast k = do
+    array ← subscriptsAt s attrs run k
+    gives (elementOf (array .element) k)
 
-  unfoldable pub preparedLast : ℕ → Prepared
-  preparedLast k = countedPrepared k (countSubscripts (run .ends .section) (subscriptBlock s attrs run k))
-
-  unfoldable pub lastPrepared : Found → Prepared
-  lastPrepared (found.At k) = preparedLast k
-  lastPrepared found.Nothing = prepared.Refused (refusedAt (run .key) reason.Missing)
-
-  unfoldable pub preparedArray : Prepared
-  preparedArray =
-      unless (faultsFrom (subscriptFault s attrs run) 0 (run .count)) prepared.Refused (lastPrepared (lastOf (sought.Number attribute.SubscrData) attrs run))
+  -- each SubscrData is read, the last counts
+  unfoldable pub preparedArray : Said Ready
+  preparedArray = do
+    faultsFrom (subscriptFault s attrs run) 0 (run .count)
+    k ← neededAt (run .key) (lastOf (sought.Number attribute.SubscrData) attrs run)
+    preparedLast k
 
 -- ---- structures and classes
 
-unfoldable pub readFault : MemberRead → Fault
-readFault (read.Is m) = fault.Clear
-readFault (read.Refused why) = fault.Refused why
-
 module _ (settings : Settings) (s rows attrs : List ℕ) (n : ℕ) where
-  unfoldable pub memberFault : ℕ → Fault
-  memberFault c = cond (eqb (rowAt rows c .kind) tag.Member) (readFault (memberAt settings s rows attrs n c)) fault.Clear
+  -- what is wrong with child c, if it is a Member
+  unfoldable pub memberFault : ℕ → Said Unit
+  memberFault c = cond (eqb (rowAt rows c .kind) tag.Member) (memberAt settings s rows attrs n c >> gives tt) (gives tt)
 
   -- the first fault among children
-  unfoldable pub membersFault : List ℕ → Fault
-  membersFault [] = fault.Clear
-  membersFault (c ∷ cs) = orElse (memberFault c) (membersFault cs)
+  unfoldable pub membersFault : List ℕ → Said Unit
+  membersFault [] = gives tt
+  membersFault (c ∷ cs) = memberFault c >> membersFault cs
 
-  unfoldable pub walkFault : ℕ → Walk → Fault
+  -- 9 where the walk never ends
+  unfoldable pub walkFault : ℕ → Walk → Said Unit
   walkFault i (ends cs) = membersFault (nonNull rows cs)
-  walkFault i endless = fault.Refused (refusedAt (rowAt rows i .key) reason.Link)
+  walkFault i endless = refuse reason.Link (rowAt rows i .key)
 
-  unfoldable pub structureFault : ℕ → Fault
+  -- what is wrong with the members of row i
+  unfoldable pub structureFault : ℕ → Said Unit
   structureFault i = walkFault i (childWalk (settings .endian) s rows attrs n i)
 
-  unfoldable pub sizePrepared : Word → Prepared
-  sizePrepared (word.Is size) = prepared.Size size
-  sizePrepared word.Nothing = prepared.Ends
+  -- a ByteSize, or the ends are needed
+  unfoldable pub sizePrepared : Word → Ready
+  sizePrepared (word.Is size) = sized size
+  sizePrepared word.Nothing = endsWanted
 
-  unfoldable pub preparedStructure : ℕ → Prepared
-  preparedStructure i =
-      unless (structureFault i) prepared.Refused (sizePrepared (wordOf s attrs (runOf (settings .endian) rows i) attribute.ByteSize))
+  -- a structure's row
+  unfoldable pub preparedStructure : ℕ → Said Ready
+  preparedStructure i = do
+    structureFault i
+    gives (sizePrepared (wordOf s attrs (runOf (settings .endian) rows i) attribute.ByteSize))
 
--- ---- the others
+  -- ---- the others
 
-unfoldable pub preparedEnumeration : EnumerationWhole → Prepared
-preparedEnumeration (enumeration.Is e) = prepared.Size (e .«byte_size»)
-preparedEnumeration (enumeration.Refused why) = prepared.Refused why
+  -- an enumeration's row
+  unfoldable pub preparedEnumeration : ℕ → Said Ready
+  preparedEnumeration i = do
+    e ← enumerationAt settings s rows attrs n i
+    gives (sized (e .«byte_size»))
 
-unfoldable pub preparedUnion : UnionWhole → Prepared
-preparedUnion (union.Is u) = prepared.Size (u .«byte_size»)
-preparedUnion (union.Refused why) = prepared.Refused why
+  -- a union's
+  unfoldable pub preparedUnion : ℕ → Said Ready
+  preparedUnion i = do
+    u ← unionAt settings s rows attrs n i
+    gives (sized (u .«byte_size»))
 
-unfoldable pub preparedPointer : PtrToMemberRead → Prepared
-preparedPointer (pointer.Is p) = prepared.Size 4
-preparedPointer (pointer.Refused why) = prepared.Refused why
+  -- a pointer to member's
+  unfoldable pub preparedPointer : ℕ → Said Ready
+  preparedPointer i = ptrAt settings s rows attrs n i >> gives (sized 4)
 
-module _ (settings : Settings) (s rows attrs : List ℕ) (n : ℕ) where
-  unfoldable pub preparedShape : ℕ → Shape → Prepared
+  -- by the row's shape
+  unfoldable pub preparedShape : ℕ → Shape → Said Ready
   preparedShape i shape.Array = preparedArray s attrs (runOf (settings .endian) rows i)
-  preparedShape i shape.Structure = preparedStructure settings s rows attrs n i
-  preparedShape i shape.Enumeration = preparedEnumeration (enumerationAt settings s rows attrs n i)
-  preparedShape i shape.Union = preparedUnion (unionAt settings s rows attrs n i)
-  preparedShape i shape.PtrToMember = preparedPointer (ptrAt settings s rows attrs n i)
-  preparedShape i shape.Subroutine = prepared.Size 0
-  preparedShape i shape.Other = prepared.Refused (refusedAt (rowAt rows i .key) reason.Kind)
+  preparedShape i shape.Structure = preparedStructure i
+  preparedShape i shape.Enumeration = preparedEnumeration i
+  preparedShape i shape.Union = preparedUnion i
+  preparedShape i shape.PtrToMember = preparedPointer i
+  preparedShape i shape.Subroutine = gives (sized 0)
+  preparedShape i shape.Other = refuse reason.Kind (rowAt rows i .key)
 
-  unfoldable pub preparedRow : ℕ → Prepared
+  -- by its kind
+  unfoldable pub preparedRow : ℕ → Said Ready
   preparedRow i = preparedShape i (shapeOf (rowAt rows i .kind))
 
   -- what was prepared, with the sizes of types: this is `rowSize` (law `prepared-size`)
-  unfoldable pub finished : («Type» → Sized) → ℕ → Prepared → Sized
-  finished typeSize i (prepared.Size size) = Is size
-  finished typeSize i (prepared.Element t k) =
-      sizeThen (productOf (runOf (settings .endian) rows i .ends .section) (rowAt rows i .key) (subscriptBlock s attrs (runOf (settings .endian) rows i) k)) (typeSize t)
-  finished typeSize i prepared.Ends = membersSize rows typeSize word.Nothing (membersOf settings s rows attrs n i)
-  finished typeSize i (prepared.Refused why) = Refused why
+  unfoldable pub finished : («Type» → Said ℕ) → ℕ → Ready → Said ℕ
+  finished typeSize i (sized size) = gives size
+  finished typeSize i (elementOf t k) = do
+    size ← typeSize t
+    productOf (runOf (settings .endian) rows i .ends .section) (rowAt rows i .key) (subscriptBlock s attrs (runOf (settings .endian) rows i) k) size
+  finished typeSize i endsWanted = do
+    ms ← membersOf settings s rows attrs n i
+    endsFrom rows typeSize 0 ms

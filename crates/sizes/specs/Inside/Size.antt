@@ -6,26 +6,21 @@ use lib.ListN.{length}
 use lib.Dec.{eqb}
 use Rattle.format.specs.Limits.{sectionLimit}
 use Rattle.format.specs.TagKind as tag
+use Rattle.format.specs.Said.{Said, gives, refusal, _>>=_}
 use Rattle.format.specs.declared.settings.Settings.{Settings}
-use Rattle.format.specs.declared.refusal.Reason.the-variants as reason
 use Rattle.blocks.specs.declared.types.Type.{«Type»}
 use Rattle.tables.specs.Row.{rowAt}
 use Rattle.tables.specs.Find.{rowOfKey}
-use Rattle.tables.specs.Tests.{refusedAt}
+use Rattle.tables.specs.Keyed.{foundRow}
 use Rattle.tables.specs.declared.find.Found.{Found}
-use Rattle.tables.specs.declared.find.Found.the-variants as found
 use Rattle.links.specs.Inside.Links.{Rows}
 use Rattle.records.specs.Scan.{runOf}
 use Rattle.records.specs.Member.{memberAt}
 use Rattle.records.specs.Inside.Unions.{EndsAt}
-use Rattle.records.specs.declared.member.MemberRead.{MemberRead}
-use Rattle.records.specs.declared.member.MemberRead.the-variants as read
-use Rattle.sizes.specs.Size.{subscriptBlock, productOf, sizeThen, sizeOr, endThen, entrySize, typeSizeBy}
+use Rattle.sizes.specs.Size.{subscriptBlock, productOf, sizeOr, withEnd, entrySize, typeSizeBy}
 use Rattle.sizes.specs.Inside.Known.{knownAt}
 use Rattle.sizes.specs.declared.kept.Added.{Added}
 use Rattle.sizes.specs.declared.kept.Added.the-variants as added
-use Rattle.sizes.specs.declared.sized.Sized.{Sized}
-use Rattle.sizes.specs.declared.sized.Sized.the-variants.{Is, Refused}
 
 -- a table that was tested
 pub record TableReady (s rows : List ℕ) (n : ℕ) : Type 0 where
@@ -39,51 +34,61 @@ pub record EndsShort (settings : Settings) (s rows attrs : List ℕ) (n i : ℕ)
 
 -- ---- a structure's children one at a time
 
-unfoldable pub withSize : ℕ → Sized → Added
-withSize offset (Is size) = added.Is offset size
-withSize offset (Refused why) = added.Refused why
+-- what a member adds to its structure: its offset and its size
+pub record Extent : Type 0 where
+  pub offset : ℕ
+  pub size : ℕ
 
-module _ (typeSize : «Type» → Sized) where
-  unfoldable pub readAdded : MemberRead → Added
-  readAdded (read.Is m) = withSize (m .offset) (sizeOr typeSize (m .of) (m .«byte_size»))
-  readAdded (read.Refused why) = added.Refused why
+-- what an answer says
+unfoldable pub saidAdded : Added → Said Extent
+saidAdded (added.Is offset size) = gives (record { offset = offset; size = size })
+saidAdded (added.Refused why) = refusal why
+
+-- a size that is said, with an offset
+unfoldable pub withSize : ℕ → Said ℕ → Said Extent
+withSize offset d = do
+  size ← d
+  gives (record { offset = offset; size = size })
 
 -- the largest end with that of a member at row c
-unfoldable pub grown : List ℕ → ℕ → ℕ → ℕ → ℕ → Sized
-grown rows c largest offset size = endThen (rowAt rows c .key) Is largest (offset + size)
+unfoldable pub grown : List ℕ → ℕ → ℕ → ℕ → ℕ → Said ℕ
+grown rows c largest offset size = withEnd (rowAt rows c .key) largest (offset + size)
 
-unfoldable pub addedEnd : List ℕ → ℕ → ℕ → Added → Sized
-addedEnd rows largest c (added.Is offset size) = grown rows c largest offset size
-addedEnd rows largest c (added.Refused why) = Refused why
-
-module _ (settings : Settings) (s rows attrs : List ℕ) (n : ℕ) (typeSize : «Type» → Sized) where
+module _ (settings : Settings) (s rows attrs : List ℕ) (n : ℕ) (typeSize : «Type» → Said ℕ) where
   -- what the member at row c adds to its structure
-  unfoldable pub memberAdded : ℕ → Added
-  memberAdded c = readAdded typeSize (memberAt settings s rows attrs n c)
+  unfoldable pub memberAdded : ℕ → Said Extent
+  memberAdded c = do
+    m ← memberAt settings s rows attrs n c
+    withSize (m .offset) (sizeOr typeSize (m .of) (m .«byte_size»))
 
-  unfoldable pub childEnd : ℕ → ℕ → Sized
-  childEnd largest c = cond (eqb (rowAt rows c .kind) tag.Member) (addedEnd rows largest c (memberAdded c)) (Is largest)
+  -- the largest end with that of child c, if it is a Member
+  unfoldable pub childEnd : ℕ → ℕ → Said ℕ
+  childEnd largest c =
+      cond (eqb (rowAt rows c .kind) tag.Member) (memberAdded c >>= λ x. grown rows c largest (x .offset) (x .size)) (gives largest)
 
   -- the largest end of children, one after the other
-  unfoldable pub endsOver : ℕ → List ℕ → Sized
-  endsOver largest [] = Is largest
-  endsOver largest (c ∷ cs) = sizeThen (λ next. endsOver next cs) (childEnd largest c)
+  unfoldable pub endsOver : ℕ → List ℕ → Said ℕ
+  endsOver largest [] = gives largest
+  endsOver largest (c ∷ cs) = do
+    next ← childEnd largest c
+    endsOver next cs
 
 -- an array's product
-unfoldable pub arrayProduct : Settings → List ℕ → List ℕ → List ℕ → ℕ → ℕ → ℕ → Sized
+unfoldable pub arrayProduct : Settings → List ℕ → List ℕ → List ℕ → ℕ → ℕ → ℕ → Said ℕ
 arrayProduct settings s rows attrs i k size =
     productOf (settings .endian) (rowAt rows i .key) (subscriptBlock s attrs (runOf (settings .endian) rows i) k) size
 
 -- ---- with sizes that are known already
 
-unfoldable pub knownFound : List ℕ → ℕ → Found → Sized
-knownFound known key (found.At i) = knownAt known i
-knownFound known key found.Nothing = Refused (refusedAt key reason.Entry)
+-- the size of the row that was found, from the known ones; 11 where there is none
+unfoldable pub knownFound : List ℕ → ℕ → Found → Said ℕ
+knownFound known key found = foundRow key found >>= knownAt known
 
 module _ (settings : Settings) (sizes s rows attrs : List ℕ) (n : ℕ) (known : List ℕ) (levels : ℕ) where
   -- the size of an entry: from the known ones if there are any, else with so many levels left
-  unfoldable pub entrySizeFrom : ℕ → Sized
+  unfoldable pub entrySizeFrom : ℕ → Said ℕ
   entrySizeFrom key = cond (eqb (length known) 0) (entrySize settings sizes s rows attrs n levels key) (knownFound known key (rowOfKey rows n key))
 
-  unfoldable pub typeSizeFrom : «Type» → Sized
+  -- the same of a type
+  unfoldable pub typeSizeFrom : «Type» → Said ℕ
   typeSizeFrom t = typeSizeBy sizes entrySizeFrom t

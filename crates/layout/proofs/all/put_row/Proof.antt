@@ -1,8 +1,10 @@
+use Rattle.format.proofs.Laws.Said.{case-said}
+use Rattle.sizes.specs.Size.{saidSized}
+use Rattle.layout.specs.Inside.Layout.{saidLayoutWhole}
 use Rattle.layout.proofs.Laws.All.{given-asked, refused-asked, layout-refused, layout-given, puts-other, puts-given, puts-refused}
 use borrow.Author.Tests.{not-true, not-false}
 use borrow.Author.Needs.{needs}
 use native.Mathlib.Omega.{arith}
-use mathlib.Core.Path.{refl}
 use Rattle.layout.proofs.all.put_row.Statement.{statement}
 use Rattle.layout.proofs.all.put_row.Tie as tie
 
@@ -25,22 +27,26 @@ read-layout-requires : tie.Need-read-layout-requires
 read-layout-requires c κs = (c .before .before .before .before .before .before .before .before .before .before .before .before .before .before .before .before .before .before .pre .0 .counted .asked, c .before .before .before .before .before .before .before .before .before .before .before .before .before .before .before .before .before .before .pre .1 .1)
 
 one-more-requires : tie.Need-one-more-requires
-one-more-requires c κs = given-asked _ _ _ _ _ _ _ (c .before .before .before .before .before .before .before .before .before .before .before .before .before .before .before .before .before .before .row-at .ensures) (c .before .before .before .before .before .before .before .before .before .before .before .before .before .before .before .before .before .is-structure .ensures) (not-false _ (c .before .before .before .before .before .before .before .before .before .before .before .before .before .before .before .before .if1 .left)) (c .before .before .before .before .before .before .before .before .before .read-layout .ensures .answer-is) (c .before .before .before .before .before .before .before .before .before .before .before .before .before .before .before .before .before .before .before .before .before .before .before .before .before .before .before .before .args .counts) (c .before .before .before .before .before .found .given .1) (c .before .before .before .before .before .before .before .before .before .before .before .before .before .before .before .before .before .before .before .before .before .before .before .before .before .before .before .before .pre .0 .counted)
+unfolding saidLayoutWhole
+one-more-requires c κs = given-asked _ _ _ _ _ _ _ (c .before .before .before .before .before .before .before .before .before .before .before .before .before .before .before .before .before .before .row-at .ensures) (c .before .before .before .before .before .before .before .before .before .before .before .before .before .before .before .before .before .is-structure .ensures) (not-false _ (c .before .before .before .before .before .before .before .before .before .before .before .before .before .before .before .before .if1 .left)) (c .before .before .before .before .before .before .before .before .before .before .before .before .before .before .before .before .before .before .before .before .before .before .before .before .before .before .before .before .args .counts) (case-said saidLayoutWhole (c .before .before .before .before .before .before .before .before .before .read-layout .ensures .answer-is) (c .before .before .before .before .before .found .given .1)) (c .before .before .before .before .before .before .before .before .before .before .before .before .before .before .before .before .before .before .before .before .before .before .before .before .before .before .before .before .pre .0 .counted)
 
 one-more-requires-2 : tie.Need-one-more-requires-2
 one-more-requires-2 c κs = refused-asked (c .before .before .before .before .before .before .before .before .before .before .before .before .before .before .before .before .before .before .before .before .before .before .before .pre .0 .counted)
 
 returns-2 : tie.Need-returns-2
-returns-2 c = puts-given _ _ _ _ _ _ _ (c .before .before .before .before .before .before .before .before .before .before .before .before .before .before .before .before .before .before .before .row-at .ensures) (c .before .before .before .before .before .before .before .before .before .before .before .before .before .before .before .before .before .before .is-structure .ensures) (not-false _ (c .before .before .before .before .before .before .before .before .before .before .before .before .before .before .before .before .before .if1 .left)) (c .before .before .before .before .before .before .before .before .before .before .read-layout .ensures .answer-is) (c .before .before .before .before .before .before .before .before .before .before .before .before .before .before .before .before .before .before .before .before .before .before .before .before .before .before .before .before .before .args .counts) (c .before .before .before .before .before .before .found .given .1)
+unfolding saidLayoutWhole
+returns-2 c = puts-given _ _ _ _ _ _ _ (c .before .before .before .before .before .before .before .before .before .before .before .before .before .before .before .before .before .before .before .row-at .ensures) (c .before .before .before .before .before .before .before .before .before .before .before .before .before .before .before .before .before .before .is-structure .ensures) (not-false _ (c .before .before .before .before .before .before .before .before .before .before .before .before .before .before .before .before .before .if1 .left)) (c .before .before .before .before .before .before .before .before .before .before .before .before .before .before .before .before .before .before .before .before .before .before .before .before .before .before .before .before .before .args .counts) (case-said saidLayoutWhole (c .before .before .before .before .before .before .before .before .before .before .read-layout .ensures .answer-is) (c .before .before .before .before .before .before .found .given .1))
     (c .before .before .before .before .before .before .before .before .before .before .before .before .before .before .before .before .run-of .ensures) (c .before .before .before .before .before .before .before .before .before .before .before .before .before .before .before .last-name .ensures) (c .before .before .before .before .before .before .before .before .before .before .read-layout .ensures) (c .before .before .before .put-structure .ensures) (c .one-more .ensures)
 
 returns-3 : tie.Need-returns-3
-returns-3 c = absurd (layout-given (c .before .before .before .before .before .before .before .before .before .before .before .before .before .before .before .before .before .before .before .before .before .before .before .pre .1 .0) (c .before .before .before .before .before .before .before .before .before .before .before .before .before .before .before .before .before .before .before .before .before .before .before .pre .0 .counted .asked .asked .there) (c .before .before .before .before .before .before .before .before .before .before .before .before .before .row-at .ensures) (c .before .before .before .before .before .before .before .before .before .before .before .before .is-structure .ensures) (not-false _ (c .before .before .before .before .before .before .before .before .before .before .before .if1 .left)) (c .before .before .before .before .before .before .before .before .known-at .ensures)
-    (c .before .before .before .before .before .before .enum-told .given .1) (c .before .before .before .before .read-layout .ensures .answer-is) (c .enum-told2 .given .1))
+unfolding saidSized saidLayoutWhole
+returns-3 c = absurd (layout-given (c .before .before .before .before .before .before .before .before .before .before .before .before .before .before .before .before .before .before .before .before .before .before .before .pre .1 .0) (c .before .before .before .before .before .before .before .before .before .before .before .before .before .before .before .before .before .before .before .before .before .before .before .pre .0 .counted .asked .asked .there) (c .before .before .before .before .before .before .before .before .before .before .before .before .before .row-at .ensures) (c .before .before .before .before .before .before .before .before .before .before .before .before .is-structure .ensures) (not-false _ (c .before .before .before .before .before .before .before .before .before .before .before .if1 .left)) (case-said saidSized (c .before .before .before .before .before .before .before .before .known-at .ensures) (c .before .before .before .before .before .before .enum-told .given .1))
+    (case-said saidLayoutWhole (c .before .before .before .before .read-layout .ensures .answer-is) (c .enum-told2 .given .1)))
 
 returns-4 : tie.Need-returns-4
-returns-4 c = puts-refused _ _ _ _ _ _ _ (c .before .before .before .before .before .before .before .before .before .before .before .before .before .before .row-at .ensures) (c .before .before .before .before .before .before .before .before .before .before .before .before .before .is-structure .ensures) (not-false _ (c .before .before .before .before .before .before .before .before .before .before .before .before .if1 .left)) refl (c .before .before .before .before .before .before .before .before .before .before .before .before .before .before .before .before .before .before .before .before .before .before .before .before .args .counts)
-    (layout-refused (c .before .before .before .before .before .before .before .before .before .before .before .before .before .before .before .before .before .before .before .before .before .before .before .before .pre .1 .0) (c .before .before .before .before .before .before .before .before .before .before .before .before .before .before .before .before .before .before .before .before .before .before .before .before .pre .0 .counted .asked .asked .there) (c .before .before .before .before .before .before .before .before .before .before .before .before .before .before .row-at .ensures) (c .before .before .before .before .before .before .before .before .before .before .before .before .before .is-structure .ensures) (not-false _ (c .before .before .before .before .before .before .before .before .before .before .before .before .if1 .left)) (c .before .before .before .before .before .before .before .before .before .known-at .ensures) (c .before .before .before .before .before .before .before .why .given .1))
+unfolding saidSized
+returns-4 c = puts-refused _ _ _ _ _ _ _ (c .before .before .before .before .before .before .before .before .before .before .before .before .before .before .row-at .ensures) (c .before .before .before .before .before .before .before .before .before .before .before .before .before .is-structure .ensures) (not-false _ (c .before .before .before .before .before .before .before .before .before .before .before .before .if1 .left)) (c .before .before .before .before .before .before .before .before .before .before .before .before .before .before .before .before .before .before .before .before .before .before .before .before .args .counts)
+    (layout-refused (c .before .before .before .before .before .before .before .before .before .before .before .before .before .before .before .before .before .before .before .before .before .before .before .before .pre .1 .0) (c .before .before .before .before .before .before .before .before .before .before .before .before .before .before .before .before .before .before .before .before .before .before .before .before .pre .0 .counted .asked .asked .there) (c .before .before .before .before .before .before .before .before .before .before .before .before .before .before .row-at .ensures) (c .before .before .before .before .before .before .before .before .before .before .before .before .before .is-structure .ensures) (not-false _ (c .before .before .before .before .before .before .before .before .before .before .before .before .if1 .left)) (case-said saidSized (c .before .before .before .before .before .before .before .before .before .known-at .ensures) (c .before .before .before .before .before .before .before .why .given .1)))
     (c .before .before .before .before .before .before .before .before .before .before .before .run-of .ensures) (c .before .before .before .before .before .before .before .before .before .before .last-name .ensures) (c .before .before .before .before .number-of .ensures) (c .before .before .before .put-structure2 .ensures) (c .one-more2 .ensures)
 
 pub put-row-spec : {M : Type 1} → statement M

@@ -1,7 +1,7 @@
 use Rattle.format.specs.declared.refusal.Reason.the-variants as reason
-use Rattle.tables.specs.Tests.{refusedAt}
+use Rattle.tables.specs.Inside.Keyed.{refusedAt}
 use Rattle.tables.specs.declared.row.Row.{Row}
-use Rattle.sizes.specs.declared.sized.Sized.the-variants.{Refused}
+use Rattle.format.specs.Said.{refusal}
 use Rattle.layout.specs.Inside.Levels.{lastLevel, KnownUpTo}
 use Rattle.layout.proofs.Laws.Levels.{filled-none, filled-more, filled-all}
 use borrow.Author.Needs.{needs}
@@ -24,7 +24,7 @@ loop-again : tie.Need-loop-again Inv-loop μ-loop
 unfolding lastLevel
 loop-again c = (
   filled-more _ _ (c .before .before .before .before .before .before .before .loop .inv .0) (c .before .before .put-refusal .ensures)
-      (ap Refused (c .before .before .before .refused .ensures ∙ ap (λ (r : Row). refusedAt (r .key) reason.Depth) (c .before .before .before .before .before .row-at .ensures))),
+      (ap refusal (c .before .before .before .refused .ensures ∙ ap (λ (r : Row). refusedAt (r .key) reason.Depth) (c .before .before .before .before .before .row-at .ensures))),
   (c .before .before .put-refusal .ensures .same-long ∙ c .before .before .before .before .before .before .before .loop .inv .1),
 )
 

@@ -1,7 +1,12 @@
-use Rattle.layout.proofs.Laws.Layout.{layout-there, layout-unlaid}
+use Rattle.format.specs.Said.{inRoom}
+use Rattle.format.proofs.Laws.Said.{goes-in}
+use Rattle.tables.specs.Inside.Keyed.{saidKeyed}
+use Rattle.layout.specs.Layout.{saidLayoutRead, layoutOfKey}
+use Rattle.layout.proofs.Laws.Layout.{layout-there}
 use Rattle.sizes.proofs.Laws.Kept.{none-kept}
 use Rattle.links.proofs.Laws.Typed.{keyed-asked}
 use Rattle.tables.proofs.Laws.Keyed.{keyed-short}
+use mathlib.Core.Path.{refl}
 use borrow.Author.Needs.{needs}
 use Rattle.layout.proofs.one.layout_of_key.Statement.{statement}
 use Rattle.layout.proofs.one.layout_of_key.Tie as tie
@@ -19,7 +24,8 @@ returns : tie.Need-returns
 returns c = layout-there _ _ _ _ _ _ _ _ _ (c .before .before .before .before .before .before .before .before .before .row-of .ensures) (c .before .before .before .before .before .before .before .i .given .1) (c .before .before .give-layout .ensures)
 
 returns-2 : tie.Need-returns-2
-returns-2 c = layout-unlaid _ _ _ _ _ _ _ _ _ (c .before .before .before .row-of .ensures) (c .before .why .given .1)
+unfolding layoutOfKey saidLayoutRead saidKeyed inRoom
+returns-2 c = goes-in saidKeyed (c .before .before .before .row-of .ensures) (c .before .why .given .1) _ _ (record { answer-is = refl; room-is = refl })
 
 pub layout-of-key-spec : {M : Type 1} → statement M
 layout-of-key-spec =

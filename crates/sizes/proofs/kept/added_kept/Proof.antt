@@ -1,6 +1,11 @@
-use Rattle.sizes.proofs.Laws.Kept.{kept-offset, kept-refused}
+use Rattle.format.specs.Said.{_>>=_}
+use Rattle.format.proofs.Laws.Said.{goes-on}
+use Rattle.sizes.specs.Size.{saidSized}
+use Rattle.sizes.specs.Inside.Size.{saidAdded}
+use Rattle.sizes.specs.Inside.Kept.{addedBy, addedKept}
+use Rattle.sizes.proofs.Laws.Kept.{kept-offset}
+use mathlib.Core.Path.{refl}
 use borrow.Author.Needs.{needs}
-use Prim.Native.Nat.{_-_}
 use Rattle.sizes.proofs.kept.added_kept.Statement.{statement}
 use Rattle.sizes.proofs.kept.added_kept.Tie as tie
 
@@ -8,7 +13,8 @@ returns : tie.Need-returns
 returns c = kept-offset _ _ _ (c .before .before .before .before .before .before .known-at .ensures) (c .before .before .before .before .offset .given .1) (c .before .before .known-at2 .ensures) (c .before .size-kept .ensures) (c .with-size .ensures)
 
 returns-2 : tie.Need-returns-2
-returns-2 c = kept-refused _ _ _ (c .before .before .before .known-at .ensures) (c .before .why .given .1)
+unfolding addedKept addedBy saidAdded saidSized _>>=_
+returns-2 c = goes-on saidSized (c .before .before .before .known-at .ensures) (c .before .why .given .1) _ refl
 
 pub added-kept-spec : {M : Type 1} → statement M
 added-kept-spec =

@@ -1,15 +1,19 @@
 use Rattle.sizes.proofs.Laws.Known.{known-past, known-size, known-refused}
+use Rattle.sizes.specs.Size.{saidSized}
 use borrow.Author.Needs.{needs}
 use Rattle.sizes.proofs.known.known_at.Statement.{statement}
 use Rattle.sizes.proofs.known.known_at.Tie as tie
 
 returns : tie.Need-returns
+unfolding saidSized
 returns c = known-past _ _ (c .if1 .taken)
 
 returns-2 : tie.Need-returns-2
+unfolding saidSized
 returns-2 c = known-size _ _ (c .before .before .word .ensures) (c .before .if2 .taken) (c .word2 .ensures)
 
 returns-3 : tie.Need-returns-3
+unfolding saidSized
 returns-3 c = known-refused _ _ (c .before .before .before .word .ensures) (c .before .before .if2 .left) (c .before .reason-of .ensures) (c .word3 .ensures)
 
 pub known-at-spec : {M : Type 1} → statement M

@@ -3,6 +3,7 @@ use Rattle.sizes.proofs.Laws.Walking.{Walking, walking-begins, walking-
 use Rattle.sizes.specs.Inside.Prepare.{membersFault}
 use Rattle.links.specs.Inside.Kids.{kidsFrom, kidsOf}
 use Rattle.links.proofs.Laws.Kids.{ends-at}
+use Rattle.records.specs.Inside.Scan.{saidFault}
 use borrow.Author.Needs.{needs}
 use Prim.Native.Nat.{_-_}
 use mathlib.Core.Path.{_∙_}
@@ -44,9 +45,11 @@ loop-again : tie.Need-loop-again Inv-loop μ-loop
 loop-again c = walking-on (c .before .before .before .before .before .before .loop .inv) (c .before .before .before .before .before .loop-test .taken) (c .before .kept-sibling2 .ensures) (c .child-from2 .ensures) (members-on _ _ _ _ _ _ (c .before .before .before .before .member-fault .ensures) (c .before .before .enum-told .given .1))
 
 returns : tie.Need-returns Inv-loop μ-loop
+unfolding saidFault
 returns c = walking-stops (c .before .before .before .before .before .loop .inv) (c .before .before .before .before .loop-test .taken) (members-refused _ _ _ _ _ _ (c .before .before .before .member-fault .ensures) (c .before .why .given .1))
 
 returns-2 : tie.Need-returns-2 Inv-loop μ-loop
+unfolding saidFault
 returns-2 c = members-none _ _ _ _ _ ∙ walking-ends (c .before .loop .inv) (c .loop-test .left)
 
 pub members-fault-spec : {M : Type 1} → statement M

@@ -1,4 +1,5 @@
 use Rattle.sizes.proofs.Laws.Prepare.{Preparing, preparing-begins, preparing-past, preparing-on, preparing-refused, preparing-ends}
+use Rattle.sizes.specs.Inside.Prepare.{saidPrepared}
 use borrow.Author.Needs.{needs}
 use Prim.Native.Nat.{_-_}
 use Rattle.sizes.proofs.prepare.prepare_array.Statement.{statement}
@@ -17,6 +18,7 @@ loop-again : tie.Need-loop-again Inv-loop μ-loop
 loop-again c = preparing-on (c .before .before .before .before .before .before .before .before .before .before .loop .inv) (c .before .before .before .before .before .before .before .before .before .loop-test .taken) (c .before .before .before .before .before .before .before .attribute-at .ensures) (c .before .before .before .before .before .if1 .taken) (c .before .before .before .before .subscript-block .ensures) (c .before .before .before .count-subscripts .ensures) (c .before .element .given .1)
 
 returns : tie.Need-returns Inv-loop μ-loop
+unfolding saidPrepared
 returns c = preparing-refused (c .before .before .before .before .before .before .before .before .before .before .before .loop .inv) (c .before .before .before .before .before .before .before .before .before .before .loop-test .taken) (c .before .before .before .before .before .before .before .before .attribute-at .ensures) (c .before .before .before .before .before .before .if1 .taken) (c .before .before .before .before .before .subscript-block .ensures) (c .before .before .before .before .count-subscripts .ensures) (c .before .before .why .given .1) (c .placed .ensures)
 
 loop-again-2 : tie.Need-loop-again-2 Inv-loop μ-loop

@@ -1,6 +1,6 @@
 use Rattle.sizes.proofs.Laws.Kept.{shape-structure}
 use Rattle.sizes.proofs.Laws.Prepare.{row-shape, row-array, row-other}
-use Rattle.sizes.specs.Inside.Prepare.{preparedShape}
+use Rattle.sizes.specs.Inside.Prepare.{saidPrepared, preparedShape}
 use borrow.Author.Needs.{needs}
 use Prim.Native.Nat.{_-_}
 use mathlib.Core.Path.{refl}
@@ -30,10 +30,11 @@ unfolding preparedShape
 returns-5 c = row-shape _ _ _ _ _ _ (c .before .before .before .before .row-at .ensures) (c .before .before .before .shape-of .ensures) (c .before .enum-told5 .given .1) (c .prepare-pointer .ensures)
 
 returns-6 : tie.Need-returns-6
-unfolding preparedShape
+unfolding preparedShape saidPrepared
 returns-6 c = row-shape _ _ _ _ _ _ (c .before .before .before .row-at .ensures) (c .before .before .shape-of .ensures) (c .enum-told6 .given .1) refl
 
 returns-7 : tie.Need-returns-7
+unfolding saidPrepared
 returns-7 c = row-other _ _ _ _ _ _ (c .before .before .before .before .row-at .ensures) (c .before .before .before .shape-of .ensures) (c .before .enum-told7 .given .1) (c .refused .ensures)
 
 pub prepare-row-spec : {M : Type 1} → statement M

@@ -1,4 +1,5 @@
 use Rattle.sizes.proofs.Laws.Product.{Left, begin, product-done, dimension-inside, dimension-less, again-dimension, product-big, element-inside, element-less, again-element, product-refused}
+use Rattle.sizes.specs.Size.{saidSized}
 use borrow.Author.Needs.{needs}
 use Prim.Native.Nat.{_-_}
 use lib.ListN.{length}
@@ -27,6 +28,7 @@ loop-again : tie.Need-loop-again Inv-loop μ-loop
 loop-again c = again-dimension (c .before .before .before .before .before .before .before .before .before .before .loop .inv) (c .before .before .before .before .before .before .before .before .before .loop-test .taken) (c .before .before .before .before .before .before .before .before .next-subscript .ensures) (c .before .before .before .before .before .before .many .given .1) (c .before .before .before .before .times .ensures) (c .before .before .product .given .1)
 
 returns : tie.Need-returns Inv-loop μ-loop
+unfolding saidSized
 returns c = product-big (c .before .before .before .before .before .before .before .before .before .loop .inv) (c .before .before .before .before .before .before .before .before .loop-test .taken) (c .before .before .before .before .before .before .before .next-subscript .ensures) (c .before .before .before .before .before .many .given .1) (c .before .before .before .times .ensures) (c .before .why .given .1)
 
 sub-rest-2 : tie.Need-sub-rest-2 Inv-loop μ-loop
@@ -42,9 +44,11 @@ loop-again-2 : tie.Need-loop-again-2 Inv-loop μ-loop
 loop-again-2 c = again-element (c .before .before .before .before .before .before .loop .inv) (c .before .before .before .before .before .loop-test .taken) (c .before .before .before .before .next-subscript .ensures) (c .before .before .used .given .1)
 
 returns-2 : tie.Need-returns-2 Inv-loop μ-loop
+unfolding saidSized
 returns-2 c = product-refused (c .before .before .before .before .before .before .loop .inv) (c .before .before .before .before .before .loop-test .taken) (c .before .before .before .before .next-subscript .ensures) (c .before .before .why2 .given .1) (c .placed .ensures)
 
 returns-3 : tie.Need-returns-3 Inv-loop μ-loop
+unfolding saidSized
 returns-3 c = product-done (c .before .loop .inv) (c .loop-test .left)
 
 pub product-of-spec : {M : Type 1} → statement M

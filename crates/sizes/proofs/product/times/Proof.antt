@@ -1,4 +1,5 @@
 use Rattle.sizes.proofs.Laws.Product.{product-fits, times-is, times-big}
+use Rattle.sizes.specs.Size.{saidSized}
 use borrow.Author.Needs.{needs}
 use Prim.Native.Nat.{_-_}
 use Rattle.sizes.proofs.product.times.Statement.{statement}
@@ -11,9 +12,11 @@ cast-t9 : tie.Need-cast-t9
 cast-t9 c = search needs
 
 returns : tie.Need-returns
+unfolding saidSized
 returns c = times-is _ _ _ (c .if1 .taken)
 
 returns-2 : tie.Need-returns-2
+unfolding saidSized
 returns-2 c = times-big _ _ _ (c .before .if1 .left) (c .refused .ensures)
 
 pub times-spec : {M : Type 1} → statement M

@@ -1,9 +1,15 @@
 use Rattle.links.proofs.Laws.Kids.{ends-at}
 use Rattle.links.specs.Inside.Kids.{kidsFrom, kidsOf}
-use Rattle.sizes.specs.Inside.Size.{endsOver, typeSizeFrom}
+use Rattle.sizes.specs.Size.{saidSized}
+use Rattle.sizes.specs.Inside.Prepare.{saidPrepared, finished}
+use Rattle.sizes.specs.Inside.Size.{saidAdded, memberAdded, endsOver, typeSizeFrom}
+use Rattle.records.specs.Member.{saidMemberRead}
+use Rattle.format.specs.Said.{_>>=_}
+use Rattle.format.proofs.Laws.Said.{goes-on}
+use mathlib.Core.Path.{refl}
 use Rattle.sizes.proofs.Laws.Walking.{Walking, walking-begins, walking-ends, walking-asked, walking-stops, walking-ending, walking-less, walking-on}
 use Rattle.sizes.proofs.Laws.Kept.{member-kept, kind-is}
-use Rattle.sizes.proofs.Laws.Size.{ends-done, ends-next, ends-refused, added-own, added-typed, added-refused, child-other, child-added, child-refused, found-asked, entry-known, entry-deep, entry-row, entry-missing, type-pointer, type-fundamental, type-user, row-sized, row-element, row-sizeless, row-ends, row-refused, ends-asked}
+use Rattle.sizes.proofs.Laws.Size.{ends-done, ends-next, ends-refused, added-own, added-typed, child-other, child-added, found-asked, entry-known, entry-deep, entry-row, entry-missing, type-pointer, type-fundamental, type-user, row-is, row-element, row-ends, ends-asked}
 use borrow.Author.Needs.{needs}
 use native.Mathlib.Omega.{arith}
 use Prim.Native.Nat.{ℕ, _+_, _*_, _<_}
@@ -141,10 +147,12 @@ child-end-member-added-requires t c κs =
     (omega (arith, c .before .before .before .before .before .before .before .before .before .pre .0), record { asked = c .before .before .before .before .before .before .before .before .before .pre .1 .0; is-member = kind-is _ _ (c .before .before .row-at .ensures) (c .if1 .left); all-kept = c .before .before .before .before .before .before .before .before .before .pre .1 .1 })
 
 child-end-returns-2 : (t : ℕ) → child-end-lts.Need-returns-2 (child-end-G t) (child-end-at t) child-end.Post
+unfolding saidAdded _>>=_
 child-end-returns-2 t c = child-added _ _ _ _ _ _ _ _ (c .before .before .before .before .before .before .before .row-at .ensures) (c .before .before .before .before .before .if1 .left) (c .before .before .before .before .member-added .ensures) (c .before .before .offset .given .1) (c .grown .ensures)
 
 child-end-returns-3 : (t : ℕ) → child-end-lts.Need-returns-3 (child-end-G t) (child-end-at t) child-end.Post
-child-end-returns-3 t c = child-refused _ _ _ _ _ _ _ _ (c .before .before .before .before .before .before .row-at .ensures) (c .before .before .before .before .if1 .left) (c .before .before .before .member-added .ensures) (c .before .why .given .1)
+unfolding saidAdded saidSized _>>=_
+child-end-returns-3 t c = child-added _ _ _ _ _ _ _ _ (c .before .before .before .before .before .before .row-at .ensures) (c .before .before .before .before .if1 .left) (c .before .before .before .member-added .ensures) (c .before .why .given .1) refl
 
 abbrev ends-size-Inv-loop : ends-size-lts.InvT-loop
 ends-size-Inv-loop s settings sizes rows attrs n known kept levels i e end c₀ largest₀ c largest =
@@ -233,7 +241,8 @@ read-added-returns-2 t c =
     added-typed _ _ _ _ _ _ _ (c .before .before .before .before .before .before .before .before .member-at .ensures) (c .before .before .before .before .before .before .member .given .1) (c .before .before .enum-told .given .1) (c .before .type-size .ensures) (c .with-size .ensures)
 
 read-added-returns-3 : (t : ℕ) → read-added-lts.Need-returns-3 (read-added-G t) (read-added-at t) read-added.Post
-read-added-returns-3 t c = added-refused _ _ _ _ _ _ _ (c .before .before .before .member-at .ensures) (c .before .why .given .1)
+unfolding memberAdded saidMemberRead saidAdded _>>=_
+read-added-returns-3 t c = goes-on saidMemberRead (c .before .before .before .member-at .ensures) (c .before .why .given .1) _ refl
 
 row-size-prepare-row-requires : (t : ℕ) → row-size-lts.Need-prepare-row-requires (row-size-G t) (row-size-at t) row-size.Post
 row-size-prepare-row-requires t c κs = (c .before .before .before .before .before .before .pre .1 .0, c .before .before .before .before .before .before .pre .1 .1 .parts .rows-kept)
@@ -247,20 +256,24 @@ row-size-ends-size-requires t c κs =
     (omega (arith, c .before .before .before .before .before .before .before .before .before .pre .0), (ends-asked _ _ _ _ _ _ (c .before .before .prepare-row .ensures) (c .enum-told .given .1) (c .before .before .before .before .before .before .before .before .before .pre .1 .0), c .before .before .before .before .before .before .before .before .before .pre .1 .1))
 
 row-size-returns : (t : ℕ) → row-size-lts.Need-returns (row-size-G t) (row-size-at t) row-size.Post
-row-size-returns t c = row-sized _ _ _ _ _ _ (c .before .before .before .prepare-row .ensures) _ (c .before .size .given .1)
+unfolding finished saidPrepared saidSized _>>=_
+row-size-returns t c = row-is _ _ _ _ _ _ (c .before .before .before .prepare-row .ensures) _ (c .before .size .given .1) refl
 
 row-size-returns-2 : (t : ℕ) → row-size-lts.Need-returns-2 (row-size-G t) (row-size-at t) row-size.Post
+unfolding saidSized _>>=_
 row-size-returns-2 t c =
     row-element _ _ _ _ _ _ (c .before .before .before .before .before .before .before .before .prepare-row .ensures) _ (c .before .before .before .before .before .before .of .given .1) (c .before .before .before .before .type-size .ensures) (c .before .before .size2 .given .1) (c .array-product .ensures)
 
 row-size-returns-3 : (t : ℕ) → row-size-lts.Need-returns-3 (row-size-G t) (row-size-at t) row-size.Post
-row-size-returns-3 t c = row-sizeless _ _ _ _ _ _ (c .before .before .before .before .before .before .before .prepare-row .ensures) _ (c .before .before .before .before .before .of .given .1) (c .before .before .before .type-size .ensures) (c .before .why .given .1)
+unfolding saidSized _>>=_
+row-size-returns-3 t c = row-element _ _ _ _ _ _ (c .before .before .before .before .before .before .before .prepare-row .ensures) _ (c .before .before .before .before .before .of .given .1) (c .before .before .before .type-size .ensures) (c .before .why .given .1) refl
 
 row-size-returns-4 : (t : ℕ) → row-size-lts.Need-returns-4 (row-size-G t) (row-size-at t) row-size.Post
 row-size-returns-4 t c = row-ends _ _ _ _ _ _ (c .before .before .before .prepare-row .ensures) _ (c .before .enum-told .given .1) (c .ends-size .ensures)
 
 row-size-returns-5 : (t : ℕ) → row-size-lts.Need-returns-5 (row-size-G t) (row-size-at t) row-size.Post
-row-size-returns-5 t c = row-refused _ _ _ _ _ _ (c .before .before .before .prepare-row .ensures) _ (c .before .why2 .given .1)
+unfolding finished saidPrepared saidSized _>>=_
+row-size-returns-5 t c = row-is _ _ _ _ _ _ (c .before .before .before .prepare-row .ensures) _ (c .before .why2 .given .1) refl
 
 type-size-returns : (t : ℕ) → type-size-lts.Need-returns (type-size-G t) (type-size-at t) type-size.Post
 unfolding typeSizeFrom

@@ -1,7 +1,5 @@
 use Rattle.sizes.proofs.Laws.Size.{line-there, line-none}
 use borrow.Author.Needs.{needs}
-use mathlib.Core.Path.{ap, _∙_}
-use Rattle.sizes.specs.declared.sized.Sized.the-variants.{Refused}
 use Rattle.sizes.proofs.size.fundamental_size.Statement.{statement}
 use Rattle.sizes.proofs.size.fundamental_size.Tie as tie
 
@@ -9,7 +7,7 @@ returns : tie.Need-returns
 returns c = line-there _ _ (c .before .before .order-of .ensures) (c .before .if1 .taken)
 
 returns-2 : tie.Need-returns-2
-returns-2 c = ap Refused (c .refused .ensures) ∙ line-none _ _ (c .before .before .order-of .ensures) (c .before .if1 .left)
+returns-2 c = line-none _ _ (c .before .before .order-of .ensures) (c .before .if1 .left) (c .refused .ensures)
 
 pub fundamental-size-spec : {M : Type 1} → statement M
 fundamental-size-spec =
