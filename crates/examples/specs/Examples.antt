@@ -10,6 +10,7 @@ use Rattle.format.specs.AttributeKind as number
 use Rattle.format.specs.FundType.{parseInt}
 use Rattle.format.specs.Modifier.{modifierOf}
 use Rattle.format.specs.Refusal.{numberOf}
+use Rattle.format.specs.Said.{Said, gives, refuses}
 use Rattle.format.specs.declared.fund_type.FundType.{FundType}
 use Rattle.format.specs.declared.fund_type.FundType.the-variants as fund
 use Rattle.format.specs.declared.modifier.Modifier.{Modifier}
@@ -19,21 +20,16 @@ use Rattle.format.specs.declared.settings.Settings.{Settings}
 use Rattle.format.specs.declared.settings.Producer.the-variants.{Other}
 use Rattle.attributes.specs.Parts.{textAt}
 use Rattle.blocks.specs.Types.{processType}
-use Rattle.blocks.specs.Subscripts.{wholeBlock, countSubscripts}
+use Rattle.blocks.specs.Subscripts.{Dimensions, wholeBlock}
 use Rattle.blocks.specs.declared.types.Type.{«Type»}
 use Rattle.blocks.specs.declared.types.TypeKind.the-variants.{Fundamental}
-use Rattle.blocks.specs.declared.types.Typed.{Typed}
-use Rattle.blocks.specs.declared.types.Typed.the-variants as typed
-use Rattle.blocks.specs.declared.subscripts.Counted.{Counted}
-use Rattle.blocks.specs.declared.subscripts.Counted.the-variants as counted
 use Rattle.tables.specs.declared.row.Row.{Row}
 use Rattle.tables.specs.declared.row.Attr.{Attr}
 use Rattle.records.specs.declared.scan.Run.{Run}
 use Rattle.records.specs.Elements.{Listed}
-use Rattle.records.specs.Enumeration.{Lists, listed, listsFrom}
-use Rattle.records.specs.Enumeration as enumeration
+use Rattle.records.specs.Enumeration.{listsFrom}
 use Rattle.entries.specs.Run.{attr}
-use Rattle.entries.specs.Walk.{Entries, entriesRead, entriesRefused}
+use Rattle.entries.specs.Walk.{Entries}
 use Rattle.entries.specs.Section.{wholeWalk}
 
 -- what an example asks: to read a section, with the erased flag on or off; what a text at a place is, and a number of two bytes in little-endian;
@@ -73,9 +69,9 @@ settings erased =
     }
 
 -- what reading a section says
-walk : Entries → Answer
-walk (entriesRead rs xs place) = rows rs xs
-walk (entriesRefused why place) = refused-at (numberOf why) place
+walk : Said Entries → Answer
+walk (gives all) = rows (all .rows) (all .attrs)
+walk (refuses number place counts) = refused-at number place
 
 -- what a fundamental type's number says; an unknown one is 18
 numbered-type : FundType → Answer
@@ -92,19 +88,19 @@ one-modifier modifier.Volatile = modifier-is modifier.Volatile
 one-modifier modifier.Unknown = refused-as (numberOf reason.Number)
 
 -- what a type attribute says
-of-type : Typed → Answer
-of-type (typed.Is t) = type-is t
-of-type (typed.Refused why) = refused-as (numberOf (why .reason))
+of-type : Said «Type» → Answer
+of-type (gives t) = type-is t
+of-type (refuses number place counts) = refused-as number
 
--- what a block of subscripts says, these being the words of its dimensions
-array : List ℕ → Counted → Answer
-array words (counted.Are t n) = array-is t words
-array words (counted.Refused why) = refused-as (numberOf (why .reason))
+-- what a block of subscripts says
+of-block : Said Dimensions → Answer
+of-block (gives d) = array-is (d .array .element) (d .words)
+of-block (refuses number place counts) = refused-as number
 
 -- what the lists of an enumeration say
-listing : Lists → Answer
-listing (listed xs) = members-are xs
-listing (enumeration.listsRefused why) = refused-as (numberOf (why .reason))
+listing : Said (List Listed) → Answer
+listing (gives xs) = members-are xs
+listing (refuses number place counts) = refused-as number
 
 -- the run of two attributes of an entry at 0
 two : Run
@@ -112,14 +108,14 @@ two = record { first = 0; count = 2; key = 0; ends = record { section = Big; «d
 
 -- what the definitions answer, with no vendor numbers
 unfoldable pub answer : Question → Answer
-unfolding settings walk numbered-type one-modifier of-type array listing two
+unfolding settings walk numbered-type one-modifier of-type of-block listing two
 answer (section erased s) = walk (wholeWalk (settings erased) [] s)
 answer (text s at) = bytes (textAt s at)
 answer (little-number s at) = number-is (valueOf Little 2 s at)
 answer (type-number n) = numbered-type (parseInt n)
 answer (modifier-byte n) = one-modifier (modifierOf n)
 answer (type-attribute n value) = of-type (processType (record { section = Big; «data» = Big }) value n 0)
-answer (subscripts block) = array (wholeBlock Big block .words) (countSubscripts Big block)
+answer (subscripts block) = of-block (wholeBlock Big block)
 answer (lists s attrs) = listing (listsFrom (settings false) s attrs two 0 2)
 
 -- a row of the table: what is asked, and what document 01 says

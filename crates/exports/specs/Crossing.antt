@@ -4,33 +4,18 @@ use Prim.Native.Nat.{ℕ}
 use mathlib.Core.Path.{_≡_}
 use mathlib.Core.Bool.{Bool, not, cond}
 use mathlib.Core.List.{List}
+use lib.ListN.{getD}
 use lib.Dec.{eqb}
 use Rattle.lent.specs.Outcome.{Outcome, Outcomes}
 use Rattle.numbers.specs.declared.Endian.{Endian}
 use Rattle.numbers.specs.declared.Endian.the-variants.{Big, Little}
-use Rattle.format.specs.Refusal.{numberOf}
-use Rattle.format.specs.declared.refusal.Reason.the-variants as reason
-use Rattle.format.specs.declared.refusal.Refusal.{Refusal}
+use Rattle.format.specs.Said.{Said, gives, refuses}
 use Rattle.format.specs.declared.settings.Producer.{Producer}
 use Rattle.format.specs.declared.settings.Producer.the-variants.{Mwcc, Gcc, Other}
 use Rattle.format.specs.declared.settings.Settings.{Settings}
 use Rattle.tables.specs.declared.row.Counts.{Counts}
-use Rattle.entries.specs.declared.section.Count.{Count}
-use Rattle.entries.specs.declared.section.Count.the-variants as count
-use Rattle.entries.specs.declared.section.Section.{Section}
-use Rattle.entries.specs.declared.section.Section.the-variants as section
-use Rattle.sizes.specs.declared.sized.Sized.{Sized}
-use Rattle.sizes.specs.declared.sized.Sized.the-variants as sized
 use Rattle.layout.specs.declared.one.Layout.{Layout}
-use Rattle.layout.specs.declared.one.LayoutRead.{LayoutRead}
-use Rattle.layout.specs.declared.one.LayoutRead.the-variants as layout
 use Rattle.layout.specs.declared.all.LayoutCounts.{LayoutCounts}
-use Rattle.layout.specs.declared.all.AllLayouts.{AllLayouts}
-use Rattle.layout.specs.declared.all.AllLayouts.the-variants as layouts
-use Rattle.blocks.specs.declared.location.Located.{Located}
-use Rattle.blocks.specs.declared.location.Located.the-variants as located
-use Rattle.tree.specs.declared.listing.Listing.{Listing}
-use Rattle.tree.specs.declared.listing.Listing.the-variants as listing
 use Rattle.exports.specs.declared.told.Told.{Told}
 
 -- ---- settings
@@ -63,64 +48,44 @@ countsFrom rows attrs = record { rows = rows; attrs = attrs }
 
 -- ---- answers: a number (0 for given, else the refusal's), a place (0 where nothing is refused), up to three results (0 where there is none)
 
--- an answer without a place: one that is given, or 8 with the counts that are needed
-unfoldable pub toldAs : ℕ → ℕ → ℕ → ℕ → Told
-toldAs n a b c = record { number = n; place = 0; first = a; second = b; third = c }
+-- up to three results
+pub record Results : Type 0 where
+  pub first : ℕ
+  pub second : ℕ
+  pub third : ℕ
 
--- a refusal's number and place; it has no results
-unfoldable pub refusedAs : Refusal → Told
-refusedAs why = record { number = numberOf (why .reason); place = why .place; first = 0; second = 0; third = 0 }
+-- the same, in short
+abbrev pub results : ℕ → ℕ → ℕ → Results
+results a b c = record { first = a; second = b; third = c }
 
--- rows and attributes
-unfoldable pub countedAs : ℕ → Counts → Told
-countedAs n c = toldAs n (c .rows) (c .attrs) 0
+-- a number, a place and results
+abbrev pub toldWith : ℕ → ℕ → Results → Told
+toldWith number place r = record { number = number; place = place; first = r .first; second = r .second; third = r .third }
 
--- counting
-unfoldable pub countTold : Count → Told
-countTold (count.Counted c) = countedAs 0 c
-countTold (count.Refused why) = refusedAs why
+-- an answer as it crosses: `given` has the results of a value, `wanted` those of the counts that 8 needs
+unfoldable pub crossed : {A : Type 0} → (A → Results) → (List ℕ → Results) → Said A → Told
+crossed given wanted (gives x) = toldWith 0 0 (given x)
+crossed given wanted (refuses number place counts) = toldWith number place (wanted counts)
 
--- reading; with 8 the rows and attributes are those needed
-unfoldable pub sectionTold : Section → Told
-sectionTold (section.Read c) = countedAs 0 c
-sectionTold (section.Refused why) = refusedAs why
-sectionTold (section.Room c) = countedAs (numberOf reason.Room) c
+-- the counts that are needed, in their order
+unfoldable pub inOrder : List ℕ → Results
+inOrder counts = results (getD counts 0 0) (getD counts 1 0) (getD counts 2 0)
 
--- the size
-unfoldable pub sizeTold : Sized → Told
-sizeTold (sized.Is size) = toldAs 0 size 0 0
-sizeTold (sized.Refused why) = refusedAs why
+-- of counting and reading: rows and attributes
+unfoldable pub countsTold : Said Counts → Told
+countsTold d = crossed (λ c. results (c .rows) (c .attrs) 0) inOrder d
 
--- the offset
-unfoldable pub offsetTold : Located → Told
-offsetTold (located.Is offset) = toldAs 0 offset 0 0
-offsetTold (located.Refused why) = refusedAs why
+-- of a size, an offset, and a listing's rows: the number itself
+unfoldable pub numberTold : Said ℕ → Told
+numberTold d = crossed (λ n. results n 0 0) inOrder d
 
--- how many rows are listed, with 8 how many there are
-unfoldable pub treeTold : Listing → Told
-treeTold (listing.Listed n) = toldAs 0 n 0 0
-treeTold (listing.Refused why) = refusedAs why
-treeTold (listing.Room n) = toldAs (numberOf reason.Room) n 0 0
+-- of a layout: row, size and how many members; with 8 only how many members there are
+unfoldable pub layoutTold : Said Layout → Told
+layoutTold d = crossed (λ x. results (x .row) (x .size) (x .members)) (λ counts. results 0 0 (getD counts 0 0)) d
 
--- row, size and how many members
-unfoldable pub laidAs : Layout → Told
-laidAs x = toldAs 0 (x .row) (x .size) (x .members)
-
--- a layout; with 8 only how many members there are
-unfoldable pub layoutTold : LayoutRead → Told
-layoutTold (layout.Is x) = laidAs x
-layoutTold (layout.Refused why) = refusedAs why
-layoutTold (layout.Room n) = toldAs (numberOf reason.Room) 0 0 n
-
--- how many structures and classes, and how many members
-unfoldable pub layoutsAs : ℕ → LayoutCounts → Told
-layoutsAs n c = toldAs n (c .structures) (c .members) 0
-
--- all layouts; with 8 both counts are those needed
-unfoldable pub layoutsTold : AllLayouts → Told
-layoutsTold (layouts.Are c) = layoutsAs 0 c
-layoutsTold (layouts.Refused why) = refusedAs why
-layoutsTold (layouts.Room c) = layoutsAs (numberOf reason.Room) c
+-- of all layouts: how many structures and classes, and how many members
+unfoldable pub layoutsTold : Said LayoutCounts → Told
+layoutsTold d = crossed (λ c. results (c .structures) (c .members) 0) inOrder d
 
 -- ---- what the functions hand back
 
@@ -140,36 +105,25 @@ pub record SaysThree (told : Told) (number place first second third : ℕ) : Typ
   pub says : SaysTwo told number place first second
   pub third-is : third ≡ told .third
 
--- what is handed back says what counting answered
-abbrev pub CountCrosses : Count → ℕ → ℕ → ℕ → ℕ → Type 0
-CountCrosses answer number place rows attrs = SaysTwo (countTold answer) number place rows attrs
-
--- the same of reading, and the lent tables hold what its outcome has
-pub record SectionCrosses (o : Outcomes Section ℕ ℕ) (number place rows attrs : ℕ) (rowTable attrTable : List ℕ) : Type 0 where
-  pub says : SaysTwo (sectionTold (o .answer)) number place rows attrs
+-- what is handed back says what reading answered, and the lent tables hold what its outcome has
+pub record SectionCrosses (o : Outcomes (Said Counts) ℕ ℕ) (number place rows attrs : ℕ) (rowTable attrTable : List ℕ) : Type 0 where
+  pub says : SaysTwo (countsTold (o .answer)) number place rows attrs
   pub row-table : rowTable ≡ o .first
   pub attr-table : attrTable ≡ o .second
 
--- of a size
-abbrev pub SizeCrosses : Sized → ℕ → ℕ → ℕ → Type 0
-SizeCrosses answer number place size = SaysOne (sizeTold answer) number place size
-
--- of a block's offset
-abbrev pub OffsetCrosses : Located → ℕ → ℕ → ℕ → Type 0
-OffsetCrosses answer number place offset = SaysOne (offsetTold answer) number place offset
-
--- of the tree listing, and the lent room holds what its outcome has
-pub record TreeCrosses (o : Outcome Listing ℕ) (number place rows : ℕ) (room : List ℕ) : Type 0 where
-  pub says : SaysOne (treeTold (o .answer)) number place rows
+-- the same of the tree listing
+pub record TreeCrosses (o : Outcome (Said ℕ) ℕ) (number place rows : ℕ) (room : List ℕ) : Type 0 where
+  pub says : SaysOne (numberTold (o .answer)) number place rows
   pub room-is : room ≡ o .room
 
 -- the same of a layout
-pub record LayoutCrosses (o : Outcome LayoutRead ℕ) (number place row size members : ℕ) (room : List ℕ) : Type 0 where
+pub record LayoutCrosses (o : Outcome (Said Layout) ℕ) (number place row size members : ℕ) (room : List ℕ) : Type 0 where
   pub says : SaysThree (layoutTold (o .answer)) number place row size members
   pub room-is : room ≡ o .room
 
 -- the same of all layouts, with both lent rooms
-pub record LayoutsCross (o : Outcomes AllLayouts ℕ ℕ) (number place structures members : ℕ) (structureRoom memberRoom : List ℕ) : Type 0 where
+pub record LayoutsCross (o : Outcomes (Said LayoutCounts) ℕ ℕ) (number place structures members : ℕ) (structureRoom memberRoom : List ℕ)
+    : Type 0 where
   pub says : SaysTwo (layoutsTold (o .answer)) number place structures members
   pub structure-room : structureRoom ≡ o .first
   pub member-room : memberRoom ≡ o .second

@@ -11,18 +11,19 @@ use layout::all::LayoutCounts;
 use layout::all::all_layouts;
 ghost use mathlib.Core.Path.{_≡_};
 ghost use Rattle.tables.specs.Table.{table};
-ghost use Rattle.layout.specs.All.{allLayouts};
-ghost use Rattle.exports.specs.Crossing.{settingsFrom, countsFrom, layoutsAs, layoutsTold, LayoutsCross};
+ghost use Rattle.layout.specs.All.{saidAllLayouts, allLayouts};
+ghost use Rattle.exports.specs.Crossing.{settingsFrom, countsFrom, layoutsTold, LayoutsCross};
+ghost use Rattle.exports.specs.Inside.Told.{toldAs};
 
 // The counts that were given, or are needed.
 fn layouts_as(number: u32, counts: LayoutCounts) -> Told
-    ensures { λ r. ⌜ r ≡ layoutsAs number counts ⌝ }
+    ensures { λ r. ⌜ r ≡ toldAs number (counts .structures) (counts .members) 0 ⌝ }
 {
     told_as(number, counts.structures as u64, counts.members as u64, 0)
 }
 
 fn layouts_told(answer: AllLayouts) -> Told
-    ensures { λ r. ⌜ r ≡ layoutsTold answer ⌝ }
+    ensures { λ r. ⌜ r ≡ layoutsTold (saidAllLayouts answer) ⌝ }
 {
     match answer {
         AllLayouts::Are(counts) => layouts_as(0, counts),

@@ -6,11 +6,11 @@ use crate::told::told_as;
 use blocks::location::Located;
 use blocks::location::process_offset;
 ghost use mathlib.Core.Path.{_≡_};
-ghost use Rattle.blocks.specs.Location.{processOffset};
-ghost use Rattle.exports.specs.Crossing.{endianFrom, offsetTold, OffsetCrosses};
+ghost use Rattle.blocks.specs.Location.{saidLocated, processOffset};
+ghost use Rattle.exports.specs.Crossing.{endianFrom, numberTold, SaysOne};
 
 fn offset_told(answer: Located) -> Told
-    ensures { λ r. ⌜ r ≡ offsetTold answer ⌝ }
+    ensures { λ r. ⌜ r ≡ numberTold (saidLocated answer) ⌝ }
 {
     match answer {
         Located::Is(offset) => told_as(0, offset as u64, 0, 0),
@@ -26,7 +26,7 @@ pub extern "C" fn capbeacon_process_offset(
     place: &mut u64,
     offset: &mut u64,
 ) -> u32
-    ensures { λ r. ⌜ OffsetCrosses (processOffset (endianFrom endian) (now (block .entry))) r (now (place .exit)) (now (offset .exit)) ⌝ }
+    ensures { λ r. ⌜ SaysOne (numberTold (processOffset (endianFrom endian) (now (block .entry)))) r (now (place .exit)) (now (offset .exit)) ⌝ }
 {
     let told = offset_told(process_offset(block, endian_from(endian)));
     *place = told.place;

@@ -10,11 +10,11 @@ use tree::listing::Listing;
 use tree::listing::list_tree;
 ghost use mathlib.Core.Path.{_≡_};
 ghost use Rattle.tables.specs.Table.{table};
-ghost use Rattle.tree.specs.Tree.{listTree};
-ghost use Rattle.exports.specs.Crossing.{settingsFrom, countsFrom, treeTold, TreeCrosses};
+ghost use Rattle.tree.specs.Tree.{saidListing, listTree};
+ghost use Rattle.exports.specs.Crossing.{settingsFrom, countsFrom, numberTold, TreeCrosses};
 
 fn tree_told(answer: Listing) -> Told
-    ensures { λ r. ⌜ r ≡ treeTold answer ⌝ }
+    ensures { λ r. ⌜ r ≡ numberTold (saidListing answer) ⌝ }
 {
     match answer {
         Listing::Listed(n) => told_as(0, n as u64, 0, 0),

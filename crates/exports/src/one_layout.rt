@@ -11,12 +11,13 @@ use layout::one::LayoutRead;
 use layout::one::layout_of_key;
 ghost use mathlib.Core.Path.{_≡_};
 ghost use Rattle.tables.specs.Table.{table};
-ghost use Rattle.layout.specs.Layout.{layoutOfKey};
-ghost use Rattle.exports.specs.Crossing.{settingsFrom, countsFrom, laidAs, layoutTold, LayoutCrosses};
+ghost use Rattle.layout.specs.Layout.{saidLayoutRead, layoutOfKey};
+ghost use Rattle.exports.specs.Crossing.{settingsFrom, countsFrom, layoutTold, LayoutCrosses};
+ghost use Rattle.exports.specs.Inside.Told.{toldAs};
 
 // A layout that is given.
 fn laid_as(layout: Layout) -> Told
-    ensures { λ r. ⌜ r ≡ laidAs layout ⌝ }
+    ensures { λ r. ⌜ r ≡ toldAs 0 (layout .row) (layout .size) (layout .members) ⌝ }
 {
     told_as(
         0,
@@ -28,7 +29,7 @@ fn laid_as(layout: Layout) -> Told
 
 // With 8 only how many members there are.
 fn layout_told(answer: LayoutRead) -> Told
-    ensures { λ r. ⌜ r ≡ layoutTold answer ⌝ }
+    ensures { λ r. ⌜ r ≡ layoutTold (saidLayoutRead answer) ⌝ }
 {
     match answer {
         LayoutRead::Is(layout) => laid_as(layout),

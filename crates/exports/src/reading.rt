@@ -11,18 +11,19 @@ use format::refusal::Reason;
 use format::refusal::number_of;
 use tables::row::Counts;
 ghost use mathlib.Core.Path.{_≡_};
-ghost use Rattle.entries.specs.Section.{countDebugSection, readDebugSection};
-ghost use Rattle.exports.specs.Crossing.{settingsFrom, countedAs, countTold, sectionTold, CountCrosses, SectionCrosses};
+ghost use Rattle.entries.specs.Section.{saidCount, saidSection, countDebugSection, readDebugSection};
+ghost use Rattle.exports.specs.Crossing.{settingsFrom, countsTold, SaysTwo, SectionCrosses};
+ghost use Rattle.exports.specs.Inside.Told.{toldAs};
 
 // The counts that were read, or are needed.
 fn counted_as(number: u32, counts: Counts) -> Told
-    ensures { λ r. ⌜ r ≡ countedAs number counts ⌝ }
+    ensures { λ r. ⌜ r ≡ toldAs number (counts .rows) (counts .attrs) 0 ⌝ }
 {
     told_as(number, counts.rows as u64, counts.attrs as u64, 0)
 }
 
 fn count_told(answer: Count) -> Told
-    ensures { λ r. ⌜ r ≡ countTold answer ⌝ }
+    ensures { λ r. ⌜ r ≡ countsTold (saidCount answer) ⌝ }
 {
     match answer {
         Count::Counted(counts) => counted_as(0, counts),
@@ -31,7 +32,7 @@ fn count_told(answer: Count) -> Told
 }
 
 fn section_told(answer: Section) -> Told
-    ensures { λ r. ⌜ r ≡ sectionTold answer ⌝ }
+    ensures { λ r. ⌜ r ≡ countsTold (saidSection answer) ⌝ }
 {
     match answer {
         Section::Read(counts) => counted_as(0, counts),
@@ -58,8 +59,8 @@ pub extern "C" fn capbeacon_count_debug_section(
     attr_count: &mut u64,
 ) -> u32
     ensures { λ r. ⌜
-        CountCrosses (countDebugSection (settingsFrom endian erased producer «global_ref» mangled «overlay_name» «overlay_id») (now (vendors .entry))
-        (now (sizes .entry)) (now (s .entry))) r (now (place .exit)) (now («row_count» .exit)) (now («attr_count» .exit))
+        SaysTwo (countsTold (countDebugSection (settingsFrom endian erased producer «global_ref» mangled «overlay_name» «overlay_id») (now (vendors .entry))
+        (now (sizes .entry)) (now (s .entry)))) r (now (place .exit)) (now («row_count» .exit)) (now («attr_count» .exit))
         ⌝ }
 {
     let settings = settings_from(

@@ -8,11 +8,11 @@ use sizes::size::size_of_key;
 use sizes::sized::Sized;
 ghost use mathlib.Core.Path.{_≡_};
 ghost use Rattle.tables.specs.Table.{table};
-ghost use Rattle.sizes.specs.Size.{sizeOfKey};
-ghost use Rattle.exports.specs.Crossing.{settingsFrom, countsFrom, sizeTold, SizeCrosses};
+ghost use Rattle.sizes.specs.Size.{saidSized, sizeOfKey};
+ghost use Rattle.exports.specs.Crossing.{settingsFrom, countsFrom, numberTold, SaysOne};
 
 fn size_told(answer: Sized) -> Told
-    ensures { λ r. ⌜ r ≡ sizeTold answer ⌝ }
+    ensures { λ r. ⌜ r ≡ numberTold (saidSized answer) ⌝ }
 {
     match answer {
         Sized::Is(size) => told_as(0, size as u64, 0, 0),
@@ -42,8 +42,8 @@ pub extern "C" fn capbeacon_size_of_key(
     size: &mut u64,
 ) -> u32
     ensures { λ r. ⌜
-        SizeCrosses (sizeOfKey (table (now (s .entry)) (settingsFrom endian erased producer «global_ref» mangled «overlay_name» «overlay_id»)
-        (now (vendors .entry)) (now (sizes .entry)) (now (rows .entry)) (now (attrs .entry)) (countsFrom «row_count» «attr_count»)) key) r
+        SaysOne (numberTold (sizeOfKey (table (now (s .entry)) (settingsFrom endian erased producer «global_ref» mangled «overlay_name» «overlay_id»)
+        (now (vendors .entry)) (now (sizes .entry)) (now (rows .entry)) (now (attrs .entry)) (countsFrom «row_count» «attr_count»)) key)) r
         (now (place .exit)) (now (size .exit))
         ⌝ }
 {

@@ -2,7 +2,7 @@
 use format::refusal::Refusal;
 use format::refusal::number_of;
 ghost use mathlib.Core.Path.{_≡_};
-ghost use Rattle.exports.specs.Crossing.{toldAs, refusedAs};
+ghost use Rattle.exports.specs.Inside.Told.{toldAs, refusedAs};
 
 // Its number, the place of a refusal, and up to three results; 0 where there is none.
 pub struct Told {

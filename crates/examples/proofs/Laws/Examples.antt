@@ -12,31 +12,31 @@ use Rattle.format.specs.FundType.{fundTypes, fundTypeOf, parseInt}
 use Rattle.format.specs.Modifier.{modifiers, modifierOf}
 use Rattle.format.specs.SubscriptFormat.{subscriptFormats, subscriptFormatOf}
 use Rattle.format.specs.Refusal.{numberOf}
+use Rattle.format.specs.Said.{must, _>>=_, _>>_, placed}
 use Rattle.attributes.specs.Text.{zeroFrom}
 use Rattle.attributes.specs.End.{fixedEnd, blockEnd, textEnd, valueEnd}
 use Rattle.attributes.specs.Read.{ending, numbered, readAttribute}
 use Rattle.attributes.specs.Parts.{partAt, blockAt, textAt}
 use Rattle.blocks.specs.Modifiers.{isKnown, isPointer, allKnown, anyPointer, processModifiers}
-use Rattle.blocks.specs.Types.{withModifiers, modified, knownType, fundamental, fundType, lastBytes, modFundType, processType}
-use Rattle.blocks.specs.Subscript.{lowBound, knownIndex, indexAt, indexed, oneMore, highBound, constBound, elementOf, elementAs, elementTypeAt, subscriptAs, nextSubscript}
-use Rattle.blocks.specs.Subscripts.{dimensionWords, elementOr, before, step, subscriptsFrom, wholeBlock, countSubscripts}
+use Rattle.blocks.specs.Types.{numberIn, knownNumber, modified, fundamental, fundType, lastBytes, modFundType, processType}
+use Rattle.blocks.specs.Subscript.{indexAt, oneMore, constBound, elementAs, elementTypeAt, subscriptAs, nextSubscript}
+use Rattle.blocks.specs.Subscripts.{dimensionWords, elementOr, atEnd, before, step, subscriptsFrom, wholeBlock}
 use Rattle.tables.specs.Row.{attrAt}
 use Rattle.links.specs.Typed.{asValue, wordAt}
 use Rattle.records.specs.Taken.{takenBy, roleTaken, takes, special}
-use Rattle.records.specs.Scan.{attributeAt, expectedForms, expected, expectedForm, isType, contentFault, formFault, attributeFault, faultAt, numberAt}
+use Rattle.records.specs.Scan.{attributeAt, expectedForms, expected, expectedForm, isType, faultOf, contentFault, attributeFault, faultAt, numberAt}
 use Rattle.records.specs.Fields.{isSought, lastFrom, asWord, wordIn, wordBy}
-use Rattle.records.specs.Front.{unless}
 use Rattle.records.specs.Elements.{listWidth, valueAt, namedFrom, nameFrom, valued, elementThen, elementsFrom, elementsIn}
 use Rattle.records.specs.Elements as element
-use Rattle.records.specs.Enumeration.{joined, sizeBefore, listAt, listsFrom}
+use Rattle.records.specs.Enumeration.{sizeBefore, listAt, listsFrom}
 use Rattle.entries.specs.Head.{nullEnd, tagHead, sizeHead, headAt}
-use Rattle.entries.specs.Run.{first, runEnds, readOn, readRun}
-use Rattle.entries.specs.Entry.{flip, littleFlag, flagOf, flagsOf, kindOf, ordinary, rooted, attributes, rootEndian, rootIn, entryFrom, readEntry}
-use Rattle.entries.specs.Walk.{join, entriesThen, onward, entriesFrom, readTags}
+use Rattle.entries.specs.Run.{runEnds, readOn, readRun}
+use Rattle.entries.specs.Entry.{flip, littleFlag, flagOf, flagsOf, rootKind, attributes, rootEndian, entryFrom, readEntry}
+use Rattle.entries.specs.Walk.{entriesThen, wholeEntry, entriesFrom, readTags}
 use Rattle.entries.specs.Section.{wholeWalk}
 use Rattle.examples.specs.Examples.{answer, examples}
 
 -- the definitions answer what document 01 says, in every row
 pub examples-hold : map (λ e. answer (e .asked)) examples ≡ map (λ e. e .said) examples
-unfolding answer examples numberOf parseInt fundTypeOf fundTypes modifierOf modifiers valueOf there readAt isOn indexOf lookup tags used alsoKnown attributeKinds known forms formOf zeroFrom fixedEnd blockEnd textEnd valueEnd ending numbered readAttribute textAt nullEnd tagHead sizeHead headAt first plays runEnds readOn readRun flip littleFlag flagOf flagsOf kindOf ordinary rooted attributes rootEndian rootIn entryFrom readEntry join entriesThen onward entriesFrom readTags wholeWalk subscriptFormats subscriptFormatOf partAt blockAt isKnown isPointer allKnown anyPointer processModifiers withModifiers modified knownType fundamental fundType lastBytes modFundType processType lowBound knownIndex indexAt indexed oneMore highBound constBound elementOf elementAs elementTypeAt subscriptAs nextSubscript dimensionWords elementOr before step subscriptsFrom wholeBlock countSubscripts asValue wordAt takenBy roleTaken takes special attributeAt attrAt expectedForms expected expectedForm isType contentFault formFault attributeFault faultAt numberAt formNumber isForm isSought lastFrom asWord wordIn wordBy unless listWidth valueAt namedFrom nameFrom valued element.elementAt element.elementsThen elementThen elementsFrom elementsIn signedOf signedBelow joined sizeBefore listAt listsFrom
+unfolding answer examples numberOf parseInt fundTypeOf fundTypes modifierOf modifiers valueOf there readAt isOn indexOf lookup tags used alsoKnown attributeKinds known forms formOf zeroFrom fixedEnd blockEnd textEnd valueEnd ending numbered readAttribute textAt nullEnd tagHead sizeHead headAt plays runEnds readOn readRun flip littleFlag flagOf flagsOf rootKind attributes rootEndian entryFrom readEntry entriesThen wholeEntry entriesFrom readTags wholeWalk _>>=_ placed subscriptFormats subscriptFormatOf partAt blockAt isKnown isPointer allKnown anyPointer processModifiers must _>>_ modified numberIn knownNumber fundamental fundType lastBytes modFundType processType indexAt oneMore constBound elementAs elementTypeAt subscriptAs nextSubscript dimensionWords elementOr atEnd before step subscriptsFrom wholeBlock asValue wordAt takenBy roleTaken takes special attributeAt attrAt expectedForms expected expectedForm isType faultOf contentFault attributeFault faultAt numberAt formNumber isForm isSought lastFrom asWord wordIn wordBy listWidth valueAt namedFrom nameFrom valued element.elementAt elementThen elementsFrom elementsIn signedOf signedBelow sizeBefore listAt listsFrom
 examples-hold = refl

@@ -5,22 +5,18 @@ use mathlib.Core.List.{List}
 use Rattle.tables.specs.Table.{table}
 use Rattle.lent.specs.Outcome.{Given, BothGiven}
 use Rattle.numbers.specs.declared.Endian.{Endian}
+use Rattle.format.specs.Said.{Said}
 use Rattle.format.specs.declared.settings.Settings.{Settings}
 use Rattle.tables.specs.declared.row.Counts.{Counts}
 use Rattle.entries.specs.Section.{countDebugSection, readDebugSection}
-use Rattle.entries.specs.declared.section.Count.{Count}
-use Rattle.entries.specs.declared.section.Section.{Section}
 use Rattle.sizes.specs.Size.{sizeOfKey}
 use Rattle.layout.specs.All.{allLayouts}
-use Rattle.layout.specs.declared.all.AllLayouts.{AllLayouts}
+use Rattle.layout.specs.declared.all.LayoutCounts.{LayoutCounts}
 use Rattle.layout.specs.Layout.{layoutOfKey}
-use Rattle.sizes.specs.declared.sized.Sized.{Sized}
-use Rattle.layout.specs.declared.one.LayoutRead.{LayoutRead}
+use Rattle.layout.specs.declared.one.Layout.{Layout}
 use Rattle.blocks.specs.Location.{processOffset}
-use Rattle.blocks.specs.declared.location.Located.{Located}
 use Rattle.tree.specs.Tree.{listTree}
-use Rattle.tree.specs.declared.listing.Listing.{Listing}
-use Rattle.exports.specs.Crossing.{countTold, sectionTold, sizeTold, offsetTold, treeTold, layoutTold, layoutsTold, SaysOne, SaysTwo, SaysThree, CountCrosses, SectionCrosses, SizeCrosses, OffsetCrosses, TreeCrosses, LayoutCrosses, LayoutsCross}
+use Rattle.exports.specs.Crossing.{countsTold, numberTold, layoutTold, layoutsTold, SaysOne, SaysTwo, SaysThree, SectionCrosses, TreeCrosses, LayoutCrosses, LayoutsCross}
 use Rattle.exports.specs.declared.told.Told.{Told}
 
 -- what was told, field by field
@@ -39,51 +35,51 @@ said-three : (told : Told) {t : Told} → t ≡ told → SaysThree told (t .numb
 said-three told p = record { says = said-two told p; third-is = ap (λ (x : Told). x .third) p }
 
 module _ {settings settings′ : Settings} (same : settings ≡ settings′) (vendors sizes s : List ℕ) where
-  pub count-crosses : {answer : Count} {t : Told} → answer ≡ countDebugSection settings vendors sizes s → t ≡ countTold answer
-      → CountCrosses (countDebugSection settings′ vendors sizes s) (t .number) (t .place) (t .first) (t .second)
-  count-crosses p q = said-two _ (q ∙ ap countTold (p ∙ ap (λ (x : Settings). countDebugSection x vendors sizes s) same))
+  pub count-crosses : {z : Said Counts} {t : Told} → z ≡ countDebugSection settings vendors sizes s → t ≡ countsTold z
+      → SaysTwo (countsTold (countDebugSection settings′ vendors sizes s)) (t .number) (t .place) (t .first) (t .second)
+  count-crosses p q = said-two _ (q ∙ ap countsTold (p ∙ ap (λ (x : Settings). countDebugSection x vendors sizes s) same))
 
   module _ (rows attrs : List ℕ) where
-    pub read-crosses : {answer : Section} {t : Told} {rows₁ attrs₁ : List ℕ}
-        → BothGiven (readDebugSection settings vendors sizes s rows attrs) answer rows₁ attrs₁ → t ≡ sectionTold answer
+    pub read-crosses : {z : Said Counts} {t : Told} {rows₁ attrs₁ : List ℕ} → BothGiven (readDebugSection settings vendors sizes s rows attrs) z rows₁ attrs₁
+        → t ≡ countsTold z
         → SectionCrosses (readDebugSection settings′ vendors sizes s rows attrs) (t .number) (t .place) (t .first) (t .second) rows₁ attrs₁
-    read-crosses {answer} {t} {rows₁} {attrs₁} p q =
+    read-crosses {z} {t} {rows₁} {attrs₁} p q =
         subst (λ (x : Settings). SectionCrosses (readDebugSection x vendors sizes s rows attrs) (t .number) (t .place) (t .first) (t .second) rows₁ attrs₁) same
-        (record { says = said-two _ (q ∙ ap sectionTold (p .answer-is)); row-table = p .first-is; attr-table = p .second-is })
+        (record { says = said-two _ (q ∙ ap countsTold (p .answer-is)); row-table = p .first-is; attr-table = p .second-is })
 
     module _ {counts counts′ : Counts} (many : counts ≡ counts′) where
-      pub size-crosses : (key : ℕ) {answer : Sized} {t : Told} → answer ≡ sizeOfKey (table s settings vendors sizes rows attrs counts) key → t ≡ sizeTold answer
-          → SizeCrosses (sizeOfKey (table s settings′ vendors sizes rows attrs counts′) key) (t .number) (t .place) (t .first)
+      pub size-crosses : (key : ℕ) {z : Said ℕ} {t : Told} → z ≡ sizeOfKey (table s settings vendors sizes rows attrs counts) key → t ≡ numberTold z
+          → SaysOne (numberTold (sizeOfKey (table s settings′ vendors sizes rows attrs counts′) key)) (t .number) (t .place) (t .first)
       size-crosses key p q =
           said-one _
           (q
-          ∙ ap sizeTold
+          ∙ ap numberTold
           (p ∙ ap (λ (x : Settings). sizeOfKey (table s x vendors sizes rows attrs counts) key) same ∙ ap (λ (n : Counts). sizeOfKey (table s settings′ vendors sizes rows attrs n) key) many))
 
-      pub tree-crosses : (room : List ℕ) {answer : Listing} {t : Told} {room₁ : List ℕ}
-          → Given (listTree (table s settings vendors sizes rows attrs counts) room) answer room₁ → t ≡ treeTold answer
+      pub tree-crosses : (room : List ℕ) {z : Said ℕ} {t : Told} {room₁ : List ℕ}
+          → Given (listTree (table s settings vendors sizes rows attrs counts) room) z room₁ → t ≡ numberTold z
           → TreeCrosses (listTree (table s settings′ vendors sizes rows attrs counts′) room) (t .number) (t .place) (t .first) room₁
-      tree-crosses room {answer} {t} {room₁} p q =
+      tree-crosses room {z} {t} {room₁} p q =
           subst (λ (n : Counts). TreeCrosses (listTree (table s settings′ vendors sizes rows attrs n) room) (t .number) (t .place) (t .first) room₁) many
           (subst (λ (x : Settings). TreeCrosses (listTree (table s x vendors sizes rows attrs counts) room) (t .number) (t .place) (t .first) room₁) same
-          (record { says = said-one _ (q ∙ ap treeTold (p .answer-is)); room-is = p .room-is }))
+          (record { says = said-one _ (q ∙ ap numberTold (p .answer-is)); room-is = p .room-is }))
 
-      pub layout-crosses : (key : ℕ) (room : List ℕ) {answer : LayoutRead} {t : Told} {room₁ : List ℕ}
-          → Given (layoutOfKey (table s settings vendors sizes rows attrs counts) key room) answer room₁ → t ≡ layoutTold answer
+      pub layout-crosses : (key : ℕ) (room : List ℕ) {z : Said Layout} {t : Told} {room₁ : List ℕ}
+          → Given (layoutOfKey (table s settings vendors sizes rows attrs counts) key room) z room₁ → t ≡ layoutTold z
           → LayoutCrosses (layoutOfKey (table s settings′ vendors sizes rows attrs counts′) key room) (t .number) (t .place) (t .first) (t .second) (t .third) room₁
-      layout-crosses key room {answer} {t} {room₁} p q =
+      layout-crosses key room {z} {t} {room₁} p q =
           subst (λ (n : Counts). LayoutCrosses (layoutOfKey (table s settings′ vendors sizes rows attrs n) key room) (t .number) (t .place) (t .first) (t .second) (t .third) room₁) many
           (subst (λ (x : Settings). LayoutCrosses (layoutOfKey (table s x vendors sizes rows attrs counts) key room) (t .number) (t .place) (t .first) (t .second) (t .third) room₁) same
           (record { says = said-three _ (q ∙ ap layoutTold (p .answer-is)); room-is = p .room-is }))
 
-      pub layouts-cross : (structures room : List ℕ) {answer : AllLayouts} {t : Told} {structures₁ room₁ : List ℕ}
-          → BothGiven (allLayouts (table s settings vendors sizes rows attrs counts) structures room) answer structures₁ room₁ → t ≡ layoutsTold answer
+      pub layouts-cross : (structures room : List ℕ) {z : Said LayoutCounts} {t : Told} {structures₁ room₁ : List ℕ}
+          → BothGiven (allLayouts (table s settings vendors sizes rows attrs counts) structures room) z structures₁ room₁ → t ≡ layoutsTold z
           → LayoutsCross (allLayouts (table s settings′ vendors sizes rows attrs counts′) structures room) (t .number) (t .place) (t .first) (t .second) structures₁ room₁
-      layouts-cross structures room {answer} {t} {structures₁} {room₁} p q =
+      layouts-cross structures room {z} {t} {structures₁} {room₁} p q =
           subst (λ (n : Counts). LayoutsCross (allLayouts (table s settings′ vendors sizes rows attrs n) structures room) (t .number) (t .place) (t .first) (t .second) structures₁ room₁) many
           (subst (λ (x : Settings). LayoutsCross (allLayouts (table s x vendors sizes rows attrs counts) structures room) (t .number) (t .place) (t .first) (t .second) structures₁ room₁) same
           (record { says = said-two _ (q ∙ ap layoutsTold (p .answer-is)); structure-room = p .first-is; member-room = p .second-is }))
 
-pub offset-crosses : {e e′ : Endian} → e ≡ e′ → (block : List ℕ) {answer : Located} {t : Told} → answer ≡ processOffset e block → t ≡ offsetTold answer
-    → OffsetCrosses (processOffset e′ block) (t .number) (t .place) (t .first)
-offset-crosses same block p q = said-one _ (q ∙ ap offsetTold (p ∙ ap (λ (x : Endian). processOffset x block) same))
+pub offset-crosses : {e e′ : Endian} → e ≡ e′ → (block : List ℕ) {z : Said ℕ} {t : Told} → z ≡ processOffset e block → t ≡ numberTold z
+    → SaysOne (numberTold (processOffset e′ block)) (t .number) (t .place) (t .first)
+offset-crosses same block p q = said-one _ (q ∙ ap numberTold (p ∙ ap (λ (x : Endian). processOffset x block) same))

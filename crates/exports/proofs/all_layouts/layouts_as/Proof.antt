@@ -1,10 +1,8 @@
-use Rattle.exports.specs.Crossing.{layoutsAs}
 use borrow.Author.Needs.{needs}
 use Rattle.exports.proofs.all_layouts.layouts_as.Statement.{statement}
 use Rattle.exports.proofs.all_layouts.layouts_as.Tie as tie
 
 returns : tie.Need-returns
-unfolding layoutsAs
 returns c = c .told-as .ensures
 
 pub layouts-as-spec : {M : Type 1} → statement M

@@ -1,21 +1,23 @@
-use Rattle.exports.specs.Crossing.{toldAs, treeTold}
-use borrow.Author.Needs.{needs}
-use Prim.Native.Nat.{ℕ}
+use Rattle.tree.specs.Tree.{saidListing}
+use Rattle.exports.specs.Crossing.{crossed, inOrder, numberTold}
 use mathlib.Core.Path.{sym, ap, _∙_}
+use Prim.Native.Nat.{ℕ}
+use Rattle.exports.specs.Inside.Told.{toldAs}
+use borrow.Author.Needs.{needs}
 use Rattle.exports.proofs.listing.tree_told.Statement.{statement}
 use Rattle.exports.proofs.listing.tree_told.Tie as tie
 
 returns : tie.Need-returns
-unfolding treeTold
-returns c = c .told-as .ensures ∙ sym (ap treeTold (c .before .before .answer .given .1))
+unfolding numberTold crossed inOrder saidListing
+returns c = c .told-as .ensures ∙ ap (λ x. numberTold (saidListing x)) (sym (c .before .before .answer .given .1))
 
 returns-2 : tie.Need-returns-2
-unfolding treeTold
-returns-2 c = c .refused-as .ensures ∙ sym (ap treeTold (c .before .before .answer2 .given .1))
+unfolding numberTold crossed inOrder saidListing
+returns-2 c = c .refused-as .ensures ∙ ap (λ x. numberTold (saidListing x)) (sym (c .before .before .answer2 .given .1))
 
 returns-3 : tie.Need-returns-3
-unfolding treeTold
-returns-3 c = c .told-as2 .ensures ∙ ap (λ (n : ℕ). toldAs n (c .before .before .before .answer3 .given .0 .0) 0 0) (c .before .number-of .ensures) ∙ sym (ap treeTold (c .before .before .before .answer3 .given .1))
+unfolding numberTold crossed inOrder saidListing
+returns-3 c = c .told-as2 .ensures ∙ ap (λ (n : ℕ). toldAs n (c .before .before .before .answer3 .given .0 .0) 0 0) (c .before .number-of .ensures) ∙ ap (λ x. numberTold (saidListing x)) (sym (c .before .before .before .answer3 .given .1))
 
 pub tree-told-spec : {M : Type 1} → statement M
 tree-told-spec =

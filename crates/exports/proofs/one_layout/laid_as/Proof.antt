@@ -1,10 +1,8 @@
-use Rattle.exports.specs.Crossing.{laidAs}
 use borrow.Author.Needs.{needs}
 use Rattle.exports.proofs.one_layout.laid_as.Statement.{statement}
 use Rattle.exports.proofs.one_layout.laid_as.Tie as tie
 
 returns : tie.Need-returns
-unfolding laidAs
 returns c = c .told-as .ensures
 
 pub laid-as-spec : {M : Type 1} → statement M

@@ -1,21 +1,23 @@
-use Rattle.exports.specs.Crossing.{toldAs, layoutTold}
-use borrow.Author.Needs.{needs}
-use Prim.Native.Nat.{ℕ}
+use Rattle.layout.specs.Layout.{saidLayoutRead}
+use Rattle.exports.specs.Crossing.{crossed, inOrder, layoutTold}
 use mathlib.Core.Path.{sym, ap, _∙_}
+use Prim.Native.Nat.{ℕ}
+use Rattle.exports.specs.Inside.Told.{toldAs}
+use borrow.Author.Needs.{needs}
 use Rattle.exports.proofs.one_layout.layout_told.Statement.{statement}
 use Rattle.exports.proofs.one_layout.layout_told.Tie as tie
 
 returns : tie.Need-returns
-unfolding layoutTold
-returns c = c .laid-as .ensures ∙ sym (ap layoutTold (c .before .before .answer .given .1))
+unfolding layoutTold crossed inOrder saidLayoutRead
+returns c = c .laid-as .ensures ∙ ap (λ x. layoutTold (saidLayoutRead x)) (sym (c .before .before .answer .given .1))
 
 returns-2 : tie.Need-returns-2
-unfolding layoutTold
-returns-2 c = c .refused-as .ensures ∙ sym (ap layoutTold (c .before .before .answer2 .given .1))
+unfolding layoutTold crossed inOrder saidLayoutRead
+returns-2 c = c .refused-as .ensures ∙ ap (λ x. layoutTold (saidLayoutRead x)) (sym (c .before .before .answer2 .given .1))
 
 returns-3 : tie.Need-returns-3
-unfolding layoutTold
-returns-3 c = c .told-as .ensures ∙ ap (λ (n : ℕ). toldAs n 0 0 (c .before .before .before .answer3 .given .0 .0)) (c .before .number-of .ensures) ∙ sym (ap layoutTold (c .before .before .before .answer3 .given .1))
+unfolding layoutTold crossed inOrder saidLayoutRead
+returns-3 c = c .told-as .ensures ∙ ap (λ (n : ℕ). toldAs n 0 0 (c .before .before .before .answer3 .given .0 .0)) (c .before .number-of .ensures) ∙ ap (λ x. layoutTold (saidLayoutRead x)) (sym (c .before .before .before .answer3 .given .1))
 
 pub layout-told-spec : {M : Type 1} → statement M
 layout-told-spec =

@@ -1,16 +1,17 @@
-use Rattle.exports.specs.Crossing.{countTold}
-use borrow.Author.Needs.{needs}
+use Rattle.entries.specs.Section.{saidCount}
+use Rattle.exports.specs.Crossing.{crossed, inOrder, countsTold}
 use mathlib.Core.Path.{sym, ap, _∙_}
+use borrow.Author.Needs.{needs}
 use Rattle.exports.proofs.reading.count_told.Statement.{statement}
 use Rattle.exports.proofs.reading.count_told.Tie as tie
 
 returns : tie.Need-returns
-unfolding countTold
-returns c = c .counted-as .ensures ∙ sym (ap countTold (c .before .before .answer .given .1))
+unfolding countsTold crossed inOrder saidCount
+returns c = c .counted-as .ensures ∙ ap (λ x. countsTold (saidCount x)) (sym (c .before .before .answer .given .1))
 
 returns-2 : tie.Need-returns-2
-unfolding countTold
-returns-2 c = c .refused-as .ensures ∙ sym (ap countTold (c .before .before .answer2 .given .1))
+unfolding countsTold crossed inOrder saidCount
+returns-2 c = c .refused-as .ensures ∙ ap (λ x. countsTold (saidCount x)) (sym (c .before .before .answer2 .given .1))
 
 pub count-told-spec : {M : Type 1} → statement M
 count-told-spec =

@@ -1,10 +1,8 @@
-use Rattle.exports.specs.Crossing.{countedAs}
 use borrow.Author.Needs.{needs}
 use Rattle.exports.proofs.reading.counted_as.Statement.{statement}
 use Rattle.exports.proofs.reading.counted_as.Tie as tie
 
 returns : tie.Need-returns
-unfolding countedAs
 returns c = c .told-as .ensures
 
 pub counted-as-spec : {M : Type 1} → statement M

@@ -1,16 +1,17 @@
-use Rattle.exports.specs.Crossing.{sizeTold}
-use borrow.Author.Needs.{needs}
+use Rattle.sizes.specs.Size.{saidSized}
+use Rattle.exports.specs.Crossing.{crossed, inOrder, numberTold}
 use mathlib.Core.Path.{sym, ap, _∙_}
+use borrow.Author.Needs.{needs}
 use Rattle.exports.proofs.size.size_told.Statement.{statement}
 use Rattle.exports.proofs.size.size_told.Tie as tie
 
 returns : tie.Need-returns
-unfolding sizeTold
-returns c = c .told-as .ensures ∙ sym (ap sizeTold (c .before .before .answer .given .1))
+unfolding numberTold crossed inOrder saidSized
+returns c = c .told-as .ensures ∙ ap (λ x. numberTold (saidSized x)) (sym (c .before .before .answer .given .1))
 
 returns-2 : tie.Need-returns-2
-unfolding sizeTold
-returns-2 c = c .refused-as .ensures ∙ sym (ap sizeTold (c .before .before .answer2 .given .1))
+unfolding numberTold crossed inOrder saidSized
+returns-2 c = c .refused-as .ensures ∙ ap (λ x. numberTold (saidSized x)) (sym (c .before .before .answer2 .given .1))
 
 pub size-told-spec : {M : Type 1} → statement M
 size-told-spec =

@@ -1,10 +1,8 @@
-use Rattle.exports.specs.Crossing.{refusedAs}
 use borrow.Author.Needs.{needs}
 use Rattle.exports.proofs.told.refused_as.Statement.{statement}
 use Rattle.exports.proofs.told.refused_as.Tie as tie
 
 returns : tie.Need-returns
-unfolding refusedAs
 returns c = rw (c .number-of .ensures)
 
 pub refused-as-spec : {M : Type 1} → statement M

@@ -1,10 +1,8 @@
-use Rattle.exports.specs.Crossing.{toldAs}
 use mathlib.Core.Path.{refl}
 use Rattle.exports.proofs.told.told_as.Statement.{statement}
 use Rattle.exports.proofs.told.told_as.Tie as tie
 
 returns : tie.Need-returns
-unfolding toldAs
 returns c = refl
 
 pub told-as-spec : {M : Type 1} → statement M

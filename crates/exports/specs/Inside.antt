@@ -1,0 +1,2 @@
+-- What functions inside promise. Nothing public rests on it.
+pub mod Told
