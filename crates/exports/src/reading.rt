@@ -59,8 +59,9 @@ pub extern "C" fn capbeacon_count_debug_section(
     attr_count: &mut u64,
 ) -> u32
     ensures { λ r. ⌜
-        SaysTwo (countsTold (countDebugSection (settingsFrom endian erased producer «global_ref» mangled «overlay_name» «overlay_id») (now (vendors .entry))
-        (now (sizes .entry)) (now (s .entry)))) r (now (place .exit)) (now («row_count» .exit)) (now («attr_count» .exit))
+        SaysTwo (countsTold (countDebugSection (settingsFrom endian erased producer «global_ref» mangled «overlay_name» «overlay_id»)
+        (now (vendors .entry)) (now (sizes .entry)) (now (s .entry)))) r (now (place .exit)) (now («row_count» .exit))
+        (now («attr_count» .exit))
         ⌝ }
 {
     let settings = settings_from(

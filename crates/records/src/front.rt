@@ -69,7 +69,9 @@ pub(crate) fn childless_fault(
     i: usize,
 ) -> Fault
     requires { ⌜ Asked (now rows) n i ⌝ }
-    ensures { λ r. ⌜ saidFault r ≡ childlessFault (now (rows .entry)) i (childWalk e (now (s .entry)) (now (rows .entry)) (now (attrs .entry)) n i) ⌝ }
+    ensures { λ r. ⌜
+        saidFault r ≡ childlessFault (now (rows .entry)) i (childWalk e (now (s .entry)) (now (rows .entry)) (now (attrs .entry)) n i)
+        ⌝ }
 {
     let row = row_at(rows, i);
     match count_children(s, e, rows, attrs, n, i) {

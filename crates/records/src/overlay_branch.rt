@@ -123,8 +123,8 @@ pub fn process_overlay_branch(
     key: u32,
 ) -> OverlayBranchRead
     ensures { λ r. ⌜
-        saidOverlayBranchRead r ≡ processOverlayBranch (table (now (s .entry)) settings (now (vendors .entry)) (now (sizes .entry)) (now (rows .entry))
-        (now (attrs .entry)) counts) key
+        saidOverlayBranchRead r ≡ processOverlayBranch (table (now (s .entry)) settings (now (vendors .entry)) (now (sizes .entry))
+        (now (rows .entry)) (now (attrs .entry)) counts) key
         ⌝ }
 {
     match row_of(s, settings, vendors, sizes, rows, attrs, counts, key) {

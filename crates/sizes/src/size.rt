@@ -99,7 +99,8 @@ pub(crate) fn type_size(
 ) -> Sized
     requires { ⌜ TableReady (now s) (now rows) n × AllKept settings (now sizes) (now s) (now rows) (now attrs) n (now known) (now kept) ⌝ }
     ensures { λ r. ⌜
-        saidSized r ≡ typeSizeFrom settings (now (sizes .entry)) (now (s .entry)) (now (rows .entry)) (now (attrs .entry)) n (now (known .entry)) levels of
+        saidSized r ≡ typeSizeFrom settings (now (sizes .entry)) (now (s .entry)) (now (rows .entry)) (now (attrs .entry)) n
+        (now (known .entry)) levels of
         ⌝ }
 {
     if of.pointer {
@@ -129,7 +130,8 @@ pub(crate) fn entry_size(
 ) -> Sized
     requires { ⌜ TableReady (now s) (now rows) n × AllKept settings (now sizes) (now s) (now rows) (now attrs) n (now known) (now kept) ⌝ }
     ensures { λ r. ⌜
-        saidSized r ≡ entrySizeFrom settings (now (sizes .entry)) (now (s .entry)) (now (rows .entry)) (now (attrs .entry)) n (now (known .entry)) levels key
+        saidSized r ≡ entrySizeFrom settings (now (sizes .entry)) (now (s .entry)) (now (rows .entry)) (now (attrs .entry)) n
+        (now (known .entry)) levels key
         ⌝ }
 {
     match find_row(rows, n, key) {
@@ -352,8 +354,8 @@ pub fn size_of_key(
     key: u32,
 ) -> Sized
     ensures { λ r. ⌜
-        saidSized r ≡ sizeOfKey (table (now (s .entry)) settings (now (vendors .entry)) (now (sizes .entry)) (now (rows .entry)) (now (attrs .entry)) counts)
-        key
+        saidSized r ≡ sizeOfKey (table (now (s .entry)) settings (now (vendors .entry)) (now (sizes .entry)) (now (rows .entry))
+        (now (attrs .entry)) counts) key
         ⌝ }
 {
     match test_table(s, settings, vendors, sizes, rows, attrs, counts) {
@@ -388,8 +390,8 @@ pub fn size_of_type(
     of: Type,
 ) -> Sized
     ensures { λ r. ⌜
-        saidSized r ≡ sizeOfType (table (now (s .entry)) settings (now (vendors .entry)) (now (sizes .entry)) (now (rows .entry)) (now (attrs .entry)) counts)
-        of
+        saidSized r ≡ sizeOfType (table (now (s .entry)) settings (now (vendors .entry)) (now (sizes .entry)) (now (rows .entry))
+        (now (attrs .entry)) counts) of
         ⌝ }
 {
     match test_table(s, settings, vendors, sizes, rows, attrs, counts) {

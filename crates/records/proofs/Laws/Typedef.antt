@@ -14,7 +14,7 @@ use Rattle.numbers.specs.declared.unsigned.Read32.{Read32}
 use Rattle.numbers.specs.declared.unsigned.Read32.the-variants as read32
 use Rattle.format.specs.AttributeKind as attribute
 use Rattle.format.specs.Said.{Said, gives, refuses, refuse, refusal, must, _>>=_, _>>_, placed}
-use Rattle.format.proofs.Laws.Said.{case-said, goes-on, goes-past, must-passed, must-failed}
+use Rattle.format.proofs.Laws.Said.{case-said, goes-on, goes-past, then-same, must-passed, must-failed}
 use Rattle.format.specs.declared.settings.Settings.{Settings}
 use Rattle.format.specs.declared.refusal.Refusal.{Refusal}
 use Rattle.format.specs.declared.refusal.Reason.{Reason}
@@ -252,12 +252,6 @@ module _ (s attrs : List ℕ) (run : Run) where
       ∙ sym (leaves (attributeAt attrs (run .first + j)) (knownAt s attrs run j (firstFilling f t)) own) ∙ overwrites j (firstFilling f t)
 
 -- ---- the attributes in their order
-
--- what follows is the same for each value
-then-same : {A B : Type 0} (d : Said A) {next other : A → Said B} → ((x : A) → next x ≡ other x) → (d >>= next) ≡ (d >>= other)
-unfolding _>>=_
-then-same (gives x) h = h x
-then-same (refuses number place counts) h = refl
 
 module _ (settings : Settings) (s rows attrs : List ℕ) (n levels : ℕ) where
   -- a specification's row, where it says one: another may be followed, and it is one of the table's

@@ -10,7 +10,7 @@ use lib.Dec.{eqb}
 use Rattle.format.specs.AttributeKind as attribute
 use Rattle.format.specs.TagKind as tag
 use Rattle.format.specs.Said.{Said, gives, refuses, refusal, placed, _>>=_, _>>_}
-use Rattle.format.proofs.Laws.Said.{case-said, goes-past, given-refused}
+use Rattle.format.proofs.Laws.Said.{case-said, goes-past, given-refused, bind-bind, past-bind}
 use Rattle.format.specs.declared.settings.Settings.{Settings}
 use Rattle.format.specs.declared.refusal.Refusal.{Refusal}
 use Rattle.format.specs.declared.refusal.Reason.the-variants as reason
@@ -56,25 +56,6 @@ use Rattle.sizes.specs.declared.prepare.Shape.{Shape}
 use Rattle.sizes.specs.declared.prepare.Shape.the-variants as shape
 use Rattle.sizes.specs.declared.prepare.Prepared.{Prepared}
 use Rattle.sizes.specs.declared.prepare.Prepared.the-variants as prepared
-
--- ---- what follows what follows
-
-module _ {A B C : Type 0} (d : Said A) where
-  bind-bind : (f : A → Said B) (g : B → Said C) → ((d >>= f) >>= g) ≡ (d >>= λ x. f x >>= g)
-  unfolding _>>=_
-  bind-bind f g =
-      elim d [
-        | gives x ↦ refl
-        | refuses number place counts ↦ refl
-      ]
-
-  past-bind : (next : Said B) (g : B → Said C) → ((d >> next) >>= g) ≡ (d >> (next >>= g))
-  unfolding _>>=_ _>>_
-  past-bind next g =
-      elim d [
-        | gives x ↦ refl
-        | refuses number place counts ↦ refl
-      ]
 
 -- ---- the subscripts of an array
 

@@ -13,8 +13,8 @@ use Rattle.format.specs.Lookup.{indexOf}
 use Rattle.format.specs.FundType.{fundTypes}
 use Rattle.format.specs.TagKind as tag
 use Rattle.format.specs.AttributeKind as attribute
-use Rattle.format.specs.Said.{Said, gives, refuses, refuse, refusal, _>>=_, _>>_}
-use Rattle.format.proofs.Laws.Said.{case-said, goes-on, must-passed, must-failed, given-is, given-refused, past-gave, step-gave}
+use Rattle.format.specs.Said.{Said, gives, refuse, refusal, _>>=_, _>>_}
+use Rattle.format.proofs.Laws.Said.{case-said, goes-on, must-passed, must-failed, given-is, given-refused, past-gave, step-gave, tests-gave}
 use Rattle.format.specs.declared.settings.Settings.{Settings}
 use Rattle.format.specs.declared.refusal.Refusal.{Refusal}
 use Rattle.format.specs.declared.refusal.Reason.the-variants as reason
@@ -164,18 +164,12 @@ array-other s attrs run p =
     in
     other (λ h. h) (step-gave (subscriptsAt s attrs run (last .0)) _ (last .2) .2)
 
--- what passed found no fault
-passed : (d : Said Unit) (r : Ready) {x : Ready} → (d >> gives r) ≡ gives x → d ≡ gives tt
-unfolding _>>_
-passed (gives x) r p = refl
-passed (refuses number place counts) r p = absurd (given-refused (sym p))
-
 module _ (settings : Settings) (s rows attrs : List ℕ) (n i : ℕ) where
   -- the ends are asked for only of a structure without a fault
   shape-clear : (x : Shape) → preparedShape settings s rows attrs n i x ≡ gives endsWanted → structureFault settings s rows attrs n i ≡ gives tt
   unfolding preparedShape preparedStructure preparedEnumeration preparedUnion preparedPointer
   shape-clear shape.Array p = absurd (array-other s attrs (runOf (settings .endian) rows i) p)
-  shape-clear shape.Structure p = passed (structureFault settings s rows attrs n i) _ p
+  shape-clear shape.Structure p = tests-gave (structureFault settings s rows attrs n i) _ p .0
   shape-clear shape.Enumeration p = absurd (other (λ h. h) (step-gave (enumerationAt settings s rows attrs n i) _ p .2))
   shape-clear shape.Union p = absurd (other (λ h. h) (step-gave (unionAt settings s rows attrs n i) _ p .2))
   shape-clear shape.PtrToMember p = absurd (other (λ h. h) (past-gave (ptrAt settings s rows attrs n i) _ p))
