@@ -5,7 +5,7 @@ use mathlib.Core.Bool.{Bool, cond, _&&_}
 use mathlib.Core.List.{List, [], _∷_, _++_}
 use lib.ListN.{length}
 use lib.Dec.{leb}
-use Rattle.tables.specs.Table.{Table}
+use Rattle.tables.specs.Table.{Table, Rows, tableRows}
 use Rattle.lent.specs.Outcome.{Outcomes}
 use Rattle.format.specs.AttributeKind as attribute
 use Rattle.format.specs.Said.{Said, gives, refuses, refusal, wanting, inRooms, fillsRooms}
@@ -46,21 +46,21 @@ laidOf (refuses number place counts) = []
 unfoldable pub alsoIf : Bool → Structure → List Structure → List Structure
 alsoIf kept x xs = cond kept (x ∷ xs) xs
 
-module _ (settings : Settings) (s rows attrs : List ℕ) (n : ℕ) (sizeOf : «Type» → Said ℕ) where
+module _ (settings : Settings) (t : Rows) (sizeOf : «Type» → Said ℕ) where
   -- what is said of row i; its name is its last, as a record's is
   unfoldable pub structureAt : ℕ → Structure
   structureAt i =
       record {
         row = i;
-        name = nameOf s attrs (runOf (settings .endian) rows i) attribute.Name;
-        answer = layoutAt settings s rows attrs n sizeOf i;
-        members = laidOf (rowLay settings s rows attrs n sizeOf i);
+        name = nameOf (t .section) (t .attrs) (runOf (settings .endian) (t .rows) i) attribute.Name;
+        answer = layoutAt settings t sizeOf i;
+        members = laidOf (rowLay settings t sizeOf i);
       }
 
-  -- the structures and classes among so many rows from row i on
+  -- the structures and classes among so many (t .rows) from row i on
   unfoldable pub structuresFrom : ℕ → ℕ → List Structure
   structuresFrom i zero = []
-  structuresFrom i (suc left) = alsoIf (isStructure (shapeOf (rowAt rows i .kind))) (structureAt i) (structuresFrom (suc i) left)
+  structuresFrom i (suc left) = alsoIf (isStructure (shapeOf (rowAt (t .rows) i .kind))) (structureAt i) (structuresFrom (suc i) left)
 
 -- ---- into lent rooms: 8 last, with the counts
 
@@ -104,4 +104,4 @@ unfoldable pub allLayouts : Table → List ℕ → List ℕ → Outcomes (Said L
 allLayouts t structures members =
     inRooms structures members (testTable t)
     (λ passed. layoutsInto structures members
-    (structuresFrom (t .settings) (t .section) (t .rows) (t .attrs) (t .counts .rows) (innerSize t) 0 (t .counts .rows)))
+    (structuresFrom (t .settings) (tableRows t) (innerSize t) 0 (t .counts .rows)))

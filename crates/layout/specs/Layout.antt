@@ -7,7 +7,7 @@ use mathlib.Core.Bool.{Bool, true, false, cond}
 use mathlib.Core.List.{List, [], _∷_}
 use lib.ListN.{length}
 use lib.Dec.{leb}
-use Rattle.tables.specs.Table.{Table}
+use Rattle.tables.specs.Table.{Table, Rows, tableRows}
 use Rattle.lent.specs.Outcome.{Outcome}
 use Rattle.format.specs.AttributeKind as attribute
 use Rattle.format.specs.Said.{Said, gives, refusal, wanting, must, _>>=_, _>>_, inRoom, fillsRoom}
@@ -82,17 +82,22 @@ sizeOrLargest largest word.Nothing = largest
 unfoldable pub ownSize : Settings → List ℕ → List ℕ → List ℕ → ℕ → Word
 ownSize settings s rows attrs i = wordOf s attrs (runOf (settings .endian) rows i) attribute.ByteSize
 
-module _ (settings : Settings) (s rows attrs : List ℕ) (n : ℕ) (sizeOf : «Type» → Said ℕ) (i : ℕ) where
+module _ (settings : Settings) (t : Rows) (sizeOf : «Type» → Said ℕ) (i : ℕ) where
   -- row i laid out: only a structure or a class has a layout, 12 at any other row; what its Member records refuse comes first, ByteSize or not
   unfoldable pub rowLay : Said Lay
   rowLay = do
-    must (isStructure (shapeOf (rowAt rows i .kind))) reason.Kind (rowAt rows i .key)
-    ms ← membersOf settings s rows attrs n i
-    laidFrom rows sizeOf (hasByteSize (ownSize settings s rows attrs i)) 0 ms
+    must (isStructure (shapeOf (rowAt (t .rows) i .kind))) reason.Kind (rowAt (t .rows) i .key)
+    ms ← membersOf settings t i
+    laidFrom (t .rows) sizeOf (hasByteSize (ownSize settings (t .section) (t .rows) (t .attrs) i)) 0 ms
 
   -- its layout: row number, size, how many members
   unfoldable pub layoutOf : Lay → Layout
-  layoutOf l = record { row = i; size = sizeOrLargest (l .largest) (ownSize settings s rows attrs i); members = length (l .members) }
+  layoutOf l =
+      record {
+        row = i;
+        size = sizeOrLargest (l .largest) (ownSize settings (t .section) (t .rows) (t .attrs) i);
+        members = length (l .members);
+      }
 
   -- row i's layout; no room is looked at yet
   unfoldable pub layoutAt : Said Layout
@@ -111,15 +116,15 @@ laidWords (x ∷ xs) = x .offset ∷ x .size ∷ x .place ∷ x .length ∷ laid
 abbrev pub laidWidth : ℕ
 laidWidth = 4
 
-module _ (settings : Settings) (s rows attrs : List ℕ) (n : ℕ) (sizeOf : «Type» → Said ℕ) (room : List ℕ) where
+module _ (settings : Settings) (t : Rows) (sizeOf : «Type» → Said ℕ) (room : List ℕ) where
   -- row i's layout and its members, if they fit
   unfoldable pub layoutInto : ℕ → Outcome (Said Layout) ℕ
   layoutInto i =
-      inRoom room (rowLay settings s rows attrs n sizeOf i)
-      (λ l. fillsRoom (leb (length (l .members)) (length room / laidWidth)) (layoutOf settings s rows attrs n sizeOf i l) (length (l .members) ∷ [])
+      inRoom room (rowLay settings t sizeOf i)
+      (λ l. fillsRoom (leb (length (l .members)) (length room / laidWidth)) (layoutOf settings t sizeOf i l) (length (l .members) ∷ [])
       (laidWords (l .members)) room)
 
 -- the layout of a key's entry, which is depth 1: the entries that its members name are depth 2
 unfoldable pub layoutOfKey : Table → ℕ → List ℕ → Outcome (Said Layout) ℕ
 layoutOfKey t key room =
-    inRoom room (rowOf t key) (layoutInto (t .settings) (t .section) (t .rows) (t .attrs) (t .counts .rows) (innerSize t) room)
+    inRoom room (rowOf t key) (layoutInto (t .settings) (tableRows t) (innerSize t) room)

@@ -27,7 +27,7 @@ ghost use mathlib.Core.Path.{_≡_};
 ghost use Prim.Native.Nat.{_*_, _≤_};
 ghost use lib.ListN.{length};
 ghost use lib.Seq.{sets};
-ghost use Rattle.tables.specs.Table.{table};
+ghost use Rattle.tables.specs.Table.{table, lentRows};
 ghost use Rattle.lent.specs.Outcome.{BothGiven};
 ghost use Rattle.sizes.specs.Size.{saidSized, typeSize};
 ghost use Rattle.layout.specs.Inside.Layout.{saidLayoutWhole};
@@ -305,13 +305,13 @@ fn put_layouts(
     members: &mut [u64],
 )
     requires { ⌜
-        PutsAsked (now s) (now rows) n (structuresFrom settings (now s) (now rows) (now attrs) n
+        PutsAsked (now s) (now rows) n (structuresFrom settings (lentRows (settings .endian) (now s) (now rows) (now attrs) n)
         (typeSizeFrom settings (now sizes) (now s) (now rows) (now attrs) n (now known) 0) 0 n) (now members) ×
         (WholesTold settings (now s) (now rows) (now attrs) n (typeSizeFrom settings (now sizes) (now s) (now rows) (now attrs) n (now known) 0) n
         (now told) × AllKept settings (now sizes) (now s) (now rows) (now attrs) n (now known) (now kept))
         ⌝ }
     ensures { λ _. ⌜
-        PutAll (structuresFrom settings (now (s .entry)) (now (rows .entry)) (now (attrs .entry)) n
+        PutAll (structuresFrom settings (lentRows (settings .endian) (now (s .entry)) (now (rows .entry)) (now (attrs .entry)) n)
         (typeSizeFrom settings (now (sizes .entry)) (now (s .entry)) (now (rows .entry)) (now (attrs .entry)) n (now (known .entry)) 0) 0 n)
         (now (structures .entry)) (now (structures .exit)) (now (members .entry)) (now (members .exit))
         ⌝ }
@@ -358,7 +358,7 @@ fn give_layouts(
     requires { ⌜ FillAsked (now s) (now rows) n (now told) × AllKept settings (now sizes) (now s) (now rows) (now attrs) n (now known) (now kept) ⌝ }
     ensures { λ r. ⌜
         BothGiven (layoutsInto (now (structures .entry)) (now (members .entry))
-        (structuresFrom settings (now (s .entry)) (now (rows .entry)) (now (attrs .entry)) n
+        (structuresFrom settings (lentRows (settings .endian) (now (s .entry)) (now (rows .entry)) (now (attrs .entry)) n)
         (typeSizeFrom settings (now (sizes .entry)) (now (s .entry)) (now (rows .entry)) (now (attrs .entry)) n (now (known .entry)) 0) 0 n))
         (saidAllLayouts r) (now (structures .exit)) (now (members .exit))
         ⌝ }
@@ -400,8 +400,9 @@ fn lay_all(
     requires { ⌜ TableReady (now s) (now rows) n ⌝ }
     ensures { λ r. ⌜
         BothGiven (layoutsInto (now (structures .entry)) (now (members .entry))
-        (structuresFrom settings (now (s .entry)) (now (rows .entry)) (now (attrs .entry)) n
-        (typeSize settings (now (sizes .entry)) (now (s .entry)) (now (rows .entry)) (now (attrs .entry)) n deepest) 0 n))
+        (structuresFrom settings (lentRows (settings .endian) (now (s .entry)) (now (rows .entry)) (now (attrs .entry)) n)
+        (typeSize settings (now (sizes .entry)) (lentRows (settings .endian) (now (s .entry)) (now (rows .entry)) (now (attrs .entry)) n) deepest) 0
+        n))
         (saidAllLayouts r) (now (structures .exit)) (now (members .exit))
         ⌝ }
 {

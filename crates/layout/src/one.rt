@@ -32,7 +32,7 @@ ghost use mathlib.Core.Path.{_≡_};
 ghost use Prim.Native.Nat.{_+_, _*_, _^_, _<_};
 ghost use lib.Seq.{sets};
 ghost use mathlib.Core.List.{[], _∷_};
-ghost use Rattle.tables.specs.Table.{table};
+ghost use Rattle.tables.specs.Table.{table, lentRows};
 ghost use Rattle.lent.specs.Outcome.{Given};
 ghost use Rattle.records.specs.Inside.Enumeration.{AskedShort};
 ghost use Rattle.tables.specs.Row.{rowAt};
@@ -333,9 +333,9 @@ pub(crate) fn read_layout(
 ) -> LayoutWhole
     requires { ⌜ AskedShort (now s) (now rows) n i × AllKept settings (now sizes) (now s) (now rows) (now attrs) n (now known) (now kept) ⌝ }
     ensures { λ r. ⌜
-        WholeLaid (layoutAt settings (now (s .entry)) (now (rows .entry)) (now (attrs .entry)) n
+        WholeLaid (layoutAt settings (lentRows (settings .endian) (now (s .entry)) (now (rows .entry)) (now (attrs .entry)) n)
         (typeSizeFrom settings (now (sizes .entry)) (now (s .entry)) (now (rows .entry)) (now (attrs .entry)) n (now (known .entry)) levels) i)
-        (rowLay settings (now (s .entry)) (now (rows .entry)) (now (attrs .entry)) n
+        (rowLay settings (lentRows (settings .endian) (now (s .entry)) (now (rows .entry)) (now (attrs .entry)) n)
         (typeSizeFrom settings (now (sizes .entry)) (now (s .entry)) (now (rows .entry)) (now (attrs .entry)) n (now (known .entry)) levels) i) r
         (now (room .entry)) (now (room .exit))
         ⌝ }
@@ -385,7 +385,7 @@ fn give_layout(
 ) -> LayoutRead
     requires { ⌜ AskedShort (now s) (now rows) n i × AllKept settings (now sizes) (now s) (now rows) (now attrs) n (now known) (now kept) ⌝ }
     ensures { λ r. ⌜
-        Given (layoutInto settings (now (s .entry)) (now (rows .entry)) (now (attrs .entry)) n
+        Given (layoutInto settings (lentRows (settings .endian) (now (s .entry)) (now (rows .entry)) (now (attrs .entry)) n)
         (typeSizeFrom settings (now (sizes .entry)) (now (s .entry)) (now (rows .entry)) (now (attrs .entry)) n (now (known .entry)) levels)
         (now (room .entry)) i) (saidLayoutRead r) (now (room .exit))
         ⌝ }

@@ -6,7 +6,7 @@ use lib.Dec.{leb}
 use Rattle.lent.specs.Outcome.{Outcome}
 use Rattle.format.specs.Said.{Said, gives, refuse, refusal, wanting, _>>=_, inRoom, fillsRoom}
 use Rattle.format.specs.declared.refusal.Reason.the-variants as reason
-use Rattle.tables.specs.Table.{Table}
+use Rattle.tables.specs.Table.{Table, tableRows}
 use Rattle.tables.specs.Keyed.{rowOf}
 use Rattle.links.specs.Walk.{Walk, ends, endless}
 use Rattle.links.specs.Links.{childWalk, nonNull}
@@ -28,7 +28,7 @@ childrenMet rows key endless = refuse reason.Link key
 unfoldable pub childRowsOf : Table → ℕ → Said (List ℕ)
 childRowsOf t key = do
   i ← rowOf t key
-  childrenMet (t .rows) key (childWalk (t .settings .endian) (t .section) (t .rows) (t .attrs) (t .counts .rows) i)
+  childrenMet (t .rows) key (childWalk (tableRows t) i)
 
 -- `children`: they go into the room, words past them as they were
 unfoldable pub childrenOfKey : Table → ℕ → List ℕ → Outcome (Said ℕ) ℕ

@@ -4,7 +4,7 @@ use mathlib.Core.Bool.{Bool, cond, not, _||_}
 use mathlib.Core.List.{List, [], _∷_}
 use lib.Dec.{eqb}
 use Rattle.format.specs.TagKind as tag
-use Rattle.numbers.specs.declared.Endian.{Endian}
+use Rattle.tables.specs.Table.{Rows}
 use Rattle.tables.specs.Row.{rowAt, erasedRow}
 use Rattle.tables.specs.Find.{rowOfKey}
 use Rattle.tables.specs.declared.find.Found.{Found}
@@ -35,13 +35,12 @@ siblingBy rows n i (To key) = rowNumber n (rowOfKey rows n key)
 siblingBy rows n i reference.Nothing = nextRow rows n i
 
 -- row i's sibling
-unfoldable pub siblingRow : Endian → List ℕ → List ℕ → List ℕ → ℕ → ℕ → ℕ
-siblingRow e s rows attrs n i = siblingBy rows n i (referenceOf e s rows attrs i siblingNumber)
+unfoldable pub siblingRow : Rows → ℕ → ℕ
+siblingRow t i = siblingBy (t .rows) (t .count) i (referenceOf (t .endian) (t .section) (t .rows) (t .attrs) i siblingNumber)
 
 -- the rows that the child walk of row i meets: from the row after it, sibling by sibling, up to its own sibling
-unfoldable pub childWalk : Endian → List ℕ → List ℕ → List ℕ → ℕ → ℕ → Walk
-childWalk e s rows attrs n i =
-    walkFrom n (λ c. siblingRow e s rows attrs n c) (siblingRow e s rows attrs n i) n (nextRow rows n i)
+unfoldable pub childWalk : Rows → ℕ → Walk
+childWalk t i = walkFrom (t .count) (λ c. siblingRow t c) (siblingRow t i) (t .count) (nextRow (t .rows) (t .count) i)
 
 -- row c is a null entry
 unfoldable pub nullRow : List ℕ → ℕ → Bool

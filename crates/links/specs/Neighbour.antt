@@ -3,7 +3,7 @@ use Prim.Native.Nat.{ℕ}
 use mathlib.Core.Bool.{cond}
 use lib.Dec.{ltb}
 use Rattle.format.specs.Said.{Said, gives, refusal, _>>=_}
-use Rattle.tables.specs.Table.{Table}
+use Rattle.tables.specs.Table.{Table, tableRows}
 use Rattle.tables.specs.Keyed.{rowOf}
 use Rattle.tables.specs.declared.find.Found.{Found}
 use Rattle.tables.specs.declared.find.Found.the-variants.{At, Nothing}
@@ -31,4 +31,4 @@ nextTag t key = do
 unfoldable pub nextSibling : Table → ℕ → Said Found
 nextSibling t key = do
   i ← rowOf t key
-  gives (rowOrNone (t .counts .rows) (siblingRow (t .settings .endian) (t .section) (t .rows) (t .attrs) (t .counts .rows) i))
+  gives (rowOrNone (t .counts .rows) (siblingRow (tableRows t) i))

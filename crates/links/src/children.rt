@@ -11,11 +11,11 @@ use tables::keyed::row_of;
 use tables::row::Counts;
 use tables::row::row_at;
 ghost use mathlib.Core.Path.{_≡_};
-ghost use Rattle.tables.specs.Table.{table};
+ghost use Rattle.tables.specs.Table.{table, lentRows};
 ghost use Rattle.lent.specs.Outcome.{Given};
 ghost use Rattle.links.specs.Walk.{walkFrom};
 ghost use Rattle.links.specs.Links.{siblingRow, childWalk};
-ghost use Rattle.links.specs.Inside.Links.{Rows};
+ghost use Rattle.links.specs.Inside.Links.{RowsHold};
 ghost use Rattle.links.specs.Inside.Children.{gatheredInto, Gathers, TakesChild, Small, Asked, listedInto};
 ghost use Rattle.links.specs.Children.{saidChildRows, childrenOfKey};
 ghost use mathlib.Core.List.{[]};
@@ -58,10 +58,10 @@ fn walk(
     from: usize,
     room: &mut [u32],
 ) -> Kids
-    requires { ⌜ Rows (now rows) n ⌝ }
+    requires { ⌜ RowsHold (now rows) n ⌝ }
     ensures { λ r. ⌜
         Gathers (gatheredInto (now (rows .entry)) 0 (now (room .entry))
-        (walkFrom n (λ c. siblingRow e (now (s .entry)) (now (rows .entry)) (now (attrs .entry)) n c) end n from)) r (now (room .exit))
+        (walkFrom n (λ c. siblingRow (lentRows e (now (s .entry)) (now (rows .entry)) (now (attrs .entry)) n) c) end n from)) r (now (room .exit))
         ⌝ }
 {
     let mut c = from;
@@ -93,7 +93,8 @@ fn gather(
 ) -> Kids
     requires { ⌜ Asked (now rows) n i ⌝ }
     ensures { λ r. ⌜
-        Gathers (gatheredInto (now (rows .entry)) 0 (now (room .entry)) (childWalk e (now (s .entry)) (now (rows .entry)) (now (attrs .entry)) n i)) r
+        Gathers (gatheredInto (now (rows .entry)) 0 (now (room .entry))
+        (childWalk (lentRows e (now (s .entry)) (now (rows .entry)) (now (attrs .entry)) n) i)) r
         (now (room .exit))
         ⌝ }
 {
@@ -105,7 +106,9 @@ fn gather(
 // The same into no room: it counts.
 pub fn count_children(s: &[u8], e: Endian, rows: &[u32], attrs: &[u32], n: usize, i: usize) -> Kids
     requires { ⌜ Asked (now rows) n i ⌝ }
-    ensures { λ r. ⌜ r ≡ gatheredInto (now (rows .entry)) 0 [] (childWalk e (now (s .entry)) (now (rows .entry)) (now (attrs .entry)) n i) .answer ⌝ }
+    ensures { λ r. ⌜
+        r ≡ gatheredInto (now (rows .entry)) 0 [] (childWalk (lentRows e (now (s .entry)) (now (rows .entry)) (now (attrs .entry)) n) i) .answer
+        ⌝ }
 {
     let mut room = [0u32; 0];
     gather(s, e, rows, attrs, n, i, &mut room)
@@ -124,7 +127,8 @@ fn give(
 ) -> ChildRows
     requires { ⌜ Asked (now rows) n i ⌝ }
     ensures { λ r. ⌜
-        Given (listedInto (now (rows .entry)) key (now (room .entry)) (childWalk e (now (s .entry)) (now (rows .entry)) (now (attrs .entry)) n i))
+        Given (listedInto (now (rows .entry)) key (now (room .entry))
+        (childWalk (lentRows e (now (s .entry)) (now (rows .entry)) (now (attrs .entry)) n) i))
         (saidChildRows r) (now (room .exit))
         ⌝ }
 {

@@ -8,6 +8,7 @@ use tables::row::is_erased;
 use tables::row::row_at;
 ghost use mathlib.Core.Path.{_≡_};
 ghost use Prim.Native.Nat.{_-_, _≤_};
+ghost use Rattle.tables.specs.Table.{lentRows};
 ghost use Rattle.tables.specs.Find.{rowOfKey};
 ghost use Rattle.links.specs.Links.{nextFrom, nextRow, rowNumber, siblingRow};
 ghost use Rattle.links.specs.Inside.Links.{AtRow};
@@ -56,7 +57,7 @@ fn row_number(rows: &[u32], n: usize, i: usize, key: u32) -> usize
 // The row that the first Sibling reference of row i names, n where no row has that key; without a reference the next row.
 pub fn sibling_row(s: &[u8], e: Endian, rows: &[u32], attrs: &[u32], n: usize, i: usize) -> usize
     requires { ⌜ AtRow (now rows) n i ⌝ }
-    ensures { λ r. ⌜ r ≡ siblingRow e (now (s .entry)) (now (rows .entry)) (now (attrs .entry)) n i ⌝ }
+    ensures { λ r. ⌜ r ≡ siblingRow (lentRows e (now (s .entry)) (now (rows .entry)) (now (attrs .entry)) n) i ⌝ }
 {
     match reference_of(s, e, rows, attrs, i, SIBLING) {
         Reference::To(key) => row_number(rows, n, i, key),

@@ -6,7 +6,7 @@ use mathlib.Core.List.{List, [], _∷_, _++_}
 use lib.ListN.{length}
 use lib.Dec.{leb}
 use lib.IntN.{ℤ}
-use Rattle.tables.specs.Table.{Table}
+use Rattle.tables.specs.Table.{Table, Rows, tableRows}
 use Rattle.lent.specs.Outcome.{Outcomes}
 use Rattle.format.specs.AttributeKind as attribute
 use Rattle.format.specs.Said.{Said, gives, refusal, wanting, _>>=_, _>>_, placed, inRooms, fillsRooms}
@@ -80,35 +80,35 @@ enumerationSized s attrs run many = do
   size ← wordNeeded (run .key) (wordOf s attrs run attribute.ByteSize)
   gives (record { name = nameOf s attrs run attribute.Name; «byte_size» = size; members = many })
 
-module _ (settings : Settings) (s rows attrs : List ℕ) (n i : ℕ) where
+module _ (settings : Settings) (t : Rows) (i : ℕ) where
   -- the row's attributes
   abbrev theRun : Run
-  theRun = runOf (settings .endian) rows i
+  theRun = runOf (settings .endian) (t .rows) i
 
   -- what they list
   unfoldable pub rowLists : Said (List Listed)
-  rowLists = listsFrom settings s attrs theRun 0 (theRun .count)
+  rowLists = listsFrom settings (t .section) (t .attrs) theRun 0 (theRun .count)
 
   -- the enumeration at row i: name, size and how many members
   unfoldable pub enumerationAt : Said Enumeration
   enumerationAt = do
-    kindFault settings rows record′.Enumeration i
+    kindFault settings (t .rows) record′.Enumeration i
     xs ← rowLists
-    childlessFault rows i (childWalk (settings .endian) s rows attrs n i)
-    enumerationSized s attrs theRun (length xs)
+    childlessFault (t .rows) i (childWalk t i)
+    enumerationSized (t .section) (t .attrs) theRun (length xs)
 
 -- ---- into lent room: 8 last, with the count
 
-module _ (settings : Settings) (s rows attrs : List ℕ) (n : ℕ) (values : List ℤ) (names : List ℕ) where
+module _ (settings : Settings) (t : Rows) (values : List ℤ) (names : List ℕ) where
   -- the enumeration of row i and its members in order, if they fit: a member is one value, and two words of names
   unfoldable pub enumerationInto : ℕ → Outcomes (Said Enumeration) ℤ ℕ
   enumerationInto i =
-      inRooms values names (enumerationAt settings s rows attrs n i)
-      (λ e. inRooms values names (rowLists settings s rows attrs n i)
+      inRooms values names (enumerationAt settings t i)
+      (λ e. inRooms values names (rowLists settings t i)
       (λ xs. fillsRooms (leb (e .members) (length values) && leb (e .members) (length names / 2)) e (e .members ∷ [])
       (valuesOf (inOrder (settings .producer) xs)) (namesOf (inOrder (settings .producer) xs)) values names))
 
 -- the enumeration of a key
 unfoldable pub processEnumerationTag : Table → ℕ → List ℤ → List ℕ → Outcomes (Said Enumeration) ℤ ℕ
 processEnumerationTag t key values names =
-    inRooms values names (rowOf t key) (enumerationInto (t .settings) (t .section) (t .rows) (t .attrs) (t .counts .rows) values names)
+    inRooms values names (rowOf t key) (enumerationInto (t .settings) (tableRows t) values names)

@@ -11,6 +11,7 @@ use Rattle.format.specs.declared.settings.Settings.{Settings}
 use Rattle.format.specs.declared.settings.Producer.{Producer}
 use Rattle.format.specs.declared.settings.Producer.the-variants.{Mwcc, Gcc, Other}
 use Rattle.format.specs.declared.refusal.Reason.the-variants as reason
+use Rattle.tables.specs.Table.{Rows}
 use Rattle.tables.specs.Row.{rowAt}
 use Rattle.links.specs.Walk.{Walk, ends, endless}
 use Rattle.links.specs.Links.{childWalk, nonNull}
@@ -51,7 +52,7 @@ headOf settings s rows attrs r i = do
   faultsFrom (faultAt (settings .roles) r (runOf (settings .endian) rows i) s attrs) 0 (runOf (settings .endian) rows i .count)
 
 -- the same, and no children
-unfoldable pub frontOf : Settings → List ℕ → List ℕ → List ℕ → ℕ → Record → ℕ → Said Unit
-frontOf settings s rows attrs n r i = do
-  headOf settings s rows attrs r i
-  childlessFault rows i (childWalk (settings .endian) s rows attrs n i)
+unfoldable pub frontOf : Settings → Rows → Record → ℕ → Said Unit
+frontOf settings t r i = do
+  headOf settings (t .section) (t .rows) (t .attrs) r i
+  childlessFault (t .rows) i (childWalk t i)

@@ -1,7 +1,7 @@
 -- Labels (the Rust's `process_subroutine_label_tag`): a name and an address are needed.
 use Prim.Native.Nat.{ℕ}
 use mathlib.Core.List.{List}
-use Rattle.tables.specs.Table.{Table}
+use Rattle.tables.specs.Table.{Table, Rows, tableRows}
 use Rattle.format.specs.AttributeKind as attribute
 use Rattle.format.specs.Said.{Said, gives, refusal, _>>=_, _>>_}
 use Rattle.format.specs.declared.settings.Settings.{Settings}
@@ -28,13 +28,13 @@ labelFields s attrs run = do
   gives (record { name = text; address = address })
 
 -- the label at row i
-unfoldable pub labelAt : Settings → List ℕ → List ℕ → List ℕ → ℕ → ℕ → Said Label
-labelAt settings s rows attrs n i = do
-  frontOf settings s rows attrs n record′.Label i
-  labelFields s attrs (runOf (settings .endian) rows i)
+unfoldable pub labelAt : Settings → Rows → ℕ → Said Label
+labelAt settings t i = do
+  frontOf settings t record′.Label i
+  labelFields (t .section) (t .attrs) (runOf (settings .endian) (t .rows) i)
 
 -- the label of a key
 unfoldable pub processSubroutineLabelTag : Table → ℕ → Said Label
 processSubroutineLabelTag t key = do
   i ← rowOf t key
-  labelAt (t .settings) (t .section) (t .rows) (t .attrs) (t .counts .rows) i
+  labelAt (t .settings) (tableRows t) i

@@ -1,7 +1,7 @@
 -- Members (the Rust's `process_structure_member_tag`): a type and an offset are needed, and both bit attributes or neither.
 use Prim.Native.Nat.{ℕ}
 use mathlib.Core.List.{List}
-use Rattle.tables.specs.Table.{Table}
+use Rattle.tables.specs.Table.{Table, Rows, tableRows}
 use Rattle.format.specs.AttributeKind as attribute
 use Rattle.format.specs.Said.{Said, gives, refuse, refusal, _>>=_, _>>_}
 use Rattle.format.specs.declared.settings.Settings.{Settings}
@@ -48,13 +48,13 @@ memberFields s attrs run = do
   })
 
 -- the member at row i
-unfoldable pub memberAt : Settings → List ℕ → List ℕ → List ℕ → ℕ → ℕ → Said Member
-memberAt settings s rows attrs n i = do
-  frontOf settings s rows attrs n record′.Member i
-  memberFields s attrs (runOf (settings .endian) rows i)
+unfoldable pub memberAt : Settings → Rows → ℕ → Said Member
+memberAt settings t i = do
+  frontOf settings t record′.Member i
+  memberFields (t .section) (t .attrs) (runOf (settings .endian) (t .rows) i)
 
 -- the member of a key
 unfoldable pub processStructureMemberTag : Table → ℕ → Said Member
 processStructureMemberTag t key = do
   i ← rowOf t key
-  memberAt (t .settings) (t .section) (t .rows) (t .attrs) (t .counts .rows) i
+  memberAt (t .settings) (tableRows t) i

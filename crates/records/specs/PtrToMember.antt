@@ -1,7 +1,7 @@
 -- Pointers to member (the Rust's `process_ptr_to_member_tag`): a type and a containing type are needed.
 use Prim.Native.Nat.{ℕ}
 use mathlib.Core.List.{List}
-use Rattle.tables.specs.Table.{Table}
+use Rattle.tables.specs.Table.{Table, Rows, tableRows}
 use Rattle.format.specs.AttributeKind as attribute
 use Rattle.format.specs.Said.{Said, gives, refusal, _>>=_, _>>_}
 use Rattle.format.specs.declared.settings.Settings.{Settings}
@@ -28,13 +28,13 @@ ptrFields s attrs run = do
   gives (record { of = of; containing = containing })
 
 -- the pointer to member at row i
-unfoldable pub ptrAt : Settings → List ℕ → List ℕ → List ℕ → ℕ → ℕ → Said PtrToMember
-ptrAt settings s rows attrs n i = do
-  frontOf settings s rows attrs n record′.PtrToMember i
-  ptrFields s attrs (runOf (settings .endian) rows i)
+unfoldable pub ptrAt : Settings → Rows → ℕ → Said PtrToMember
+ptrAt settings t i = do
+  frontOf settings t record′.PtrToMember i
+  ptrFields (t .section) (t .attrs) (runOf (settings .endian) (t .rows) i)
 
 -- the pointer to member of a key
 unfoldable pub processPtrToMemberTag : Table → ℕ → Said PtrToMember
 processPtrToMemberTag t key = do
   i ← rowOf t key
-  ptrAt (t .settings) (t .section) (t .rows) (t .attrs) (t .counts .rows) i
+  ptrAt (t .settings) (tableRows t) i

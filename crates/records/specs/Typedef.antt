@@ -5,7 +5,7 @@ use Prim.Native.Nat.{ℕ, zero, suc, _+_}
 use mathlib.Core.Bool.{true, false, not, cond}
 use mathlib.Core.List.{List}
 use lib.Dec.{eqb}
-use Rattle.tables.specs.Table.{Table}
+use Rattle.tables.specs.Table.{Table, Rows, tableRows}
 use Rattle.numbers.specs.Value.{readAt}
 use Rattle.format.specs.AttributeKind as attribute
 use Rattle.format.specs.Limits.{specificationLimit}
@@ -91,54 +91,55 @@ module _ (settings : Settings) (rows : List ℕ) (n : ℕ) where
     kindFault settings rows record′.Typedef r
     gives r
 
-module _ (settings : Settings) (s rows attrs : List ℕ) (n : ℕ) where
+module _ (settings : Settings) (t : Rows) where
   -- attribute j of the run, a specification
   unfoldable pub specified : Run → ℕ → ℕ → Said ℕ
   specified run levels j = do
-    faultAt (settings .roles) record′.Typedef run s attrs j
-    readAt (specifiedBy settings rows n levels) (refuse reason.Block (run .key)) (run .ends .section) 4 s (attributeAt attrs (run .first + j) .value)
+    faultAt (settings .roles) record′.Typedef run (t .section) (t .attrs) j
+    readAt (specifiedBy settings (t .rows) (t .count) levels) (refuse reason.Block (run .key)) (run .ends .section) 4 (t .section)
+        (attributeAt (t .attrs) (run .first + j) .value)
 
   -- ---- the attributes in their order
 
   -- after the attributes: no children, then name and type
   unfoldable pub typedefEnd : ℕ → Known → Said Typedef
   typedefEnd i known = do
-    childlessFault rows i (childWalk (settings .endian) s rows attrs n i)
-    text ← nameNeeded (rowAt rows i .key) (known .name)
-    of ← typeNeeded (rowAt rows i .key) (known .of)
+    childlessFault (t .rows) i (childWalk t i)
+    text ← nameNeeded (rowAt (t .rows) i .key) (known .name)
+    of ← typeNeeded (rowAt (t .rows) i .key) (known .of)
     gives (record { name = text; of = of })
 
   -- m attributes of row i's run from number j on; `below` reads the typedef that a specification names
   unfoldable pub attributesFrom : (ℕ → Said Typedef) → ℕ → ℕ → Run → ℕ → ℕ → Known → Said Typedef
   attributesFrom below levels i run j zero known = typedefEnd i known
   attributesFrom below levels i run j (suc m) known =
-      elim (special record′.Typedef (numberAt (settings .roles) record′.Typedef run s attrs j)) [
+      elim (special record′.Typedef (numberAt (settings .roles) record′.Typedef run (t .section) (t .attrs) j)) [
         | true ↦ do
           r ← specified run levels j
-          t ← below r
-          attributesFrom below levels i run (suc j) m (filledIn known t)
+          typedef ← below r
+          attributesFrom below levels i run (suc j) m (filledIn known typedef)
         | false ↦ do
-          faultAt (settings .roles) record′.Typedef run s attrs j
-          attributesFrom below levels i run (suc j) m (overwritten s run (attributeAt attrs (run .first + j)) known)
+          faultAt (settings .roles) record′.Typedef run (t .section) (t .attrs) j
+          attributesFrom below levels i run (suc j) m (overwritten (t .section) run (attributeAt (t .attrs) (run .first + j)) known)
       ]
 
   -- the typedef at row i, a typedef's row, where so many specifications may still be followed
   unfoldable pub typedefRun : ℕ → ℕ → Said Typedef
   typedefRun zero i =
-      attributesFrom (λ r. refuse reason.Depth (rowAt rows r .key)) zero i (runOf (settings .endian) rows i) 0
-      (runOf (settings .endian) rows i .count)
+      attributesFrom (λ r. refuse reason.Depth (rowAt (t .rows) r .key)) zero i (runOf (settings .endian) (t .rows) i) 0
+      (runOf (settings .endian) (t .rows) i .count)
       unknown
   typedefRun (suc levels) i =
-      attributesFrom (typedefRun levels) (suc levels) i (runOf (settings .endian) rows i) 0 (runOf (settings .endian) rows i .count) unknown
+      attributesFrom (typedefRun levels) (suc levels) i (runOf (settings .endian) (t .rows) i) 0 (runOf (settings .endian) (t .rows) i .count) unknown
 
   -- the typedef at row i
   unfoldable pub typedefAt : ℕ → Said Typedef
   typedefAt i = do
-    kindFault settings rows record′.Typedef i
+    kindFault settings (t .rows) record′.Typedef i
     typedefRun specificationLimit i
 
 -- the typedef of a key
 unfoldable pub processTypedefTag : Table → ℕ → Said Typedef
 processTypedefTag t key = do
   i ← rowOf t key
-  typedefAt (t .settings) (t .section) (t .rows) (t .attrs) (t .counts .rows) i
+  typedefAt (t .settings) (tableRows t) i

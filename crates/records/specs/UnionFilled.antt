@@ -6,6 +6,7 @@ use lib.ListN.{length}
 use Rattle.lent.specs.Filled.{Filled}
 use Rattle.format.specs.Said.{gives}
 use Rattle.format.specs.declared.settings.Settings.{Settings}
+use Rattle.tables.specs.Table.{lentRows}
 use Rattle.tables.specs.Row.{rowAt}
 use Rattle.records.specs.MemberWords.{memberWidth}
 use Rattle.records.specs.Unions.{Placed, rowMembers, unionAt, membersWords}
@@ -16,9 +17,9 @@ pub record UnionFilled (settings : Settings) (s rows attrs : List ℕ) (n key : 
   pub row : ℕ
   pub there : row < n
   pub key-is : rowAt rows row .key ≡ key
-  pub union-is : unionAt settings s rows attrs n row ≡ gives u
+  pub union-is : unionAt settings (lentRows (settings .endian) s rows attrs n) row ≡ gives u
   -- its members, in walk order
   pub list : List Placed
-  pub are : rowMembers settings s rows attrs n row ≡ gives list
+  pub are : rowMembers settings (lentRows (settings .endian) s rows attrs n) row ≡ gives list
   pub many : length list ≡ u .members
   pub filled : Filled (membersWords list) (u .members * memberWidth) room room′

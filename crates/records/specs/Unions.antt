@@ -5,7 +5,7 @@ use mathlib.Core.Bool.{Bool, cond}
 use mathlib.Core.List.{List, [], _∷_, _++_}
 use lib.ListN.{length}
 use lib.Dec.{eqb, leb}
-use Rattle.tables.specs.Table.{Table}
+use Rattle.tables.specs.Table.{Table, Rows, tableRows}
 use Rattle.lent.specs.Outcome.{Outcome}
 use Rattle.format.specs.Lookup.{isOn}
 use Rattle.format.specs.TagKind as tag
@@ -51,18 +51,18 @@ pub record Placed : Type 0 where
   pub row : ℕ
   pub member : Member
 
-module _ (settings : Settings) (s rows attrs : List ℕ) (n : ℕ) where
+module _ (settings : Settings) (t : Rows) where
   -- child c, a member, and those after it
   unfoldable pub memberThen : ℕ → Said (List Placed) → Said (List Placed)
   memberThen c rest = do
-    m ← memberAt settings s rows attrs n c
+    m ← memberAt settings t c
     ms ← rest
     gives (record { row = c; member = m } ∷ ms)
 
   -- child c of the union with this key, and those after it
   unfoldable pub childThen : ℕ → ℕ → Said (List Placed) → Said (List Placed)
   childThen key c rest =
-      cond (eqb (rowAt rows c .kind) tag.Member) (memberThen c rest) (cond (ignored (rowAt rows c .kind)) rest (refuse reason.Child key))
+      cond (eqb (rowAt (t .rows) c .kind) tag.Member) (memberThen c rest) (cond (ignored (rowAt (t .rows) c .kind)) rest (refuse reason.Child key))
 
   -- children one after the other
   unfoldable pub membersFrom : ℕ → List ℕ → Said (List Placed)
@@ -71,12 +71,12 @@ module _ (settings : Settings) (s rows attrs : List ℕ) (n : ℕ) where
 
   -- the walk is done before any child is looked at: 9 where it never ends
   unfoldable pub membersBy : ℕ → Walk → Said (List Placed)
-  membersBy key (ends cs) = membersFrom key (nonNull rows cs)
+  membersBy key (ends cs) = membersFrom key (nonNull (t .rows) cs)
   membersBy key endless = refuse reason.Link key
 
   -- the members of row i
   unfoldable pub rowMembers : ℕ → Said (List Placed)
-  rowMembers i = membersBy (rowAt rows i .key) (childWalk (settings .endian) s rows attrs n i)
+  rowMembers i = membersBy (rowAt (t .rows) i .key) (childWalk t i)
 
 -- with so many members: a ByteSize is needed, the name may be missing
 unfoldable pub unionSized : List ℕ → List ℕ → Run → ℕ → Said Union
@@ -85,11 +85,11 @@ unionSized s attrs run many = do
   gives (record { name = nameOf s attrs run attribute.Name; «byte_size» = size; members = many })
 
 -- the union at row i: name, size and how many members
-unfoldable pub unionAt : Settings → List ℕ → List ℕ → List ℕ → ℕ → ℕ → Said Union
-unionAt settings s rows attrs n i = do
-  headOf settings s rows attrs record′.Union i
-  ms ← rowMembers settings s rows attrs n i
-  unionSized s attrs (runOf (settings .endian) rows i) (length ms)
+unfoldable pub unionAt : Settings → Rows → ℕ → Said Union
+unionAt settings t i = do
+  headOf settings (t .section) (t .rows) (t .attrs) record′.Union i
+  ms ← rowMembers settings t i
+  unionSized (t .section) (t .attrs) (runOf (settings .endian) (t .rows) i) (length ms)
 
 -- ---- into lent room: 8 last, with the count
 
@@ -99,13 +99,13 @@ membersWords [] = []
 membersWords (m ∷ ms) = memberWords (m .row) (m .member) ++ membersWords ms
 
 -- the union of row i and its members, if they fit
-unfoldable pub unionInto : Settings → List ℕ → List ℕ → List ℕ → ℕ → List ℕ → ℕ → Outcome (Said Union) ℕ
-unionInto settings s rows attrs n room i =
-    inRoom room (unionAt settings s rows attrs n i)
-    (λ u. inRoom room (rowMembers settings s rows attrs n i)
+unfoldable pub unionInto : Settings → Rows → List ℕ → ℕ → Outcome (Said Union) ℕ
+unionInto settings t room i =
+    inRoom room (unionAt settings t i)
+    (λ u. inRoom room (rowMembers settings t i)
     (λ ms. fillsRoom (leb (u .members) (length room / memberWidth)) u (u .members ∷ []) (membersWords ms) room))
 
 -- the union of a key
 unfoldable pub processUnionTag : Table → ℕ → List ℕ → Outcome (Said Union) ℕ
 processUnionTag t key room =
-    inRoom room (rowOf t key) (unionInto (t .settings) (t .section) (t .rows) (t .attrs) (t .counts .rows) room)
+    inRoom room (rowOf t key) (unionInto (t .settings) (tableRows t) room)

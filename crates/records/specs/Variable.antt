@@ -3,7 +3,7 @@ use Prim.Native.Nat.{ℕ}
 use mathlib.Core.Bool.{Bool}
 use mathlib.Core.List.{List}
 use lib.Dec.{eqb}
-use Rattle.tables.specs.Table.{Table}
+use Rattle.tables.specs.Table.{Table, Rows, tableRows}
 use Rattle.format.specs.AttributeKind as attribute
 use Rattle.format.specs.TagKind as tag
 use Rattle.format.specs.Said.{Said, gives, refusal, _>>=_, _>>_}
@@ -37,13 +37,14 @@ variableFields s attrs run role local = do
   })
 
 -- the variable at row i; it is local if the row's kind says so
-unfoldable pub variableAt : Settings → List ℕ → List ℕ → List ℕ → ℕ → ℕ → Said Variable
-variableAt settings s rows attrs n i = do
-  frontOf settings s rows attrs n record′.Variable i
-  variableFields s attrs (runOf (settings .endian) rows i) (settings .roles .mangled) (eqb (rowAt rows i .kind) tag.LocalVariable)
+unfoldable pub variableAt : Settings → Rows → ℕ → Said Variable
+variableAt settings t i = do
+  frontOf settings t record′.Variable i
+  variableFields (t .section) (t .attrs) (runOf (settings .endian) (t .rows) i) (settings .roles .mangled)
+      (eqb (rowAt (t .rows) i .kind) tag.LocalVariable)
 
 -- the variable of a key
 unfoldable pub processVariableTag : Table → ℕ → Said Variable
 processVariableTag t key = do
   i ← rowOf t key
-  variableAt (t .settings) (t .section) (t .rows) (t .attrs) (t .counts .rows) i
+  variableAt (t .settings) (tableRows t) i

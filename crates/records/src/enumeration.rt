@@ -35,7 +35,7 @@ use tables::row::attr_at;
 ghost use mathlib.Core.Path.{_≡_};
 ghost use Prim.Native.Nat.{_<_};
 ghost use lib.ListN.{length};
-ghost use Rattle.tables.specs.Table.{table};
+ghost use Rattle.tables.specs.Table.{table, lentRows};
 ghost use Rattle.lent.specs.Outcome.{BothGiven};
 ghost use Rattle.links.specs.Inside.Children.{Asked};
 ghost use Rattle.format.specs.Limits.{sectionLimit};
@@ -250,8 +250,9 @@ fn read_enumeration(
 ) -> EnumerationWhole
     requires { ⌜ AskedShort (now s) (now rows) n i ⌝ }
     ensures { λ r. ⌜
-        EnumerationStored (enumerationAt settings (now (s .entry)) (now (rows .entry)) (now (attrs .entry)) n i)
-        (rowLists settings (now (s .entry)) (now (rows .entry)) (now (attrs .entry)) n i) slots r (now (values .entry)) (now (values .exit))
+        EnumerationStored (enumerationAt settings (lentRows (settings .endian) (now (s .entry)) (now (rows .entry)) (now (attrs .entry)) n) i)
+        (rowLists settings (lentRows (settings .endian) (now (s .entry)) (now (rows .entry)) (now (attrs .entry)) n) i) slots r (now (values .entry))
+        (now (values .exit))
         (now (names .entry)) (now (names .exit))
         ⌝ }
 {
@@ -280,7 +281,9 @@ pub fn enumeration_at(
     i: usize,
 ) -> EnumerationWhole
     requires { ⌜ AskedShort (now s) (now rows) n i ⌝ }
-    ensures { λ r. ⌜ saidEnumerationWhole r ≡ enumerationAt settings (now (s .entry)) (now (rows .entry)) (now (attrs .entry)) n i ⌝ }
+    ensures { λ r. ⌜
+        saidEnumerationWhole r ≡ enumerationAt settings (lentRows (settings .endian) (now (s .entry)) (now (rows .entry)) (now (attrs .entry)) n) i
+        ⌝ }
 {
     let mut values = [0i32; 0];
     let mut names = [0u64; 0];
@@ -314,7 +317,8 @@ fn give_enumeration(
 ) -> EnumerationRead
     requires { ⌜ AskedShort (now s) (now rows) n i ⌝ }
     ensures { λ r. ⌜
-        BothGiven (enumerationInto settings (now (s .entry)) (now (rows .entry)) (now (attrs .entry)) n (now (values .entry)) (now (names .entry)) i)
+        BothGiven (enumerationInto settings (lentRows (settings .endian) (now (s .entry)) (now (rows .entry)) (now (attrs .entry)) n)
+        (now (values .entry)) (now (names .entry)) i)
         (saidEnumerationRead r) (now (values .exit)) (now (names .exit))
         ⌝ }
 {

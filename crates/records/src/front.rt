@@ -12,6 +12,7 @@ use links::children::count_children;
 use numbers::Endian;
 use tables::row::row_at;
 ghost use mathlib.Core.Path.{_≡_};
+ghost use Rattle.tables.specs.Table.{lentRows};
 ghost use Rattle.links.specs.Links.{childWalk};
 ghost use Rattle.links.specs.Inside.Children.{Asked};
 ghost use Rattle.records.specs.Inside.Scan.{Plain};
@@ -70,7 +71,7 @@ pub(crate) fn childless_fault(
 ) -> Fault
     requires { ⌜ Asked (now rows) n i ⌝ }
     ensures { λ r. ⌜
-        saidFault r ≡ childlessFault (now (rows .entry)) i (childWalk e (now (s .entry)) (now (rows .entry)) (now (attrs .entry)) n i)
+        saidFault r ≡ childlessFault (now (rows .entry)) i (childWalk (lentRows e (now (s .entry)) (now (rows .entry)) (now (attrs .entry)) n) i)
         ⌝ }
 {
     let row = row_at(rows, i);
@@ -120,7 +121,9 @@ pub(crate) fn front_fault(
     which: Record,
 ) -> Fault
     requires { ⌜ PlainAt which (now rows) n i ⌝ }
-    ensures { λ r. ⌜ saidFault r ≡ frontOf settings (now (s .entry)) (now (rows .entry)) (now (attrs .entry)) n which i ⌝ }
+    ensures { λ r. ⌜
+        saidFault r ≡ frontOf settings (lentRows (settings .endian) (now (s .entry)) (now (rows .entry)) (now (attrs .entry)) n) which i
+        ⌝ }
 {
     match head_fault(s, settings, rows, attrs, i, which) {
         Fault::Clear => {

@@ -20,7 +20,7 @@ use tables::keyed::Keyed;
 use tables::keyed::row_of;
 use tables::row::Counts;
 ghost use mathlib.Core.Path.{_≡_};
-ghost use Rattle.tables.specs.Table.{table};
+ghost use Rattle.tables.specs.Table.{table, lentRows};
 ghost use Rattle.links.specs.Inside.Children.{Asked};
 ghost use Rattle.records.specs.Label.{saidLabelRead, labelFields, labelAt, processSubroutineLabelTag};
 ghost use Rattle.records.specs.Inside.Label.{labelNamed};
@@ -63,7 +63,9 @@ fn label_at(
     i: usize,
 ) -> LabelRead
     requires { ⌜ Asked (now rows) n i ⌝ }
-    ensures { λ r. ⌜ saidLabelRead r ≡ labelAt settings (now (s .entry)) (now (rows .entry)) (now (attrs .entry)) n i ⌝ }
+    ensures { λ r. ⌜
+        saidLabelRead r ≡ labelAt settings (lentRows (settings .endian) (now (s .entry)) (now (rows .entry)) (now (attrs .entry)) n) i
+        ⌝ }
 {
     match front_fault(s, settings, rows, attrs, n, i, Record::Label) {
         Fault::Clear => {

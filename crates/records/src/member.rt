@@ -27,7 +27,7 @@ use tables::keyed::Keyed;
 use tables::keyed::row_of;
 use tables::row::Counts;
 ghost use mathlib.Core.Path.{_≡_};
-ghost use Rattle.tables.specs.Table.{table};
+ghost use Rattle.tables.specs.Table.{table, lentRows};
 ghost use Rattle.links.specs.Inside.Children.{Asked};
 ghost use Rattle.records.specs.Member.{saidMemberRead, bitsBy, memberFields, memberAt, processStructureMemberTag};
 ghost use Rattle.records.specs.Inside.Member.{saidBitsRead, memberWith, memberPlaced};
@@ -119,7 +119,9 @@ pub fn member_at(
     i: usize,
 ) -> MemberRead
     requires { ⌜ Asked (now rows) n i ⌝ }
-    ensures { λ r. ⌜ saidMemberRead r ≡ memberAt settings (now (s .entry)) (now (rows .entry)) (now (attrs .entry)) n i ⌝ }
+    ensures { λ r. ⌜
+        saidMemberRead r ≡ memberAt settings (lentRows (settings .endian) (now (s .entry)) (now (rows .entry)) (now (attrs .entry)) n) i
+        ⌝ }
 {
     match front_fault(s, settings, rows, attrs, n, i, Record::Member) {
         Fault::Clear => {

@@ -17,7 +17,7 @@ use tables::keyed::Keyed;
 use tables::keyed::row_of;
 use tables::row::Counts;
 ghost use mathlib.Core.Path.{_≡_};
-ghost use Rattle.tables.specs.Table.{table};
+ghost use Rattle.tables.specs.Table.{table, lentRows};
 ghost use Rattle.links.specs.Inside.Children.{Asked};
 ghost use Rattle.records.specs.PtrToMember.{saidPtrToMemberRead, ptrFields, ptrAt, processPtrToMemberTag};
 ghost use Rattle.records.specs.Inside.PtrToMember.{ptrTyped};
@@ -61,7 +61,9 @@ pub fn ptr_to_member_at(
     i: usize,
 ) -> PtrToMemberRead
     requires { ⌜ Asked (now rows) n i ⌝ }
-    ensures { λ r. ⌜ saidPtrToMemberRead r ≡ ptrAt settings (now (s .entry)) (now (rows .entry)) (now (attrs .entry)) n i ⌝ }
+    ensures { λ r. ⌜
+        saidPtrToMemberRead r ≡ ptrAt settings (lentRows (settings .endian) (now (s .entry)) (now (rows .entry)) (now (attrs .entry)) n) i
+        ⌝ }
 {
     match front_fault(s, settings, rows, attrs, n, i, Record::PtrToMember) {
         Fault::Clear => {

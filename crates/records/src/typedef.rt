@@ -32,8 +32,8 @@ use tables::keyed::Keyed;
 use tables::keyed::row_of;
 use tables::row::Counts;
 ghost use mathlib.Core.Path.{_≡_};
-ghost use Rattle.tables.specs.Table.{table};
-ghost use Rattle.links.specs.Inside.Links.{Rows};
+ghost use Rattle.tables.specs.Table.{table, lentRows};
+ghost use Rattle.links.specs.Inside.Links.{RowsHold};
 ghost use Rattle.links.specs.Inside.Children.{Asked};
 ghost use Rattle.blocks.specs.Types.{saidTyped};
 ghost use Rattle.records.specs.Scan.{runOf};
@@ -142,7 +142,7 @@ fn typedef_end(
 ) -> TypedefRead
     requires { ⌜ Asked (now rows) n i ⌝ }
     ensures { λ r. ⌜
-        saidTypedefRead r ≡ typedefEnd settings (now (s .entry)) (now (rows .entry)) (now (attrs .entry)) n i
+        saidTypedefRead r ≡ typedefEnd settings (lentRows (settings .endian) (now (s .entry)) (now (rows .entry)) (now (attrs .entry)) n) i
         (knownOf (now (s .entry)) (now (attrs .entry)) (runOf (settings .endian) (now (rows .entry)) i) filling)
         ⌝ }
 {
@@ -158,7 +158,7 @@ fn typedef_end(
 
 // A specification must name a typedef's row: 11, 10 past the limit, 12.
 fn specified_by(settings: Settings, rows: &[u32], n: usize, levels: usize, key: u32) -> Specified
-    requires { ⌜ Rows (now rows) n ⌝ }
+    requires { ⌜ RowsHold (now rows) n ⌝ }
     ensures { λ r. ⌜ saidSpecified r ≡ specifiedBy settings (now (rows .entry)) n levels key ⌝ }
 {
     match find_row(rows, n, key) {
@@ -186,8 +186,10 @@ fn specification_at(
     levels: usize,
     k: u32,
 ) -> Specified
-    requires { ⌜ Rows (now rows) n ⌝ }
-    ensures { λ r. ⌜ saidSpecified r ≡ specified settings (now (s .entry)) (now (rows .entry)) (now (attrs .entry)) n run levels k ⌝ }
+    requires { ⌜ RowsHold (now rows) n ⌝ }
+    ensures { λ r. ⌜
+        saidSpecified r ≡ specified settings (lentRows (settings .endian) (now (s .entry)) (now (rows .entry)) (now (attrs .entry)) n) run levels k
+        ⌝ }
 {
     let attribute = attribute_at(attrs, run.first as usize + k as usize);
     let roles = settings.roles;
@@ -212,7 +214,7 @@ fn pause_from(
     levels: usize,
     from: usize,
 ) -> Pause
-    requires { ⌜ Rows (now rows) n ⌝ }
+    requires { ⌜ RowsHold (now rows) n ⌝ }
     ensures { λ r. ⌜ saidPause r ≡ pauseFrom settings (now (s .entry)) (now (rows .entry)) (now (attrs .entry)) n run levels from ⌝ }
 {
     let roles = settings.roles;
@@ -241,7 +243,9 @@ fn typedef_run(
     i: usize,
 ) -> TypedefRead
     requires { ⌜ Asked (now rows) n i ⌝ }
-    ensures { λ r. ⌜ saidTypedefRead r ≡ typedefRun settings (now (s .entry)) (now (rows .entry)) (now (attrs .entry)) n levels i ⌝ }
+    ensures { λ r. ⌜
+        saidTypedefRead r ≡ typedefRun settings (lentRows (settings .endian) (now (s .entry)) (now (rows .entry)) (now (attrs .entry)) n) levels i
+        ⌝ }
 {
     let e = settings.endian;
     let run = run_of(e, rows, i);
@@ -278,7 +282,9 @@ fn typedef_at(
     i: usize,
 ) -> TypedefRead
     requires { ⌜ Asked (now rows) n i ⌝ }
-    ensures { λ r. ⌜ saidTypedefRead r ≡ typedefAt settings (now (s .entry)) (now (rows .entry)) (now (attrs .entry)) n i ⌝ }
+    ensures { λ r. ⌜
+        saidTypedefRead r ≡ typedefAt settings (lentRows (settings .endian) (now (s .entry)) (now (rows .entry)) (now (attrs .entry)) n) i
+        ⌝ }
 {
     match kind_fault(settings, rows, i, Record::Typedef) {
         Fault::Clear => typedef_run(s, settings, rows, attrs, n, SPECIFICATION_LIMIT, i),

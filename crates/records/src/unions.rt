@@ -30,7 +30,7 @@ use tables::keyed::row_of;
 use tables::row::Counts;
 use tables::row::row_at;
 ghost use mathlib.Core.Path.{_≡_};
-ghost use Rattle.tables.specs.Table.{table};
+ghost use Rattle.tables.specs.Table.{table, lentRows};
 ghost use Rattle.lent.specs.Outcome.{Given};
 ghost use Rattle.links.specs.Inside.Children.{Asked};
 ghost use Rattle.records.specs.Unions.{saidUnionRead, ignored, unionSized, membersFrom, rowMembers, unionAt, unionInto};
@@ -123,7 +123,8 @@ fn take_children(
 ) -> Counted
     requires { ⌜ EndsAt (settings .endian) (now s) (now rows) (now attrs) n i ⌝ }
     ensures { λ r. ⌜
-        MembersStored (membersFrom settings (now (s .entry)) (now (rows .entry)) (now (attrs .entry)) n (rowAt (now (rows .entry)) i .key)
+        MembersStored (membersFrom settings (lentRows (settings .endian) (now (s .entry)) (now (rows .entry)) (now (attrs .entry)) n)
+        (rowAt (now (rows .entry)) i .key)
         (kidsOf (settings .endian) (now (s .entry)) (now (rows .entry)) (now (attrs .entry)) n i)) (saidCounted r) (now (room .entry))
         (now (room .exit))
         ⌝ }
@@ -165,7 +166,8 @@ fn union_members(
 ) -> Counted
     requires { ⌜ Asked (now rows) n i ⌝ }
     ensures { λ r. ⌜
-        MembersStored (rowMembers settings (now (s .entry)) (now (rows .entry)) (now (attrs .entry)) n i) (saidCounted r) (now (room .entry))
+        MembersStored (rowMembers settings (lentRows (settings .endian) (now (s .entry)) (now (rows .entry)) (now (attrs .entry)) n) i)
+        (saidCounted r) (now (room .entry))
         (now (room .exit))
         ⌝ }
 {
@@ -202,8 +204,9 @@ fn read_union(
 ) -> UnionWhole
     requires { ⌜ Asked (now rows) n i ⌝ }
     ensures { λ r. ⌜
-        UnionStored (unionAt settings (now (s .entry)) (now (rows .entry)) (now (attrs .entry)) n i)
-        (rowMembers settings (now (s .entry)) (now (rows .entry)) (now (attrs .entry)) n i) (saidUnionWhole r) (now (room .entry))
+        UnionStored (unionAt settings (lentRows (settings .endian) (now (s .entry)) (now (rows .entry)) (now (attrs .entry)) n) i)
+        (rowMembers settings (lentRows (settings .endian) (now (s .entry)) (now (rows .entry)) (now (attrs .entry)) n) i) (saidUnionWhole r)
+        (now (room .entry))
         (now (room .exit))
         ⌝ }
 {
@@ -230,7 +233,9 @@ pub fn union_at(
     i: usize,
 ) -> UnionWhole
     requires { ⌜ Asked (now rows) n i ⌝ }
-    ensures { λ r. ⌜ saidUnionWhole r ≡ unionAt settings (now (s .entry)) (now (rows .entry)) (now (attrs .entry)) n i ⌝ }
+    ensures { λ r. ⌜
+        saidUnionWhole r ≡ unionAt settings (lentRows (settings .endian) (now (s .entry)) (now (rows .entry)) (now (attrs .entry)) n) i
+        ⌝ }
 {
     let mut room = [0u64; 0];
     read_union(s, settings, rows, attrs, n, i, &mut room)
@@ -248,7 +253,8 @@ fn give_union(
 ) -> UnionRead
     requires { ⌜ Asked (now rows) n i ⌝ }
     ensures { λ r. ⌜
-        Given (unionInto settings (now (s .entry)) (now (rows .entry)) (now (attrs .entry)) n (now (room .entry)) i) (saidUnionRead r)
+        Given (unionInto settings (lentRows (settings .endian) (now (s .entry)) (now (rows .entry)) (now (attrs .entry)) n) (now (room .entry)) i)
+        (saidUnionRead r)
         (now (room .exit))
         ⌝ }
 {

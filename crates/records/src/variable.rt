@@ -20,7 +20,7 @@ use tables::keyed::row_of;
 use tables::row::Counts;
 use tables::row::row_at;
 ghost use mathlib.Core.Path.{_≡_};
-ghost use Rattle.tables.specs.Table.{table};
+ghost use Rattle.tables.specs.Table.{table, lentRows};
 ghost use Rattle.links.specs.Inside.Children.{Asked};
 ghost use Rattle.records.specs.Variable.{saidVariableRead, variableFields, variableAt, processVariableTag};
 
@@ -62,7 +62,9 @@ fn variable_at(
     i: usize,
 ) -> VariableRead
     requires { ⌜ Asked (now rows) n i ⌝ }
-    ensures { λ r. ⌜ saidVariableRead r ≡ variableAt settings (now (s .entry)) (now (rows .entry)) (now (attrs .entry)) n i ⌝ }
+    ensures { λ r. ⌜
+        saidVariableRead r ≡ variableAt settings (lentRows (settings .endian) (now (s .entry)) (now (rows .entry)) (now (attrs .entry)) n) i
+        ⌝ }
 {
     match front_fault(s, settings, rows, attrs, n, i, Record::Variable) {
         Fault::Clear => {

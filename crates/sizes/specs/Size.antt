@@ -7,7 +7,7 @@ use mathlib.Core.Bool.{Bool, true, false, cond}
 use mathlib.Core.List.{List, [], _∷_}
 use lib.ListN.{length, getD, drop}
 use lib.Dec.{eqb, leb, ltb}
-use Rattle.tables.specs.Table.{Table}
+use Rattle.tables.specs.Table.{Table, Rows, tableRows}
 use Rattle.numbers.specs.declared.Endian.{Endian}
 use Rattle.format.specs.Lookup.{Line, _means_, lookup, indexOf}
 use Rattle.format.specs.FundType.{fundTypes}
@@ -132,10 +132,10 @@ module _ (s attrs : List ℕ) (run : Run) where
 
 -- ---- structures and classes: the Member children are all read whole before any size is taken; other children are passed over
 
-module _ (settings : Settings) (s rows attrs : List ℕ) (n : ℕ) where
+module _ (settings : Settings) (t : Rows) where
   -- child c and those after it: a Member row is read whole, any other is passed over (in a union some are 16)
   unfoldable pub memberChildThen : ℕ → Said (List Placed) → Said (List Placed)
-  memberChildThen c rest = cond (eqb (rowAt rows c .kind) tag.Member) (memberThen settings s rows attrs n c rest) rest
+  memberChildThen c rest = cond (eqb (rowAt (t .rows) c .kind) tag.Member) (memberThen settings t c rest) rest
 
   -- children one after the other: the first Member that is refused counts, where its record places it
   unfoldable pub memberRowsFrom : List ℕ → Said (List Placed)
@@ -144,12 +144,12 @@ module _ (settings : Settings) (s rows attrs : List ℕ) (n : ℕ) where
 
   -- the walk is done before any child is looked at: 9 at the structure where it never ends; null entries are left out
   unfoldable pub memberRowsBy : ℕ → Walk → Said (List Placed)
-  memberRowsBy key (ends cs) = memberRowsFrom (nonNull rows cs)
+  memberRowsBy key (ends cs) = memberRowsFrom (nonNull (t .rows) cs)
   memberRowsBy key endless = refuse reason.Link key
 
   -- the members of row i, in walk order
   unfoldable pub membersOf : ℕ → Said (List Placed)
-  membersOf i = memberRowsBy (rowAt rows i .key) (childWalk (settings .endian) s rows attrs n i)
+  membersOf i = memberRowsBy (rowAt (t .rows) i .key) (childWalk t i)
 
 -- a ByteSize of its own, else its type's size
 unfoldable pub sizeOr : («Type» → Said ℕ) → «Type» → Word → Said ℕ
@@ -214,37 +214,37 @@ isStructure shape.PtrToMember = false
 isStructure shape.Subroutine = false
 isStructure shape.Other = false
 
-module _ (settings : Settings) (s rows attrs : List ℕ) (n : ℕ) where
+module _ (settings : Settings) (t : Rows) where
   -- the size of row i, which is there and not past the limit; 12 at it where its kind has no size. What is read whole may refuse first, whether or
   -- not there is a ByteSize
   unfoldable pub shapeSize : («Type» → Said ℕ) → ℕ → Shape → Said ℕ
-  shapeSize typeSize i shape.Array = arraySize s attrs (runOf (settings .endian) rows i) typeSize
+  shapeSize typeSize i shape.Array = arraySize (t .section) (t .attrs) (runOf (settings .endian) (t .rows) i) typeSize
   shapeSize typeSize i shape.Structure = do
-    ms ← membersOf settings s rows attrs n i
-    sizeOrEnds rows typeSize ms (wordOf s attrs (runOf (settings .endian) rows i) attribute.ByteSize)
+    ms ← membersOf settings t i
+    sizeOrEnds (t .rows) typeSize ms (wordOf (t .section) (t .attrs) (runOf (settings .endian) (t .rows) i) attribute.ByteSize)
   shapeSize typeSize i shape.Enumeration = do
-    e ← enumerationAt settings s rows attrs n i
+    e ← enumerationAt settings t i
     gives (e .«byte_size»)
   shapeSize typeSize i shape.Union = do
-    u ← unionAt settings s rows attrs n i
+    u ← unionAt settings t i
     gives (u .«byte_size»)
-  shapeSize typeSize i shape.PtrToMember = ptrAt settings s rows attrs n i >> gives 4
+  shapeSize typeSize i shape.PtrToMember = ptrAt settings t i >> gives 4
   shapeSize typeSize i shape.Subroutine = gives 0
-  shapeSize typeSize i shape.Other = refuse reason.Kind (rowAt rows i .key)
+  shapeSize typeSize i shape.Other = refuse reason.Kind (rowAt (t .rows) i .key)
 
   -- the same, by the row's kind
   unfoldable pub rowSize : («Type» → Said ℕ) → ℕ → Said ℕ
-  rowSize typeSize i = shapeSize typeSize i (shapeOf (rowAt rows i .kind))
+  rowSize typeSize i = shapeSize typeSize i (shapeOf (rowAt (t .rows) i .kind))
 
-module _ (settings : Settings) (sizes s rows attrs : List ℕ) (n : ℕ) where
+module _ (settings : Settings) (sizes : List ℕ) (t : Rows) where
   -- the size of the entry that has a key, so many levels being left: where none is, 10 at the row, which must be there (11) and is not read (no 12)
   unfoldable pub entrySize : ℕ → ℕ → Said ℕ
-  entrySize zero key = foundRow key (rowOfKey rows n key) >> refuse reason.Depth key
-  entrySize (suc levels) key = foundRow key (rowOfKey rows n key) >>= rowSize settings s rows attrs n (typeSizeBy sizes (entrySize levels))
+  entrySize zero key = foundRow key (rowOfKey (t .rows) (t .count) key) >> refuse reason.Depth key
+  entrySize (suc levels) key = foundRow key (rowOfKey (t .rows) (t .count) key) >>= rowSize settings t (typeSizeBy sizes (entrySize levels))
 
   -- the size of a type, so many levels being left for the entry that it names
   unfoldable pub typeSize : ℕ → «Type» → Said ℕ
-  typeSize levels t = typeSizeBy sizes (entrySize levels) t
+  typeSize levels of = typeSizeBy sizes (entrySize levels) of
 
 -- ---- the public calls; the entry asked for is depth 1
 
@@ -252,14 +252,14 @@ module _ (settings : Settings) (sizes s rows attrs : List ℕ) (n : ℕ) where
 unfoldable pub sizeOfKey : Table → ℕ → Said ℕ
 sizeOfKey t key = do
   testTable t
-  entrySize (t .settings) (t .sizes) (t .section) (t .rows) (t .attrs) (t .counts .rows) depthLimit key
+  entrySize (t .settings) (t .sizes) (tableRows t) depthLimit key
 
 -- the size of a type: an entry that it names is the one asked for
 unfoldable pub sizeOfType : Table → «Type» → Said ℕ
 sizeOfType t of = do
   testTable t
-  typeSize (t .settings) (t .sizes) (t .section) (t .rows) (t .attrs) (t .counts .rows) depthLimit of
+  typeSize (t .settings) (t .sizes) (tableRows t) depthLimit of
 
 -- the size of a type that the entry asked for names: one level down
 abbrev pub innerSize : Table → «Type» → Said ℕ
-innerSize t = typeSize (t .settings) (t .sizes) (t .section) (t .rows) (t .attrs) (t .counts .rows) (depthLimit - 1)
+innerSize t = typeSize (t .settings) (t .sizes) (tableRows t) (depthLimit - 1)

@@ -7,6 +7,7 @@ use format::refusal::number_of;
 use links::link::sibling_row;
 use numbers::Endian;
 ghost use mathlib.Core.Path.{_≡_};
+ghost use Rattle.tables.specs.Table.{lentRows};
 ghost use Rattle.links.specs.Links.{siblingRow};
 ghost use Rattle.links.specs.Inside.Children.{Asked};
 ghost use Rattle.sizes.specs.Inside.Prepare.{SmallPlace};
@@ -71,7 +72,7 @@ pub fn kept_sibling(
     c: usize,
 ) -> usize
     requires { ⌜ Asked (now rows) n c × SiblingsKept e (now s) (now rows) (now attrs) n (now kept) ⌝ }
-    ensures { λ r. ⌜ r ≡ siblingRow e (now (s .entry)) (now (rows .entry)) (now (attrs .entry)) n c ⌝ }
+    ensures { λ r. ⌜ r ≡ siblingRow (lentRows e (now (s .entry)) (now (rows .entry)) (now (attrs .entry)) n) c ⌝ }
 {
     if kept.len() > 0 {
         match known_at(kept, c * KEPT + 2) {

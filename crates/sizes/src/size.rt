@@ -30,7 +30,7 @@ use tables::row::row_at;
 use tables::tests::Tested;
 use tables::tests::test_table;
 ghost use mathlib.Core.Path.{_≡_};
-ghost use Rattle.tables.specs.Table.{table};
+ghost use Rattle.tables.specs.Table.{table, lentRows};
 ghost use Rattle.links.specs.Inside.Kids.{kidsOf};
 ghost use Rattle.records.specs.Inside.Enumeration.{AskedShort};
 ghost use Rattle.sizes.specs.Size.{saidSized, fundamentalSize, rowSize, sizeOfKey, sizeOfType};
@@ -174,7 +174,7 @@ pub fn row_size(
 ) -> Sized
     requires { ⌜ AskedShort (now s) (now rows) n i × AllKept settings (now sizes) (now s) (now rows) (now attrs) n (now known) (now kept) ⌝ }
     ensures { λ r. ⌜
-        saidSized r ≡ rowSize settings (now (s .entry)) (now (rows .entry)) (now (attrs .entry)) n
+        saidSized r ≡ rowSize settings (lentRows (settings .endian) (now (s .entry)) (now (rows .entry)) (now (attrs .entry)) n)
         (typeSizeFrom settings (now (sizes .entry)) (now (s .entry)) (now (rows .entry)) (now (attrs .entry)) n (now (known .entry)) levels) i
         ⌝ }
 {

@@ -4,7 +4,7 @@ use Prim.Native.Nat.{ℕ, zero, suc, _*_}
 use mathlib.Core.List.{List, [], _∷_}
 use lib.ListN.{length}
 use lib.Dec.{leb}
-use Rattle.tables.specs.Table.{Table}
+use Rattle.tables.specs.Table.{Table, tableRows}
 use Rattle.lent.specs.Outcome.{Outcome}
 use Rattle.format.specs.Said.{Said, gives, refusal, wanting, must, _>>_, inRoom, fillsRoom}
 use Rattle.format.specs.declared.refusal.Reason.{Reason}
@@ -56,4 +56,4 @@ listingOf rows n reach room =
 unfoldable pub listTree : Table → List ℕ → Outcome (Said ℕ) ℕ
 listTree t room =
     inRoom room (testTable t)
-    (λ passed. listingOf (t .rows) (t .counts .rows) (λ i. reachEnd (t .settings .endian) (t .section) (t .rows) (t .attrs) (t .counts .rows) i) room)
+    (λ passed. listingOf (t .rows) (t .counts .rows) (λ i. reachEnd (tableRows t) i) room)

@@ -3,6 +3,7 @@ use crate::reach::end_of;
 use numbers::Endian;
 ghost use mathlib.Core.Path.{_≡_};
 ghost use Prim.Native.Nat.{suc};
+ghost use Rattle.tables.specs.Table.{lentRows};
 ghost use Rattle.tables.specs.Inside.Find.{Rising};
 ghost use Rattle.links.specs.Inside.Links.{AtRow};
 ghost use Rattle.tree.specs.Reach.{reachEnd};
@@ -22,7 +23,7 @@ fn first_further(
     b: usize,
 ) -> usize
     requires { ⌜ ReachInside (now rows) n i end ⌝ }
-    ensures { λ r. ⌜ r ≡ chain n (λ c. reachEnd e (now (s .entry)) (now (rows .entry)) (now (attrs .entry)) n c) end b n (suc i) ⌝ }
+    ensures { λ r. ⌜ r ≡ chain n (λ c. reachEnd (lentRows e (now (s .entry)) (now (rows .entry)) (now (attrs .entry)) n) c) end b n (suc i) ⌝ }
 {
     let mut c = i + 1;
     while c < end {
@@ -45,7 +46,7 @@ fn first_further(
 // The first row at fault from row i on, where b is the first after it.
 fn fault_at(s: &[u8], e: Endian, rows: &[u32], attrs: &[u32], n: usize, i: usize, b: usize) -> usize
     requires { ⌜ AtRow (now rows) n i ⌝ }
-    ensures { λ r. ⌜ r ≡ faultOfRow n (λ c. reachEnd e (now (s .entry)) (now (rows .entry)) (now (attrs .entry)) n c) i b ⌝ }
+    ensures { λ r. ⌜ r ≡ faultOfRow n (λ c. reachEnd (lentRows e (now (s .entry)) (now (rows .entry)) (now (attrs .entry)) n) c) i b ⌝ }
 {
     let end = end_of(s, e, rows, attrs, n, i);
     if end == 0 {
@@ -58,7 +59,7 @@ fn fault_at(s: &[u8], e: Endian, rows: &[u32], attrs: &[u32], n: usize, i: usize
 // The first row at fault, or n.
 pub(crate) fn first_fault(s: &[u8], e: Endian, rows: &[u32], attrs: &[u32], n: usize) -> usize
     requires { ⌜ Rising (now rows) n ⌝ }
-    ensures { λ r. ⌜ r ≡ faultFrom n (λ c. reachEnd e (now (s .entry)) (now (rows .entry)) (now (attrs .entry)) n c) 0 n ⌝ }
+    ensures { λ r. ⌜ r ≡ faultFrom n (λ c. reachEnd (lentRows e (now (s .entry)) (now (rows .entry)) (now (attrs .entry)) n) c) 0 n ⌝ }
 {
     let mut i = n;
     let mut b = n;

@@ -11,9 +11,9 @@ use tables::row::row_at;
 use tables::tests::Tested;
 use tables::tests::test_table;
 ghost use mathlib.Core.Path.{_≡_};
-ghost use Rattle.tables.specs.Table.{table};
+ghost use Rattle.tables.specs.Table.{table, lentRows};
 ghost use Rattle.lent.specs.Outcome.{Given};
-ghost use Rattle.links.specs.Inside.Links.{Rows};
+ghost use Rattle.links.specs.Inside.Links.{RowsHold};
 ghost use Rattle.tables.specs.Row.{rowAt};
 ghost use Rattle.tables.specs.Inside.Keyed.{refusedAt};
 ghost use Rattle.tree.specs.Reach.{reachEnd};
@@ -58,8 +58,8 @@ fn fault_at_row(rows: &[u32], i: usize, reason: Reason) -> Listing
 
 // The pass over the rows into no room: the first row that lies too deep, or n.
 fn first_deep(s: &[u8], e: Endian, rows: &[u32], attrs: &[u32], n: usize) -> usize
-    requires { ⌜ Rows (now rows) n ⌝ }
-    ensures { λ r. ⌜ r ≡ firstFrom (openDeep (λ i. reachEnd e (now (s .entry)) (now (rows .entry)) (now (attrs .entry)) n i)) 0 n ⌝ }
+    requires { ⌜ RowsHold (now rows) n ⌝ }
+    ensures { λ r. ⌜ r ≡ firstFrom (openDeep (λ i. reachEnd (lentRows e (now (s .entry)) (now (rows .entry)) (now (attrs .entry)) n) i)) 0 n ⌝ }
 {
     let mut room = [0u32; 0];
     list_rows(s, e, rows, attrs, n, &mut room)
@@ -67,9 +67,10 @@ fn first_deep(s: &[u8], e: Endian, rows: &[u32], attrs: &[u32], n: usize) -> usi
 
 // All tests first, so that a refusal has written nothing.
 fn list(s: &[u8], e: Endian, rows: &[u32], attrs: &[u32], n: usize, room: &mut [u32]) -> Listing
-    requires { ⌜ Rows (now rows) n ⌝ }
+    requires { ⌜ RowsHold (now rows) n ⌝ }
     ensures { λ r. ⌜
-        Given (listingOf (now (rows .entry)) n (λ i. reachEnd e (now (s .entry)) (now (rows .entry)) (now (attrs .entry)) n i) (now (room .entry)))
+        Given (listingOf (now (rows .entry)) n (λ i. reachEnd (lentRows e (now (s .entry)) (now (rows .entry)) (now (attrs .entry)) n) i)
+        (now (room .entry)))
         (saidListing r) (now (room .exit))
         ⌝ }
 {

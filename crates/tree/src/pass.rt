@@ -9,7 +9,8 @@ ghost use mathlib.Core.Path.{_≡_};
 ghost use mathlib.Core.List.{[], _∷_};
 ghost use Prim.Native.Nat.{_*_};
 ghost use lib.Seq.{sets};
-ghost use Rattle.links.specs.Inside.Links.{Rows};
+ghost use Rattle.tables.specs.Table.{lentRows};
+ghost use Rattle.links.specs.Inside.Links.{RowsHold};
 ghost use Rattle.tree.specs.Reach.{reachEnd};
 ghost use Rattle.tree.specs.Tree.{placeWidth};
 ghost use Rattle.tree.specs.Inside.Passing.{OpenListed};
@@ -60,9 +61,10 @@ pub(crate) fn list_rows(
     n: usize,
     room: &mut [u32],
 ) -> usize
-    requires { ⌜ Rows (now rows) n ⌝ }
+    requires { ⌜ RowsHold (now rows) n ⌝ }
     ensures { λ r. ⌜
-        OpenListed (λ c. reachEnd e (now (s .entry)) (now (rows .entry)) (now (attrs .entry)) n c) n r (now (room .entry)) (now (room .exit))
+        OpenListed (λ c. reachEnd (lentRows e (now (s .entry)) (now (rows .entry)) (now (attrs .entry)) n) c) n r (now (room .entry))
+        (now (room .exit))
         ⌝ }
 {
     let mut stack = [0u32; OPEN_LIMIT];

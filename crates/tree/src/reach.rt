@@ -6,6 +6,7 @@ use tables::find::Found;
 use tables::find::find_row_near;
 ghost use mathlib.Core.Path.{_≡_};
 ghost use Prim.Native.Nat.{_<_};
+ghost use Rattle.tables.specs.Table.{lentRows};
 ghost use Rattle.tables.specs.Find.{rowOfKey};
 ghost use Rattle.links.specs.Inside.Links.{AtRow};
 ghost use Rattle.tree.specs.Reach.{laterRow, reachEnd};
@@ -26,7 +27,7 @@ fn later_row(rows: &[u32], n: usize, i: usize, key: u32) -> usize
 // The end of row i's reach, or 0: its reference is bad.
 pub(crate) fn end_of(s: &[u8], e: Endian, rows: &[u32], attrs: &[u32], n: usize, i: usize) -> usize
     requires { ⌜ AtRow (now rows) n i ⌝ }
-    ensures { λ r. ⌜ r ≡ reachEnd e (now (s .entry)) (now (rows .entry)) (now (attrs .entry)) n i ⌝ }
+    ensures { λ r. ⌜ r ≡ reachEnd (lentRows e (now (s .entry)) (now (rows .entry)) (now (attrs .entry)) n) i ⌝ }
 {
     match reference_of(s, e, rows, attrs, i, SIBLING) {
         Reference::To(key) => {

@@ -18,6 +18,7 @@ use Rattle.format.specs.declared.settings.Settings.{Settings}
 use Rattle.format.specs.declared.refusal.Reason.{Reason}
 use Rattle.format.specs.declared.refusal.Reason.the-variants as reason
 use Rattle.format.specs.declared.refusal.Refusal.{Refusal}
+use Rattle.tables.specs.Table.{lentRows}
 use Rattle.tables.specs.Row.{rowWidth, attrWidth, rowsWords, attrsWords}
 use Rattle.tables.specs.declared.row.Counts.{Counts}
 use Rattle.entries.specs.Walk.{Entries}

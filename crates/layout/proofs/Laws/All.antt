@@ -21,6 +21,7 @@ use Rattle.format.specs.declared.settings.Settings.{Settings}
 use Rattle.format.specs.declared.refusal.Reason.the-variants as reason
 use Rattle.blocks.specs.declared.types.Type.{«Type»}
 use Rattle.lent.proofs.Laws.Stores.{sets-append, sets-out, sets-rest}
+use Rattle.tables.specs.Table.{lentRows}
 use Rattle.tables.specs.Row.{rowAt}
 use Rattle.tables.specs.declared.row.Row.{Row}
 use Rattle.links.specs.Walk.{Walk, ends, endless}
@@ -73,29 +74,29 @@ module _ (settings : Settings) (s rows attrs : List ℕ) (n : ℕ) where
   few-with k c m (gives ms) h = omega (arith, h)
   few-with k c m (refuses number place counts) h = tt
 
-  few-then : (k c : ℕ) (rest : Said (List Placed)) → fewMembers k rest → fewMembers (suc k) (memberThen settings s rows attrs n c rest)
+  few-then : (k c : ℕ) (rest : Said (List Placed)) → fewMembers k rest → fewMembers (suc k) (memberThen settings (lentRows (settings .endian) s rows attrs n) c rest)
   unfolding memberThen
   few-then k c rest h =
-      of-next (λ (ms : List Placed). length ms ≤ suc k) (memberAt settings s rows attrs n c) (withMember c rest) (λ m. few-with k c m rest h)
+      of-next (λ (ms : List Placed). length ms ≤ suc k) (memberAt settings (lentRows (settings .endian) s rows attrs n) c) (withMember c rest) (λ m. few-with k c m rest h)
 
-  few-from : (cs : List ℕ) → fewMembers (length cs) (memberRowsFrom settings s rows attrs n cs)
+  few-from : (cs : List ℕ) → fewMembers (length cs) (memberRowsFrom settings (lentRows (settings .endian) s rows attrs n) cs)
   unfolding memberRowsFrom memberChildThen
   few-from [] = omega arith
   few-from (c ∷ cs) =
       cond-all (fewMembers (suc (length cs))) (eqb (rowAt rows c .kind) tag.Member)
-      (λ t. few-then (length cs) c (memberRowsFrom settings s rows attrs n cs) (few-from cs))
-      (λ t. few-weaker length (memberRowsFrom settings s rows attrs n cs) (omega arith) (few-from cs))
+      (λ t. few-then (length cs) c (memberRowsFrom settings (lentRows (settings .endian) s rows attrs n) cs) (few-from cs))
+      (λ t. few-weaker length (memberRowsFrom settings (lentRows (settings .endian) s rows attrs n) cs) (omega arith) (few-from cs))
 
-  few-by : (key : ℕ) (w : Walk) → length (nonNull rows (rowsMet w)) ≤ n → fewMembers n (memberRowsBy settings s rows attrs n key w)
+  few-by : (key : ℕ) (w : Walk) → length (nonNull rows (rowsMet w)) ≤ n → fewMembers n (memberRowsBy settings (lentRows (settings .endian) s rows attrs n) key w)
   unfolding memberRowsBy rowsMet
-  few-by key (ends cs) h = few-weaker length (memberRowsFrom settings s rows attrs n (nonNull rows cs)) h (few-from (nonNull rows cs))
+  few-by key (ends cs) h = few-weaker length (memberRowsFrom settings (lentRows (settings .endian) s rows attrs n) (nonNull rows cs)) h (few-from (nonNull rows cs))
   few-by key endless h = tt
 
-  few-of : (i : ℕ) → fewMembers n (membersOf settings s rows attrs n i)
+  few-of : (i : ℕ) → fewMembers n (membersOf settings (lentRows (settings .endian) s rows attrs n) i)
   unfolding membersOf kidsFrom walkOn childWalk
   few-of i =
-      few-by (rowAt rows i .key) (childWalk (settings .endian) s rows attrs n i)
-      (few-kids (settings .endian) s rows attrs n (siblingRow (settings .endian) s rows attrs n i) (nextRow rows n i))
+      few-by (rowAt rows i .key) (childWalk (lentRows (settings .endian) s rows attrs n) i)
+      (few-kids (settings .endian) s rows attrs n (siblingRow (lentRows (settings .endian) s rows attrs n) i) (nextRow rows n i))
 
 module _ (rows : List ℕ) (sizeOf : «Type» → Said ℕ) (sized : Bool) where
   abbrev withLaid : Laid → Said Lay → Said Lay
@@ -127,13 +128,13 @@ few-members n (gives l) h = h
 few-members n (refuses number place counts) h = omega arith
 
 module _ (settings : Settings) (s rows attrs : List ℕ) (n : ℕ) (sizeOf : «Type» → Said ℕ) (i : ℕ) where
-  few-row : length (laidOf (rowLay settings s rows attrs n sizeOf i)) ≤ n
+  few-row : length (laidOf (rowLay settings (lentRows (settings .endian) s rows attrs n) sizeOf i)) ≤ n
   unfolding rowLay
   few-row =
-      few-members n (rowLay settings s rows attrs n sizeOf i)
+      few-members n (rowLay settings (lentRows (settings .endian) s rows attrs n) sizeOf i)
       (of-test (λ (l : Lay). length (l .members) ≤ n) (isStructure (shapeOf (rowAt rows i .kind))) reason.Kind (rowAt rows i .key)
-      (membersOf settings s rows attrs n i >>= laidFrom rows sizeOf (hasByteSize (ownSize settings s rows attrs i)) 0)
-      (λ t. few-all rows sizeOf (hasByteSize (ownSize settings s rows attrs i)) n (membersOf settings s rows attrs n i) (few-of settings s rows attrs n i)))
+      (membersOf settings (lentRows (settings .endian) s rows attrs n) i >>= laidFrom rows sizeOf (hasByteSize (ownSize settings s rows attrs i)) 0)
+      (λ t. few-all rows sizeOf (hasByteSize (ownSize settings s rows attrs i)) n (membersOf settings (lentRows (settings .endian) s rows attrs n) i) (few-of settings s rows attrs n i)))
 
 -- ---- lists one after the other
 
@@ -211,7 +212,7 @@ counted-all xs = ap₂ counting (zero-add (length xs)) (zero-add (memberCount xs
 module _ (settings : Settings) (s rows attrs : List ℕ) (n : ℕ) (sizeOf : «Type» → Said ℕ) (i : ℕ) where
   -- a layout that was laid, or not
   abbrev answerOf : Said Lay → Said Layout
-  answerOf d = d >>= λ l. gives (layoutOf settings s rows attrs n sizeOf i l)
+  answerOf d = d >>= λ l. gives (layoutOf settings (lentRows (settings .endian) s rows attrs n) sizeOf i l)
 
   laid-count : (d : Said Lay) {x : Layout} → gives x ≡ answerOf d → length (laidOf d) ≡ x .members
   unfolding layoutOf laidOf _>>=_
@@ -228,7 +229,7 @@ module _ (settings : Settings) (s rows attrs : List ℕ) (n : ℕ) (sizeOf : «T
     unfolding rowStructures alsoIf
     row-other t = rw (structure-test rows i at is t)
 
-    row-one : b ≡ true → rowStructures settings s rows attrs n sizeOf i ≡ structureAt settings s rows attrs n sizeOf i ∷ []
+    row-one : b ≡ true → rowStructures settings s rows attrs n sizeOf i ≡ structureAt settings (lentRows (settings .endian) s rows attrs n) sizeOf i ∷ []
     unfolding rowStructures alsoIf
     row-one t = rw (structure-test rows i at is t)
 
@@ -260,44 +261,44 @@ module _ (settings : Settings) (s rows attrs : List ℕ) (n : ℕ) (sizeOf : «T
           → name ≡ nameOf s attrs (runOf (settings .endian) rows i) attribute.Name
       name-is p q = q ∙ ap (λ (r : Run). nameOf s attrs r attribute.Name) p
 
-      counted-one : {many : ℕ} {r : LayoutCounts} → length (laidOf (rowLay settings s rows attrs n sizeOf i)) ≡ many → r ≡ countedOn counts many
+      counted-one : {many : ℕ} {r : LayoutCounts} → length (laidOf (rowLay settings (lentRows (settings .endian) s rows attrs n) sizeOf i)) ≡ many → r ≡ countedOn counts many
           → r ≡ countedWith counts (rowStructures settings s rows attrs n sizeOf i)
       unfolding countedOn countedWith memberCount structureAt
       counted-one {many} p q =
-          let same : counts .members + many ≡ counts .members + (length (laidOf (rowLay settings s rows attrs n sizeOf i)) + 0) = omega arith in
+          let same : counts .members + many ≡ counts .members + (length (laidOf (rowLay settings (lentRows (settings .endian) s rows attrs n) sizeOf i)) + 0) = omega arith in
           q ∙ ap (counting (counts .structures + 1)) same ∙ ap (countedWith counts) (sym (row-one t))
 
       -- what the layout tells is kept
       counted-told : {told : Said Layout} {size : Said ℕ} {table table′ : List ℕ} {r : LayoutCounts}
-          → r ≡ countedWith counts (rowStructures settings s rows attrs n sizeOf i) → told ≡ layoutAt settings s rows attrs n sizeOf i → size ≡ wholeTold told
+          → r ≡ countedWith counts (rowStructures settings s rows attrs n sizeOf i) → told ≡ layoutAt settings (lentRows (settings .endian) s rows attrs n) sizeOf i → size ≡ wholeTold told
           → PutKnown i size table table′ → RowCounted settings s rows attrs n sizeOf i counts r table table′
       counted-told q a z g = record { counts-are = q; told-is = λ u. g .here ∙ z ∙ ap wholeTold a; others = g .others; same-long = g .same-long }
 
-      put-one : (structures : List ℕ) {words structures′ : List ℕ} → words ≡ answerWords i (nameOf s attrs (runOf (settings .endian) rows i) attribute.Name) (counts .members) (layoutAt settings s rows attrs n sizeOf i)
+      put-one : (structures : List ℕ) {words structures′ : List ℕ} → words ≡ answerWords i (nameOf s attrs (runOf (settings .endian) rows i) attribute.Name) (counts .members) (layoutAt settings (lentRows (settings .endian) s rows attrs n) sizeOf i)
           → structures′ ≡ sets structures (counts .structures * structureWidth) words
           → structures′ ≡ sets structures (counts .structures * structureWidth) (structureWords (counts .members) (rowStructures settings s rows attrs n sizeOf i))
       unfolding structureWords structureAt
       put-one structures p q =
           q ∙ ap (sets structures (counts .structures * structureWidth))
-          (p ∙ sym (append-nil (answerWords i (nameOf s attrs (runOf (settings .endian) rows i) attribute.Name) (counts .members) (layoutAt settings s rows attrs n sizeOf i)))
+          (p ∙ sym (append-nil (answerWords i (nameOf s attrs (runOf (settings .endian) rows i) attribute.Name) (counts .members) (layoutAt settings (lentRows (settings .endian) s rows attrs n) sizeOf i)))
           ∙ ap (structureWords (counts .members)) (sym (row-one t)))
 
-      members-one : (room : List ℕ) {xs : List Laid} {room′ : List ℕ} → laidOf (rowLay settings s rows attrs n sizeOf i) ≡ xs → room′ ≡ sets room (counts .members * laidWidth) (laidWords xs)
+      members-one : (room : List ℕ) {xs : List Laid} {room′ : List ℕ} → laidOf (rowLay settings (lentRows (settings .endian) s rows attrs n) sizeOf i) ≡ xs → room′ ≡ sets room (counts .members * laidWidth) (laidWords xs)
           → room′ ≡ sets room (counts .members * laidWidth) (allMemberWords (rowStructures settings s rows attrs n sizeOf i))
       unfolding allMemberWords structureAt
       members-one room p q =
           q ∙ ap (sets room (counts .members * laidWidth))
-          (ap laidWords (sym p) ∙ sym (append-nil (laidWords (laidOf (rowLay settings s rows attrs n sizeOf i)))) ∙ ap allMemberWords (sym (row-one t)))
+          (ap laidWords (sym p) ∙ sym (append-nil (laidWords (laidOf (rowLay settings (lentRows (settings .endian) s rows attrs n) sizeOf i)))) ∙ ap allMemberWords (sym (row-one t)))
 
-      module _ {x : Layout} (p : gives x ≡ layoutAt settings s rows attrs n sizeOf i) where
-        many-given : length (laidOf (rowLay settings s rows attrs n sizeOf i)) ≡ x .members
+      module _ {x : Layout} (p : gives x ≡ layoutAt settings (lentRows (settings .endian) s rows attrs n) sizeOf i) where
+        many-given : length (laidOf (rowLay settings (lentRows (settings .endian) s rows attrs n) sizeOf i)) ≡ x .members
         unfolding layoutAt
-        many-given = laid-count (rowLay settings s rows attrs n sizeOf i) p
+        many-given = laid-count (rowLay settings (lentRows (settings .endian) s rows attrs n) sizeOf i) p
 
         pub given-asked : CountAsked s rows n i counts → OneMore counts (x .members)
         given-asked w =
-            let few : length (laidOf (rowLay settings s rows attrs n sizeOf i)) ≤ n = few-row settings s rows attrs n sizeOf i in
-            let many : length (laidOf (rowLay settings s rows attrs n sizeOf i)) ≡ x .members = many-given in
+            let few : length (laidOf (rowLay settings (lentRows (settings .endian) s rows attrs n) sizeOf i)) ≤ n = few-row settings s rows attrs n sizeOf i in
+            let many : length (laidOf (rowLay settings (lentRows (settings .endian) s rows attrs n) sizeOf i)) ≡ x .members = many-given in
             let there : i < n = w .asked .asked .there in
             let rows-few : n ≤ entryLimit = w .asked .asked .table .few in
             let small : counts .structures ≤ i = w .few-structures in
@@ -307,12 +308,12 @@ module _ (settings : Settings) (s rows attrs : List ℕ) (n : ℕ) (sizeOf : «T
         given-counted : {r : LayoutCounts} → r ≡ countedOn counts (x .members) → r ≡ countedWith counts (rowStructures settings s rows attrs n sizeOf i)
         given-counted q = counted-one many-given q
 
-        pub count-given : {told : Said Layout} {size : Said ℕ} {table table′ : List ℕ} {r : LayoutCounts} → told ≡ layoutAt settings s rows attrs n sizeOf i
+        pub count-given : {told : Said Layout} {size : Said ℕ} {table table′ : List ℕ} {r : LayoutCounts} → told ≡ layoutAt settings (lentRows (settings .endian) s rows attrs n) sizeOf i
             → size ≡ wholeTold told → PutKnown i size table table′ → r ≡ countedOn counts (x .members) → RowCounted settings s rows attrs n sizeOf i counts r table table′
         count-given a z g q = counted-told (given-counted q) a z g
 
         pub puts-given : {run : Run} {name : Name} {r : LayoutCounts} {structures structures′ room part′ : List ℕ} {again : LayoutWhole}
-            → run ≡ runOf (settings .endian) rows i → name ≡ nameOf s attrs run attribute.Name → WholeLaid (layoutAt settings s rows attrs n sizeOf i) (rowLay settings s rows attrs n sizeOf i) again
+            → run ≡ runOf (settings .endian) rows i → name ≡ nameOf s attrs run attribute.Name → WholeLaid (layoutAt settings (lentRows (settings .endian) s rows attrs n) sizeOf i) (rowLay settings (lentRows (settings .endian) s rows attrs n) sizeOf i) again
             (take (length room - counts .members * laidWidth) (drop (counts .members * laidWidth) room)) part′
             → structures′ ≡ sets structures (counts .structures * structureWidth) (eightWords i 0 (x .size) 0 (counts .members) (x .members) name)
             → r ≡ countedOn counts (x .members)
@@ -320,8 +321,8 @@ module _ (settings : Settings) (s rows attrs : List ℕ) (n : ℕ) (sizeOf : «T
             (take (counts .members * laidWidth) room ++ (part′ ++ drop (length room - counts .members * laidWidth) (drop (counts .members * laidWidth) room)))
         unfolding answerWords eightWords layoutAt laidOf
         puts-given {name = name} {structures = structures} {room = room} at′ is′ g e q =
-            let these : (l : Lay) × (rowLay settings s rows attrs n sizeOf i ≡ gives l) × (gives (layoutOf settings s rows attrs n sizeOf i l) ≡ gives x) =
-            step-gave (rowLay settings s rows attrs n sizeOf i) (λ l. gives (layoutOf settings s rows attrs n sizeOf i l)) (sym p)
+            let these : (l : Lay) × (rowLay settings (lentRows (settings .endian) s rows attrs n) sizeOf i ≡ gives l) × (gives (layoutOf settings (lentRows (settings .endian) s rows attrs n) sizeOf i l) ≡ gives x) =
+            step-gave (rowLay settings (lentRows (settings .endian) s rows attrs n) sizeOf i) (λ l. gives (layoutOf settings (lentRows (settings .endian) s rows attrs n) sizeOf i l)) (sym p)
             in
             record {
               counts-are = given-counted q;
@@ -330,15 +331,15 @@ module _ (settings : Settings) (s rows attrs : List ℕ) (n : ℕ) (sizeOf : «T
                   members-one room (ap laidOf (these .1)) (sets-rest room (counts .members * laidWidth) (laidWords (these .0 .members)) (g .room-is (these .0) (these .1)));
             }
 
-      module _ {number place : ℕ} {more : List ℕ} (p : refuses number place more ≡ layoutAt settings s rows attrs n sizeOf i) where
-        none-given : laidOf (rowLay settings s rows attrs n sizeOf i) ≡ []
+      module _ {number place : ℕ} {more : List ℕ} (p : refuses number place more ≡ layoutAt settings (lentRows (settings .endian) s rows attrs n) sizeOf i) where
+        none-given : laidOf (rowLay settings (lentRows (settings .endian) s rows attrs n) sizeOf i) ≡ []
         unfolding layoutAt
-        none-given = refused-none (rowLay settings s rows attrs n sizeOf i) p
+        none-given = refused-none (rowLay settings (lentRows (settings .endian) s rows attrs n) sizeOf i) p
 
         refused-counted : {r : LayoutCounts} → r ≡ countedOn counts 0 → r ≡ countedWith counts (rowStructures settings s rows attrs n sizeOf i)
         refused-counted q = counted-one (ap length none-given) q
 
-        pub count-refused : {told : Said Layout} {size : Said ℕ} {table table′ : List ℕ} {r : LayoutCounts} → told ≡ layoutAt settings s rows attrs n sizeOf i
+        pub count-refused : {told : Said Layout} {size : Said ℕ} {table table′ : List ℕ} {r : LayoutCounts} → told ≡ layoutAt settings (lentRows (settings .endian) s rows attrs n) sizeOf i
             → size ≡ wholeTold told → PutKnown i size table table′ → r ≡ countedOn counts 0 → RowCounted settings s rows attrs n sizeOf i counts r table table′
         count-refused a z g q = counted-told (refused-counted q) a z g
 
@@ -372,15 +373,15 @@ size-given p q = given-refused (p ∙ ap wholeTold (sym q))
 
 module _ {settings : Settings} {s rows attrs : List ℕ} {n : ℕ} {sizeOf : «Type» → Said ℕ} {table : List ℕ} (w : WholesTold settings s rows attrs n sizeOf n table)
     {i : ℕ} (l : i < n) {row : Row} {b : Bool} (at : row ≡ rowAt rows i) (is : b ≡ isStructure (shapeOf (row .kind))) (t : b ≡ true) where
-  layout-told : knownAt table i ≡ wholeTold (layoutAt settings s rows attrs n sizeOf i)
+  layout-told : knownAt table i ≡ wholeTold (layoutAt settings (lentRows (settings .endian) s rows attrs n) sizeOf i)
   layout-told = w .each i l (structure-test rows i at is t)
 
   pub layout-refused : {number place : ℕ} {counts : List ℕ} → refuses number place counts ≡ knownAt table i
-      → refuses number place counts ≡ layoutAt settings s rows attrs n sizeOf i
-  layout-refused p = refusal-told (layoutAt settings s rows attrs n sizeOf i) (p ∙ layout-told)
+      → refuses number place counts ≡ layoutAt settings (lentRows (settings .endian) s rows attrs n) sizeOf i
+  layout-refused p = refusal-told (layoutAt settings (lentRows (settings .endian) s rows attrs n) sizeOf i) (p ∙ layout-told)
 
   pub layout-given : {size number place : ℕ} {counts : List ℕ} → gives size ≡ knownAt table i
-      → refuses number place counts ≡ layoutAt settings s rows attrs n sizeOf i → ⊥
+      → refuses number place counts ≡ layoutAt settings (lentRows (settings .endian) s rows attrs n) sizeOf i → ⊥
   layout-given p q = size-given (p ∙ layout-told) q
 
 pub refused-asked : {s rows : List ℕ} {n i : ℕ} {counts : LayoutCounts} → CountAsked s rows n i counts → OneMore counts 0
@@ -401,28 +402,28 @@ kept-append false x xs = refl
 module _ (settings : Settings) (s rows attrs : List ℕ) (n : ℕ) (sizeOf : «Type» → Said ℕ) where
   -- the structures from row i on
   abbrev left : ℕ → List Structure
-  left i = structuresFrom settings s rows attrs n sizeOf i (n - i)
+  left i = structuresFrom settings (lentRows (settings .endian) s rows attrs n) sizeOf i (n - i)
 
   left-next : (i : ℕ) → i < n → rowStructures settings s rows attrs n sizeOf i ++ left (i + 1) ≡ left i
   unfolding structuresFrom rowStructures
   left-next i l =
       let down : n - i ≡ suc (n - (i + 1)) = omega arith in
       let up : i + 1 ≡ suc i = omega arith in
-      kept-append (isStructure (shapeOf (rowAt rows i .kind))) (structureAt settings s rows attrs n sizeOf i) (left (i + 1))
-      ∙ ap (λ (k : ℕ). alsoIf (isStructure (shapeOf (rowAt rows i .kind))) (structureAt settings s rows attrs n sizeOf i)
-      (structuresFrom settings s rows attrs n sizeOf k (n - (i + 1)))) up
-      ∙ ap (structuresFrom settings s rows attrs n sizeOf i) (sym down)
+      kept-append (isStructure (shapeOf (rowAt rows i .kind))) (structureAt settings (lentRows (settings .endian) s rows attrs n) sizeOf i) (left (i + 1))
+      ∙ ap (λ (k : ℕ). alsoIf (isStructure (shapeOf (rowAt rows i .kind))) (structureAt settings (lentRows (settings .endian) s rows attrs n) sizeOf i)
+      (structuresFrom settings (lentRows (settings .endian) s rows attrs n) sizeOf k (n - (i + 1)))) up
+      ∙ ap (structuresFrom settings (lentRows (settings .endian) s rows attrs n) sizeOf i) (sym down)
 
   left-none : (i : ℕ) → n ≤ i → left i ≡ []
   unfolding structuresFrom
   left-none i h =
       let down : n - i ≡ 0 = omega arith in
-      ap (structuresFrom settings s rows attrs n sizeOf i) down
+      ap (structuresFrom settings (lentRows (settings .endian) s rows attrs n) sizeOf i) down
 
-  left-all : left 0 ≡ structuresFrom settings s rows attrs n sizeOf 0 n
+  left-all : left 0 ≡ structuresFrom settings (lentRows (settings .endian) s rows attrs n) sizeOf 0 n
   left-all =
       let whole : n - 0 ≡ n = omega arith in
-      ap (structuresFrom settings s rows attrs n sizeOf 0) whole
+      ap (structuresFrom settings (lentRows (settings .endian) s rows attrs n) sizeOf 0) whole
 
   row-few : (i : ℕ) → length (rowStructures settings s rows attrs n sizeOf i) ≤ 1
   unfolding rowStructures alsoIf
@@ -431,7 +432,7 @@ module _ (settings : Settings) (s rows attrs : List ℕ) (n : ℕ) (sizeOf : «T
   row-members-few : (i : ℕ) → memberCount (rowStructures settings s rows attrs n sizeOf i) ≤ n
   unfolding rowStructures alsoIf memberCount structureAt
   row-members-few i =
-      let few : length (laidOf (rowLay settings s rows attrs n sizeOf i)) ≤ n = few-row settings s rows attrs n sizeOf i in
+      let few : length (laidOf (rowLay settings (lentRows (settings .endian) s rows attrs n) sizeOf i)) ≤ n = few-row settings s rows attrs n sizeOf i in
       cond-all (λ (xs : List Structure). memberCount xs ≤ n) (isStructure (shapeOf (rowAt rows i .kind))) (λ t. omega arith) (λ t. omega arith)
 
 -- what was counted before row i, and what is left, come to the whole
@@ -440,7 +441,7 @@ pub record Counting (settings : Settings) (s rows attrs : List ℕ) (n : ℕ) (s
   pub within : i ≤ n
   pub few-structures : counts .structures ≤ i
   pub few-members : counts .members ≤ i * entryLimit
-  pub on : countedWith counts (structuresFrom settings s rows attrs n sizeOf i (n - i)) ≡ countsOf (structuresFrom settings s rows attrs n sizeOf 0 n)
+  pub on : countedWith counts (structuresFrom settings (lentRows (settings .endian) s rows attrs n) sizeOf i (n - i)) ≡ countsOf (structuresFrom settings (lentRows (settings .endian) s rows attrs n) sizeOf 0 n)
 
 module _ {settings : Settings} {s rows attrs : List ℕ} {n : ℕ} (ready : TableReady s rows n) (sizeOf : «Type» → Said ℕ) where
   pub counting-begins : Counting settings s rows attrs n sizeOf (counting 0 0) 0
@@ -450,7 +451,7 @@ module _ {settings : Settings} {s rows attrs : List ℕ} {n : ℕ} (ready : Tabl
         within = omega arith;
         few-structures = omega arith;
         few-members = omega arith;
-        on = ap (countedWith (counting 0 0)) (left-all settings s rows attrs n sizeOf) ∙ counted-all (structuresFrom settings s rows attrs n sizeOf 0 n);
+        on = ap (countedWith (counting 0 0)) (left-all settings s rows attrs n sizeOf) ∙ counted-all (structuresFrom settings (lentRows (settings .endian) s rows attrs n) sizeOf 0 n);
       }
 
 module _ {settings : Settings} {s rows attrs : List ℕ} {n : ℕ} {sizeOf : «Type» → Said ℕ} {counts : LayoutCounts} {i : ℕ}
@@ -478,13 +479,13 @@ module _ {settings : Settings} {s rows attrs : List ℕ} {n : ℕ} {sizeOf : «T
         few-structures = omega (arith, w .few-structures);
         few-members = omega (arith, w .few-members);
         on =
-            ap (λ (c : LayoutCounts). countedWith c (structuresFrom settings s rows attrs n sizeOf (i + 1) (n - (i + 1)))) q
-            ∙ counted-append counts (rowStructures settings s rows attrs n sizeOf i) (structuresFrom settings s rows attrs n sizeOf (i + 1) (n - (i + 1)))
+            ap (λ (c : LayoutCounts). countedWith c (structuresFrom settings (lentRows (settings .endian) s rows attrs n) sizeOf (i + 1) (n - (i + 1)))) q
+            ∙ counted-append counts (rowStructures settings s rows attrs n sizeOf i) (structuresFrom settings (lentRows (settings .endian) s rows attrs n) sizeOf (i + 1) (n - (i + 1)))
             ∙ ap (countedWith counts) (left-next settings s rows attrs n sizeOf i l)
             ∙ w .on;
       }
 
-  pub counting-ends : n ≤ i → counts ≡ countsOf (structuresFrom settings s rows attrs n sizeOf 0 n)
+  pub counting-ends : n ≤ i → counts ≡ countsOf (structuresFrom settings (lentRows (settings .endian) s rows attrs n) sizeOf 0 n)
   counting-ends h = counted-none counts ∙ ap (countedWith counts) (sym (left-none settings s rows attrs n sizeOf i h)) ∙ w .on
 
 -- ---- what was told, row after row
@@ -500,7 +501,7 @@ module _ (settings : Settings) (s rows attrs : List ℕ) (n : ℕ) (sizeOf : «T
         fits = omega (arith, w .fits, g .same-long);
         each = λ i l. elim (decLe k i) [
           | yes h ↦ let same : k ≡ i = omega arith in
-              subst (λ (j : ℕ). isStructure (shapeOf (rowAt rows j .kind)) ≡ true → knownAt told′ j ≡ wholeTold (layoutAt settings s rows attrs n sizeOf j)) same (g .told-is)
+              subst (λ (j : ℕ). isStructure (shapeOf (rowAt rows j .kind)) ≡ true → knownAt told′ j ≡ wholeTold (layoutAt settings (lentRows (settings .endian) s rows attrs n) sizeOf j)) same (g .told-is)
           | no h ↦ λ t. g .others i (λ z. omega (arith, z)) ∙ w .each i (omega arith) t
         ];
       }
@@ -512,16 +513,16 @@ module _ (settings : Settings) (s rows attrs : List ℕ) (n : ℕ) (sizeOf : «T
 pub record Putting (settings : Settings) (s rows attrs : List ℕ) (n : ℕ) (sizeOf : «Type» → Said ℕ) (structures₀ members₀ structures room : List ℕ)
     (counts : LayoutCounts) (i : ℕ) : Type 0 where
   pub counted : Counting settings s rows attrs n sizeOf counts i
-  pub fits : memberCount (structuresFrom settings s rows attrs n sizeOf 0 n) * laidWidth ≤ length members₀
+  pub fits : memberCount (structuresFrom settings (lentRows (settings .endian) s rows attrs n) sizeOf 0 n) * laidWidth ≤ length members₀
   pub same-structures : length structures ≡ length structures₀
   pub same-members : length room ≡ length members₀
-  pub structures-on : sets structures (counts .structures * structureWidth) (structureWords (counts .members) (structuresFrom settings s rows attrs n sizeOf i (n - i)))
-      ≡ sets structures₀ 0 (structureWords 0 (structuresFrom settings s rows attrs n sizeOf 0 n))
-  pub members-on : sets room (counts .members * laidWidth) (allMemberWords (structuresFrom settings s rows attrs n sizeOf i (n - i)))
-      ≡ sets members₀ 0 (allMemberWords (structuresFrom settings s rows attrs n sizeOf 0 n))
+  pub structures-on : sets structures (counts .structures * structureWidth) (structureWords (counts .members) (structuresFrom settings (lentRows (settings .endian) s rows attrs n) sizeOf i (n - i)))
+      ≡ sets structures₀ 0 (structureWords 0 (structuresFrom settings (lentRows (settings .endian) s rows attrs n) sizeOf 0 n))
+  pub members-on : sets room (counts .members * laidWidth) (allMemberWords (structuresFrom settings (lentRows (settings .endian) s rows attrs n) sizeOf i (n - i)))
+      ≡ sets members₀ 0 (allMemberWords (structuresFrom settings (lentRows (settings .endian) s rows attrs n) sizeOf 0 n))
 
 module _ {settings : Settings} {s rows attrs : List ℕ} {n : ℕ} (sizeOf : «Type» → Said ℕ) {room : List ℕ}
-    (w : PutsAsked s rows n (structuresFrom settings s rows attrs n sizeOf 0 n) room) where
+    (w : PutsAsked s rows n (structuresFrom settings (lentRows (settings .endian) s rows attrs n) sizeOf 0 n) room) where
   pub putting-begins : (structures : List ℕ) → Putting settings s rows attrs n sizeOf structures room structures room (counting 0 0) 0
   putting-begins structures =
       record {
@@ -538,7 +539,7 @@ module _ {settings : Settings} {s rows attrs : List ℕ} {n : ℕ} {sizeOf : «T
   pub putting-asked : i < n → PutAsked s rows n i counts room
   unfolding countedWith countsOf
   putting-asked l =
-      let total : counts .members + memberCount (structuresFrom settings s rows attrs n sizeOf i (n - i)) ≡ memberCount (structuresFrom settings s rows attrs n sizeOf 0 n) =
+      let total : counts .members + memberCount (structuresFrom settings (lentRows (settings .endian) s rows attrs n) sizeOf i (n - i)) ≡ memberCount (structuresFrom settings (lentRows (settings .endian) s rows attrs n) sizeOf 0 n) =
       ap (λ (c : LayoutCounts). c .members) (w .counted .on) in
       record { counted = counting-asked (w .counted) l; begins = omega (arith, w .fits, w .same-members) }
 
@@ -548,7 +549,7 @@ module _ {settings : Settings} {s rows attrs : List ℕ} {n : ℕ} {sizeOf : «T
     xs = rowStructures settings s rows attrs n sizeOf i
 
     abbrev rest : List Structure
-    rest = structuresFrom settings s rows attrs n sizeOf (i + 1) (n - (i + 1))
+    rest = structuresFrom settings (lentRows (settings .endian) s rows attrs n) sizeOf (i + 1) (n - (i + 1))
 
     structures-next : sets structures′ (counts′ .structures * structureWidth) (structureWords (counts′ .members) rest)
         ≡ sets structures (counts .structures * structureWidth) (structureWords (counts .members) (xs ++ rest))
@@ -592,7 +593,7 @@ module _ {settings : Settings} {s rows attrs : List ℕ} {n : ℕ} {sizeOf : «T
               ∙ w .members-on;
         }
 
-  pub putting-ends : n ≤ i → PutAll (structuresFrom settings s rows attrs n sizeOf 0 n) structures₀ structures members₀ room
+  pub putting-ends : n ≤ i → PutAll (structuresFrom settings (lentRows (settings .endian) s rows attrs n) sizeOf 0 n) structures₀ structures members₀ room
   unfolding structureWords allMemberWords
   putting-ends h =
       record {
@@ -668,10 +669,10 @@ module _ (xs : List Structure) {needed : LayoutCounts} (is : needed ≡ countsOf
 
 pub all-known : (settings : Settings) (sizes s rows attrs : List ℕ) (n : ℕ) → TableReady s rows n → (known : List ℕ)
     → KnownUpTo (sizeLeft settings sizes s rows attrs n deepest) n n known → 0 < length known → (structures room : List ℕ) {structures′ room′ : List ℕ} {r : Said LayoutCounts}
-    → BothGiven (layoutsInto structures room (structuresFrom settings s rows attrs n (typeSizeFrom settings sizes s rows attrs n known 0) 0 n)) r structures′ room′
-    → BothGiven (layoutsInto structures room (structuresFrom settings s rows attrs n (typeSize settings sizes s rows attrs n deepest) 0 n)) r structures′ room′
+    → BothGiven (layoutsInto structures room (structuresFrom settings (lentRows (settings .endian) s rows attrs n) (typeSizeFrom settings sizes s rows attrs n known 0) 0 n)) r structures′ room′
+    → BothGiven (layoutsInto structures room (structuresFrom settings (lentRows (settings .endian) s rows attrs n) (typeSize settings sizes (lentRows (settings .endian) s rows attrs n) deepest) 0 n)) r structures′ room′
 all-known settings sizes s rows attrs n ready known w some structures room {structures′} {room′} {r} g =
-    subst (λ (sizeOf : «Type» → Said ℕ). BothGiven (layoutsInto structures room (structuresFrom settings s rows attrs n sizeOf 0 n)) r structures′ room′)
+    subst (λ (sizeOf : «Type» → Said ℕ). BothGiven (layoutsInto structures room (structuresFrom settings (lentRows (settings .endian) s rows attrs n) sizeOf 0 n)) r structures′ room′)
     (known-types settings sizes s rows attrs n ready deepest w some 0) g
 
 -- ---- the words of a structure

@@ -11,7 +11,7 @@ use lib.ListN.{length, getD, take, drop, take-append-drop, List·getD-append}
 use lib.Seq.{sets, getD-append-add}
 use lib.Dec.{leb}
 use borrow.Author.Tests.{leb-true}
-use Rattle.tables.specs.Table.{Table, table}
+use Rattle.tables.specs.Table.{Table, table, lentRows}
 use Rattle.lent.proofs.Laws.Filled.{sets-filled}
 use Rattle.lent.specs.Outcome.{Outcomes, BothGiven}
 use Rattle.format.specs.Said.{Said, gives, refuses, inRooms, fillsRooms}
@@ -107,10 +107,10 @@ module _ (settings : Settings) (vendors sizes s rows attrs : List ℕ) (counts :
   t = table s settings vendors sizes rows attrs counts
 
   abbrev all : List Structure
-  all = structuresFrom settings s rows attrs (counts .rows) (innerSize t) 0 (counts .rows)
+  all = structuresFrom settings (lentRows (settings .endian) s rows attrs (counts .rows)) (innerSize t) 0 (counts .rows)
 
   pub all-filled : {many : LayoutCounts} {structures′ room′ : List ℕ}
       → BothGiven (allLayouts (table s settings vendors sizes rows attrs counts) structures room) (gives many) structures′ room′
-      → AllFilled (structuresFrom settings s rows attrs (counts .rows) (innerSize (table s settings vendors sizes rows attrs counts)) 0 (counts .rows)) many structures structures′ room room′
+      → AllFilled (structuresFrom settings (lentRows (settings .endian) s rows attrs (counts .rows)) (innerSize (table s settings vendors sizes rows attrs counts)) 0 (counts .rows)) many structures structures′ room room′
   unfolding allLayouts
   all-filled g = into-filled structures room all (rooms-given structures room (testTable t) (λ passed. layoutsInto structures room all) g .2)

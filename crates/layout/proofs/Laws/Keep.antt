@@ -15,6 +15,7 @@ use Rattle.format.specs.Said.{Said, gives, refuse, refusal, _>>=_}
 use Rattle.format.specs.declared.settings.Settings.{Settings}
 use Rattle.format.specs.declared.refusal.Refusal.{Refusal}
 use Rattle.format.specs.declared.refusal.Reason.the-variants as reason
+use Rattle.tables.specs.Table.{lentRows}
 use Rattle.tables.specs.Row.{rowAt, erasedRow}
 use Rattle.tables.specs.Find.{rowOfKey}
 use Rattle.tables.proofs.Laws.Find.{row-found}
@@ -82,7 +83,7 @@ unfolding siblingBy nextRow
 named-within rows n c l (reference.To key) = number-within rows n key (rowOfKey rows n key) refl
 named-within rows n c l reference.Nothing = next-within rows (erasedRow (rowAt rows c .flags)) (suc c) (n - suc c) n (omega arith)
 
-pub sibling-within : (e : Endian) (s rows attrs : List ℕ) (n c : ℕ) → c < n → siblingRow e s rows attrs n c ≤ n
+pub sibling-within : (e : Endian) (s rows attrs : List ℕ) (n c : ℕ) → c < n → siblingRow (lentRows e s rows attrs n) c ≤ n
 unfolding siblingRow
 sibling-within e s rows attrs n c l = named-within rows n c l (referenceOf e s rows attrs c siblingNumber)
 
@@ -122,16 +123,16 @@ pub row-fits : {rows kept kept′ : List ℕ} {n c i : ℕ} {size : Said ℕ} �
 row-fits a w g = omega (arith, a .there, w .fits, g .same-long)
 
 module _ (settings : Settings) (sizes s rows attrs : List ℕ) (n c : ℕ) (asked : Asked rows n c) {kept kept₁ : List ℕ} {sibling : ℕ}
-    (is : sibling ≡ siblingRow (settings .endian) s rows attrs n c) (g : PutKnown (c * 3 + 2) (saidSized (Is (sibling % 4294967296))) kept kept₁) where
+    (is : sibling ≡ siblingRow (lentRows (settings .endian) s rows attrs n) c) (g : PutKnown (c * 3 + 2) (saidSized (Is (sibling % 4294967296))) kept kept₁) where
   -- a row's number fits a word
-  sibling-kept : knownAt kept₁ (c * 3 + 2) ≡ gives (siblingRow (settings .endian) s rows attrs n c)
+  sibling-kept : knownAt kept₁ (c * 3 + 2) ≡ gives (siblingRow (lentRows (settings .endian) s rows attrs n) c)
   unfolding saidSized
   sibling-kept =
-      let within : siblingRow (settings .endian) s rows attrs n c ≤ n = sibling-within (settings .endian) s rows attrs n c (asked .there) in
-      let small : sibling % 4294967296 ≡ siblingRow (settings .endian) s rows attrs n c = omega (arith, within, is, asked .table .few) in
+      let within : siblingRow (lentRows (settings .endian) s rows attrs n) c ≤ n = sibling-within (settings .endian) s rows attrs n c (asked .there) in
+      let small : sibling % 4294967296 ≡ siblingRow (lentRows (settings .endian) s rows attrs n) c = omega (arith, within, is, asked .table .few) in
       g .here ∙ ap gives small
 
-  pub row-member : {told : Said Member} {kept₂ : List ℕ} → told ≡ memberAt settings s rows attrs n c → PutTwo c (firstOf told) (secondOf sizes rows n told) kept₁ kept₂
+  pub row-member : {told : Said Member} {kept₂ : List ℕ} → told ≡ memberAt settings (lentRows (settings .endian) s rows attrs n) c → PutTwo c (firstOf told) (secondOf sizes rows n told) kept₁ kept₂
       → PutRow settings sizes s rows attrs n c kept kept₂
   row-member p two =
       record {
@@ -160,8 +161,8 @@ each-on P k here before c l = elim (decLe k c) [ yes h ↦ let same : k ≡ c = 
 
 pub record Keeping (settings : Settings) (sizes s rows attrs : List ℕ) (n : ℕ) (kept : List ℕ) (k : ℕ) : Type 0 where
   pub asked : KeepAsked rows n kept
-  pub siblings : (c : ℕ) → c < k → knownAt kept (c * 3 + 2) ≡ gives (siblingRow (settings .endian) s rows attrs n c)
-  pub first : (c : ℕ) → c < k → rowAt rows c .kind ≡ tag.Member → knownAt kept (c * 3) ≡ firstOf (memberAt settings s rows attrs n c)
+  pub siblings : (c : ℕ) → c < k → knownAt kept (c * 3 + 2) ≡ gives (siblingRow (lentRows (settings .endian) s rows attrs n) c)
+  pub first : (c : ℕ) → c < k → rowAt rows c .kind ≡ tag.Member → knownAt kept (c * 3) ≡ firstOf (memberAt settings (lentRows (settings .endian) s rows attrs n) c)
   pub second : SecondKept settings sizes s rows attrs n kept k
 
 module _ (settings : Settings) (sizes s rows attrs : List ℕ) (n : ℕ) where
@@ -179,11 +180,11 @@ module _ (settings : Settings) (sizes s rows attrs : List ℕ) (n : ℕ) where
   keeping-on {kept} {kept′} {k} w g =
       record {
         asked = record { table = w .asked .table; fits = omega (arith, w .asked .fits, g .same-long) };
-        siblings = each-on (λ c. knownAt kept′ (c * 3 + 2) ≡ gives (siblingRow (settings .endian) s rows attrs n c)) k (g .sibling-is)
+        siblings = each-on (λ c. knownAt kept′ (c * 3 + 2) ≡ gives (siblingRow (lentRows (settings .endian) s rows attrs n) c)) k (g .sibling-is)
             (λ c l. g .before (c * 3 + 2) (omega arith) ∙ w .siblings c l);
-        first = each-on (λ c. rowAt rows c .kind ≡ tag.Member → knownAt kept′ (c * 3) ≡ firstOf (memberAt settings s rows attrs n c)) k (g .first-is)
+        first = each-on (λ c. rowAt rows c .kind ≡ tag.Member → knownAt kept′ (c * 3) ≡ firstOf (memberAt settings (lentRows (settings .endian) s rows attrs n) c)) k (g .first-is)
             (λ c l t. g .before (c * 3) (omega arith) ∙ w .first c l t);
-        second = λ c l some. each-on (λ c. rowAt rows c .kind ≡ tag.Member → knownAt kept′ (c * 3 + 1) ≡ secondOf sizes rows n (memberAt settings s rows attrs n c)) k
+        second = λ c l some. each-on (λ c. rowAt rows c .kind ≡ tag.Member → knownAt kept′ (c * 3 + 1) ≡ secondOf sizes rows n (memberAt settings (lentRows (settings .endian) s rows attrs n) c)) k
             (g .second-is) (λ c l t. g .before (c * 3 + 1) (omega arith) ∙ w .second c l (omega (arith, some, g .same-long)) t) c l;
       }
 

@@ -9,7 +9,7 @@ use lib.ListN.{length, set, length-append}
 use lib.Seq.{sets, length-sets}
 use lib.Dec.{eqb, leb}
 use borrow.Author.Tests.{eq-eqb, ne-eqb, le-leb, lt-leb}
-use Rattle.tables.specs.Table.{table}
+use Rattle.tables.specs.Table.{table, lentRows}
 use Rattle.lent.specs.Outcome.{Outcome, Given}
 use Rattle.numbers.proofs.Laws.Tests.{cond-all}
 use Rattle.numbers.specs.declared.Endian.{Endian}
@@ -156,13 +156,13 @@ module _ (e : Endian) (s rows attrs : List ℕ) (bounded : Bool) (largest c offs
 
 -- ---- a member's name is what its row says
 
-pub member-name : (settings : Settings) (s rows attrs : List ℕ) (n c : ℕ) {m : Member} → memberAt settings s rows attrs n c ≡ gives m
+pub member-name : (settings : Settings) (s rows attrs : List ℕ) (n c : ℕ) {m : Member} → memberAt settings (lentRows (settings .endian) s rows attrs n) c ≡ gives m
     → m .name ≡ nameOf s attrs (runOf (settings .endian) rows c) attribute.Name
 unfolding memberAt memberFields
 member-name settings s rows attrs n c p =
     let run : Run = runOf (settings .endian) rows c in
     let named : Member → Type 0 = λ m. m .name ≡ nameOf s attrs run attribute.Name in
-    subst (Of named) (past-gave (frontOf settings s rows attrs n record′.Member c) (memberFields s attrs run) p)
+    subst (Of named) (past-gave (frontOf settings (lentRows (settings .endian) s rows attrs n) record′.Member c) (memberFields s attrs run) p)
     (of-next named (typeOf s attrs run) _
     (λ of. of-next named (offsetField s attrs run) _
     (λ offset. of-next named (bitsBy (run .key) (wordOf s attrs run attribute.BitSize) (wordOf s attrs run attribute.BitOffset)) _ (λ b. refl))))
@@ -184,7 +184,7 @@ module _ (settings : Settings) (s rows attrs : List ℕ) (n : ℕ) (sizeOf : «T
   sized-adds m p (refuses number place counts) q =
       ap (λ (x : Said ℕ). x >>= λ size. endOr bounded (rowAt rows c .key) largest (m .offset + size) >>= λ next. gives (lay (laidMember (placed c m) size ∷ []) next)) (sym q)
 
-  read-adds : (d : Said Member) → memberAt settings s rows attrs n c ≡ d
+  read-adds : (d : Said Member) → memberAt settings (lentRows (settings .endian) s rows attrs n) c ≡ d
       → adds (d >>= λ m. withSize (m .offset) (sizeOr sizeOf (m .of) (m .«byte_size»))) ≡ readLaid rows sizeOf bounded largest c d
   unfolding readLaid addedLaid memberSize _>>=_
   read-adds (gives m) p = sized-adds m (member-name settings s rows attrs n c p) (memberSize sizeOf (placed c m)) refl
@@ -196,7 +196,7 @@ module _ (settings : Settings) (s rows attrs : List ℕ) (n : ℕ) (sizeOf : «T
       unfolding childLaid memberAdded
       child-adds p =
           let test : eqb (rowAt rows c .kind) tag.Member ≡ true = eq-eqb (rowAt rows c .kind) tag.Member (ap (λ (r : Row). r .kind) (sym at) ∙ h) in
-          ap adds (case-said saidAdded is p) ∙ read-adds (memberAt settings s rows attrs n c) refl ∙ sym (rw test)
+          ap adds (case-said saidAdded is p) ∙ read-adds (memberAt settings (lentRows (settings .endian) s rows attrs n) c) refl ∙ sym (rw test)
 
       pub child-sized : {offset size k : ℕ} {r : Laying} {room room′ : List ℕ} → told ≡ added.Is offset size
           → Lays (sizedLaid (settings .endian) s rows attrs bounded largest c offset size) k r room room′
@@ -234,7 +234,7 @@ few-child : (settings : Settings) (s rows attrs : List ℕ) (n : ℕ) (sizeOf : 
 unfolding childLaid readLaid
 few-child settings s rows attrs n sizeOf bounded largest c =
     cond-all (Of fewLaid) (eqb (rowAt rows c .kind) tag.Member)
-    (λ t. of-next fewLaid (memberAt settings s rows attrs n c) _ (λ m. few-from rows sizeOf bounded largest (placed c m)))
+    (λ t. of-next fewLaid (memberAt settings (lentRows (settings .endian) s rows attrs n) c) _ (λ m. few-from rows sizeOf bounded largest (placed c m)))
     (λ t. omega arith)
 
 one-more : (k count largest : ℕ) (d : Said Lay) → Of fewLaid d → saidLaying (laying.Is count largest) ≡ layingOf k d → count ≤ k + 1
@@ -297,7 +297,7 @@ pub record Laying′ (settings : Settings) (s rows attrs : List ℕ) (n end : �
   pub short : length s < sectionLimit
 
 pub laying-begins : (settings : Settings) (s rows attrs : List ℕ) (n : ℕ) (sizeOf : «Type» → Said ℕ) (bounded : Bool) (i : ℕ) (room : List ℕ) {end from c : ℕ}
-    → end ≡ siblingRow (settings .endian) s rows attrs n i → from ≡ nextRow rows n i → EndsShort settings s rows attrs n i
+    → end ≡ siblingRow (lentRows (settings .endian) s rows attrs n) i → from ≡ nextRow rows n i → EndsShort settings s rows attrs n i
     → c ≡ firstOr n (kidsFrom (settings .endian) s rows attrs n end from)
     → Laying′ settings s rows attrs n end sizeOf bounded (childrenLaid settings s rows attrs n sizeOf bounded 0 (kidsOf (settings .endian) s rows attrs n i)) room room c 0 0
 laying-begins settings s rows attrs n sizeOf bounded i room {end} {from} {c} p q w is =
@@ -326,14 +326,14 @@ module _ {settings : Settings} {s rows attrs : List ℕ} {n end : ℕ} {sizeOf :
   module _ (l : c < n) where
     pub laying-asked : LayAsked s rows n c k
     laying-asked =
-        let some : length (kidsFrom (settings .endian) s rows attrs n end c) ≡ suc (length (kidsFrom (settings .endian) s rows attrs n end (siblingRow (settings .endian) s rows attrs n c))) =
+        let some : length (kidsFrom (settings .endian) s rows attrs n end c) ≡ suc (length (kidsFrom (settings .endian) s rows attrs n end (siblingRow (lentRows (settings .endian) s rows attrs n) c))) =
         ap length (kids-more (settings .endian) s rows attrs n end (w .walking .on) (w .walking .first) l) in
         let most′ : k + length (kidsFrom (settings .endian) s rows attrs n end c) ≤ n = w .counted in
         let few : n ≤ entryLimit = w .walking .on .table .few in
         record { asked = record { asked = walking-asked (w .walking) l; short = w .short }; count-small = omega arith }
 
     module _ {told : Laying} {room′ : List ℕ} (g : Lays (childLaid settings s rows attrs n sizeOf bounded most c) k told room room′) where
-      module _ {count largest : ℕ} (q : told ≡ laying.Is count largest) {d c′ : ℕ} (p : d ≡ siblingRow (settings .endian) s rows attrs n c)
+      module _ {count largest : ℕ} (q : told ≡ laying.Is count largest) {d c′ : ℕ} (p : d ≡ siblingRow (lentRows (settings .endian) s rows attrs n) c)
           (is : c′ ≡ firstOr n (kidsFrom (settings .endian) s rows attrs n end d)) where
         pub laying-on : Laying′ settings s rows attrs n end sizeOf bounded all room₀ room′ c′ count largest
         unfolding childrenLaid
@@ -424,25 +424,25 @@ module _ (rows : List ℕ) (sizeOf : «Type» → Said ℕ) (bounded : Bool) (c 
     child-then false d p = before-none (f largest) ∙ same ms p largest
 
 module _ (settings : Settings) (s rows attrs : List ℕ) (n : ℕ) (sizeOf : «Type» → Said ℕ) (bounded : Bool) where
-  laid-members : (largest : ℕ) (cs : List ℕ) {ms : List Placed} → memberRowsFrom settings s rows attrs n cs ≡ gives ms
+  laid-members : (largest : ℕ) (cs : List ℕ) {ms : List Placed} → memberRowsFrom settings (lentRows (settings .endian) s rows attrs n) cs ≡ gives ms
       → childrenLaid settings s rows attrs n sizeOf bounded largest cs ≡ laidFrom rows sizeOf bounded largest ms
   unfolding memberRowsFrom memberChildThen memberThen childrenLaid childLaid laidFrom
   laid-members largest [] p = ap (laidFrom rows sizeOf bounded largest) (given-is p)
   laid-members largest (c ∷ cs) {ms} p =
-      child-then rows sizeOf bounded c largest (λ next. childrenLaid settings s rows attrs n sizeOf bounded next cs) (memberRowsFrom settings s rows attrs n cs) ms
-      (λ xs q x. laid-members x cs q) (eqb (rowAt rows c .kind) tag.Member) (memberAt settings s rows attrs n c) p
+      child-then rows sizeOf bounded c largest (λ next. childrenLaid settings s rows attrs n sizeOf bounded next cs) (memberRowsFrom settings (lentRows (settings .endian) s rows attrs n) cs) ms
+      (λ xs q x. laid-members x cs q) (eqb (rowAt rows c .kind) tag.Member) (memberAt settings (lentRows (settings .endian) s rows attrs n) c) p
 
 -- ---- a structure
 
 module _ (settings : Settings) (s rows attrs : List ℕ) (n i : ℕ) where
-  clear-ending : structureFault settings s rows attrs n i ≡ gives tt → isEnding (childWalk (settings .endian) s rows attrs n i) ≡ true
+  clear-ending : structureFault settings s rows attrs n i ≡ gives tt → isEnding (childWalk (lentRows (settings .endian) s rows attrs n) i) ≡ true
   unfolding structureFault
-  clear-ending p = walk-ending settings s rows attrs n i (childWalk (settings .endian) s rows attrs n i) p
+  clear-ending p = walk-ending settings s rows attrs n i (childWalk (lentRows (settings .endian) s rows attrs n) i) p
 
   clear-members : structureFault settings s rows attrs n i ≡ gives tt
-      → memberRowsFrom settings s rows attrs n (kidsOf (settings .endian) s rows attrs n i) ≡ membersOf settings s rows attrs n i
+      → memberRowsFrom settings (lentRows (settings .endian) s rows attrs n) (kidsOf (settings .endian) s rows attrs n i) ≡ membersOf settings (lentRows (settings .endian) s rows attrs n) i
   unfolding kidsOf kidsFrom walkOn childWalk membersOf
-  clear-members p = walk-members settings s rows attrs n i (rowAt rows i .key) (childWalk (settings .endian) s rows attrs n i) (clear-ending p)
+  clear-members p = walk-members settings s rows attrs n i (rowAt rows i .key) (childWalk (lentRows (settings .endian) s rows attrs n) i) (clear-ending p)
 
   abbrev children : («Type» → Said ℕ) → Bool → Said Lay
   children sizeOf bounded = childrenLaid settings s rows attrs n sizeOf bounded 0 (kidsOf (settings .endian) s rows attrs n i)
@@ -481,10 +481,10 @@ module _ (settings : Settings) (s rows attrs : List ℕ) (n i : ℕ) where
     laidMembers ms = laidFrom rows sizeOf (hasByteSize own) 0 ms
 
     fault-laid : (d : Said Unit) → structureFault settings s rows attrs n i ≡ d
-        → (d >> children sizeOf (hasByteSize own)) ≡ (membersOf settings s rows attrs n i >>= laidMembers)
+        → (d >> children sizeOf (hasByteSize own)) ≡ (membersOf settings (lentRows (settings .endian) s rows attrs n) i >>= laidMembers)
     unfolding _>>_ _>>=_
     fault-laid (gives x) p =
-        let all : AllRead (membersOf settings s rows attrs n i) = fault-members settings s rows attrs n i p in
+        let all : AllRead (membersOf settings (lentRows (settings .endian) s rows attrs n) i) = fault-members settings s rows attrs n i p in
         laid-members settings s rows attrs n sizeOf (hasByteSize own) 0 (kidsOf (settings .endian) s rows attrs n i) (clear-members p ∙ all .are)
         ∙ ap (λ (d : Said (List Placed)). d >>= laidMembers) (sym (all .are))
     fault-laid (refuses number place counts) p = ap (λ (d : Said (List Placed)). d >>= laidMembers) (sym (refused-members settings s rows attrs n i p))
@@ -493,13 +493,13 @@ module _ (settings : Settings) (s rows attrs : List ℕ) (n i : ℕ) where
     abbrev asLayout : Progress → Layout
     asLayout x = record { row = i; size = sizeOrLargest (x .largest) own; members = x .count }
 
-    laying-layout : (d : Said Lay) → (layingOf 0 d >>= λ x. gives (asLayout x)) ≡ (d >>= λ l. gives (layoutOf settings s rows attrs n sizeOf i l))
+    laying-layout : (d : Said Lay) → (layingOf 0 d >>= λ x. gives (asLayout x)) ≡ (d >>= λ l. gives (layoutOf settings (lentRows (settings .endian) s rows attrs n) sizeOf i l))
     unfolding layingOf layoutOf _>>=_
     laying-layout (gives l) = ap (λ (k : ℕ). gives (asLayout (progress k (l .largest)))) (zero-add (length (l .members)))
     laying-layout (refuses number place counts) = refl
 
     abbrev rowAnswer : LayoutWhole → List ℕ → List ℕ → Type 0
-    rowAnswer r room room′ = WholeLaid (layoutAt settings s rows attrs n sizeOf i) (rowLay settings s rows attrs n sizeOf i) r room room′
+    rowAnswer r room room′ = WholeLaid (layoutAt settings (lentRows (settings .endian) s rows attrs n) sizeOf i) (rowLay settings (lentRows (settings .endian) s rows attrs n) sizeOf i) r room room′
 
     module _ {row : Row} {b : Bool} (at : row ≡ rowAt rows i) (is : b ≡ isStructure (shapeOf (row .kind))) where
       kind-is : b ≡ isStructure (shapeOf (rowAt rows i .kind))
@@ -508,12 +508,12 @@ module _ (settings : Settings) (s rows attrs : List ℕ) (n i : ℕ) where
       pub whole-other : {why : Refusal} {room : List ℕ} → b ≡ false → why ≡ refusedAt (row .key) reason.Kind → rowAnswer (whole.Refused why) room room
       unfolding layoutAt rowLay saidLayoutWhole _>>=_
       whole-other {why} t q =
-          let other : refusal why ≡ rowLay settings s rows attrs n sizeOf i =
-          must-failed kind-is reason.Kind (rowAt rows i .key) (membersOf settings s rows attrs n i >>= laidMembers) t
+          let other : refusal why ≡ rowLay settings (lentRows (settings .endian) s rows attrs n) sizeOf i =
+          must-failed kind-is reason.Kind (rowAt rows i .key) (membersOf settings (lentRows (settings .endian) s rows attrs n) i >>= laidMembers) t
           (ap refusal (q ∙ ap (λ (r : Row). refusedAt (r .key) reason.Kind) at))
           in
           record {
-            answer-is = ap (λ (d : Said Lay). d >>= λ l. gives (layoutOf settings s rows attrs n sizeOf i l)) other;
+            answer-is = ap (λ (d : Said Lay). d >>= λ l. gives (layoutOf settings (lentRows (settings .endian) s rows attrs n) sizeOf i l)) other;
             room-is = λ l e. absurd (given-refused (sym (other ∙ e)));
           }
 
@@ -523,10 +523,10 @@ module _ (settings : Settings) (s rows attrs : List ℕ) (n i : ℕ) where
         unfolding ownSize
         own-size = own-is ∙ ap (λ (x : Run). wordOf s attrs x attribute.ByteSize) at′
 
-        row-laid : structureLaid settings s rows attrs n sizeOf bounded i ≡ rowLay settings s rows attrs n sizeOf i
+        row-laid : structureLaid settings s rows attrs n sizeOf bounded i ≡ rowLay settings (lentRows (settings .endian) s rows attrs n) sizeOf i
         unfolding structureLaid rowLay
         row-laid =
-            must-passed kind-is reason.Kind (rowAt rows i .key) (membersOf settings s rows attrs n i >>= laidMembers) t
+            must-passed kind-is reason.Kind (rowAt rows i .key) (membersOf settings (lentRows (settings .endian) s rows attrs n) i >>= laidMembers) t
             (ap (λ (x : Bool). structureLaid settings s rows attrs n sizeOf x i) (bounded-is ∙ ap hasByteSize own-size)
             ∙ fault-laid (structureFault settings s rows attrs n i) refl)
 
@@ -537,7 +537,7 @@ module _ (settings : Settings) (s rows attrs : List ℕ) (n i : ℕ) where
               record {
                 answer-is =
                     goes-on saidLaying (g .answer-is ∙ ap (layingOf 0) row-laid) p (λ y. gives (asLayout y)) h
-                    ∙ laying-layout (rowLay settings s rows attrs n sizeOf i);
+                    ∙ laying-layout (rowLay settings (lentRows (settings .endian) s rows attrs n) sizeOf i);
                 room-is = λ l e. g .room-is l (row-laid ∙ e);
               }
 
@@ -565,19 +565,19 @@ pub record LaidAs (d : Said Lay) (whole : Lay → Layout) (x : Layout) : Type 0 
 
 module _ (settings : Settings) (s rows attrs : List ℕ) (n : ℕ) (sizeOf : «Type» → Said ℕ) (i : ℕ) where
   abbrev wholeOf : Lay → Layout
-  wholeOf l = layoutOf settings s rows attrs n sizeOf i l
+  wholeOf l = layoutOf settings (lentRows (settings .endian) s rows attrs n) sizeOf i l
 
-  pub laid-as : {x : Layout} → layoutAt settings s rows attrs n sizeOf i ≡ gives x → LaidAs (rowLay settings s rows attrs n sizeOf i) wholeOf x
+  pub laid-as : {x : Layout} → layoutAt settings (lentRows (settings .endian) s rows attrs n) sizeOf i ≡ gives x → LaidAs (rowLay settings (lentRows (settings .endian) s rows attrs n) sizeOf i) wholeOf x
   unfolding layoutAt
   laid-as {x} p =
-      let all : (l : Lay) × (rowLay settings s rows attrs n sizeOf i ≡ gives l) × (gives (wholeOf l) ≡ gives x) =
-      step-gave (rowLay settings s rows attrs n sizeOf i) (λ l. gives (wholeOf l)) p
+      let all : (l : Lay) × (rowLay settings (lentRows (settings .endian) s rows attrs n) sizeOf i ≡ gives l) × (gives (wholeOf l) ≡ gives x) =
+      step-gave (rowLay settings (lentRows (settings .endian) s rows attrs n) sizeOf i) (λ l. gives (wholeOf l)) p
       in
       record { laid = all .0; are = all .1; same = given-is (all .2) }
 
   module _ (room : List ℕ) where
     abbrev given : Said Layout → List ℕ → Type 0
-    given z room′ = Given (layoutInto settings s rows attrs n sizeOf room i) z room′
+    given z room′ = Given (layoutInto settings (lentRows (settings .endian) s rows attrs n) sizeOf room i) z room′
 
     -- a layout and its members, if they fit
     abbrev pub intoRoom : Lay → Outcome (Said Layout) ℕ
@@ -590,9 +590,9 @@ module _ (settings : Settings) (s rows attrs : List ℕ) (n : ℕ) (sizeOf : «T
     refused-in (gives l) p = absurd (given-refused (sym p))
     refused-in (refuses other elsewhere more) p = record { answer-is = p; room-is = refl }
 
-    module _ {told : LayoutWhole} (is : saidLayoutWhole told ≡ layoutAt settings s rows attrs n sizeOf i) where
+    module _ {told : LayoutWhole} (is : saidLayoutWhole told ≡ layoutAt settings (lentRows (settings .endian) s rows attrs n) sizeOf i) where
       module _ {x : Layout} (p : told ≡ whole.Is x) where
-        these : LaidAs (rowLay settings s rows attrs n sizeOf i) wholeOf x
+        these : LaidAs (rowLay settings (lentRows (settings .endian) s rows attrs n) sizeOf i) wholeOf x
         unfolding saidLayoutWhole
         these = laid-as (sym (case-said saidLayoutWhole is p))
 
@@ -606,7 +606,7 @@ module _ (settings : Settings) (s rows attrs : List ℕ) (n : ℕ) (sizeOf : «T
         give-in g = goes-in (λ (d : Said Lay). d) refl (these .are) room intoRoom g
 
         pub give-laid : {r : LayoutWhole} {room′ : List ℕ} → x .members ≤ length room / laidWidth
-            → WholeLaid (layoutAt settings s rows attrs n sizeOf i) (rowLay settings s rows attrs n sizeOf i) r room room′ → given (saidLayoutRead (layout.Is x)) room′
+            → WholeLaid (layoutAt settings (lentRows (settings .endian) s rows attrs n) sizeOf i) (rowLay settings (lentRows (settings .endian) s rows attrs n) sizeOf i) r room room′ → given (saidLayoutRead (layout.Is x)) room′
         unfolding saidLayoutRead
         give-laid h g =
             let as-many : length (these .laid .members) ≡ x .members = many in
@@ -624,12 +624,12 @@ module _ (settings : Settings) (s rows attrs : List ℕ) (n : ℕ) (sizeOf : «T
 
       pub give-unlaid : {why : Refusal} → told ≡ whole.Refused why → given (saidLayoutRead (layout.Refused why)) room
       unfolding layoutInto layoutAt saidLayoutWhole saidLayoutRead
-      give-unlaid p = refused-in (rowLay settings s rows attrs n sizeOf i) (case-said saidLayoutWhole is p)
+      give-unlaid p = refused-in (rowLay settings (lentRows (settings .endian) s rows attrs n) sizeOf i) (case-said saidLayoutWhole is p)
 
 -- no sizes are known
 pub layout-there : (settings : Settings) (vendors sizes s rows attrs : List ℕ) (counts : Counts) (key : ℕ) (room : List ℕ) {told : Keyed}
     → saidKeyed told ≡ rowOf (table s settings vendors sizes rows attrs counts) key → {i : ℕ} {z : Said Layout} {room′ : List ℕ} → told ≡ keyed.Row i
-    → Given (layoutInto settings s rows attrs (counts .rows) (typeSizeFrom settings sizes s rows attrs (counts .rows) [] (depthLimit - 1)) room i) z room′
+    → Given (layoutInto settings (lentRows (settings .endian) s rows attrs (counts .rows)) (typeSizeFrom settings sizes s rows attrs (counts .rows) [] (depthLimit - 1)) room i) z room′
     → Given (layoutOfKey (table s settings vendors sizes rows attrs counts) key room) z room′
 unfolding layoutOfKey typeSizeFrom typeSize entrySizeFrom saidKeyed inRoom
 layout-there settings vendors sizes s rows attrs counts key room is p g = goes-in saidKeyed is p room _ g

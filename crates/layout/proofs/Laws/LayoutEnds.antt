@@ -9,7 +9,7 @@ use lib.ListN.{length, getD}
 use lib.Seq.{getD-take}
 use lib.Dec.{leb}
 use borrow.Author.Tests.{leb-true, leb-false}
-use Rattle.tables.specs.Table.{table}
+use Rattle.tables.specs.Table.{table, lentRows}
 use Rattle.lent.specs.Outcome.{Given}
 use Rattle.numbers.proofs.Laws.Tests.{cond-all}
 use Rattle.format.specs.Said.{Said, gives, refuses, must, _>>=_, _>>_}
@@ -79,15 +79,15 @@ module _ (rows : List ℕ) (sizeOf : «Type» → Said ℕ) where
 -- ---- a row
 
 module _ (settings : Settings) (s rows attrs : List ℕ) (n : ℕ) (sizeOf : «Type» → Said ℕ) (i : ℕ) (unbounded : hasByteSize (ownSize settings s rows attrs i) ≡ false) where
-  row-inside : Of (Inside 0) (rowLay settings s rows attrs n sizeOf i)
+  row-inside : Of (Inside 0) (rowLay settings (lentRows (settings .endian) s rows attrs n) sizeOf i)
   unfolding rowLay
   row-inside =
       of-test (Inside 0) (isStructure (shapeOf (rowAt rows i .kind))) reason.Kind (rowAt rows i .key) _
-      (λ t. of-next (Inside 0) (membersOf settings s rows attrs n i) _
+      (λ t. of-next (Inside 0) (membersOf settings (lentRows (settings .endian) s rows attrs n) i) _
       (λ ms. subst (λ (b : Bool). Of (Inside 0) (laidFrom rows sizeOf b 0 ms)) (sym unbounded) (from-inside rows sizeOf 0 ms)))
 
   -- every member ends at or before the largest end
-  pub members-inside : {xs : List Laid} {largest : ℕ} → rowLay settings s rows attrs n sizeOf i ≡ gives (lay xs largest) → EndInside largest xs
+  pub members-inside : {xs : List Laid} {largest : ℕ} → rowLay settings (lentRows (settings .endian) s rows attrs n) sizeOf i ≡ gives (lay xs largest) → EndInside largest xs
   members-inside p = subst (Of (Inside 0)) p row-inside .1
 
   -- which is the size
@@ -96,12 +96,12 @@ module _ (settings : Settings) (s rows attrs : List ℕ) (n : ℕ) (sizeOf : «T
   largest-size (word.Is size) largest t = absurd (true≢false t)
   largest-size word.Nothing largest t = refl
 
-  pub layout-inside : {x : Layout} → layoutAt settings s rows attrs n sizeOf i ≡ gives x
-      → {xs : List Laid} {largest : ℕ} → rowLay settings s rows attrs n sizeOf i ≡ gives (lay xs largest) → EndInside (x .size) xs
+  pub layout-inside : {x : Layout} → layoutAt settings (lentRows (settings .endian) s rows attrs n) sizeOf i ≡ gives x
+      → {xs : List Laid} {largest : ℕ} → rowLay settings (lentRows (settings .endian) s rows attrs n) sizeOf i ≡ gives (lay xs largest) → EndInside (x .size) xs
   unfolding layoutOf
   layout-inside {x} p {xs} {largest} q =
       let own : Word = ownSize settings s rows attrs i in
-      let these : LaidAs (rowLay settings s rows attrs n sizeOf i) (layoutOf settings s rows attrs n sizeOf i) x = laid-as settings s rows attrs n sizeOf i p in
+      let these : LaidAs (rowLay settings (lentRows (settings .endian) s rows attrs n) sizeOf i) (layoutOf settings (lentRows (settings .endian) s rows attrs n) sizeOf i) x = laid-as settings s rows attrs n sizeOf i p in
       let size-is : largest ≡ x .size =
       sym (largest-size own largest unbounded)
       ∙ ap (λ (l : Lay). sizeOrLargest (l .largest) own) (given-is (sym q ∙ these .are))

@@ -8,7 +8,7 @@ use mathlib.Core.List.{List, [], _∷_}
 use lib.ListN.{length}
 use lib.Seq.{sets}
 use borrow.Author.Tests.{leb-true}
-use Rattle.tables.specs.Table.{Table, table}
+use Rattle.tables.specs.Table.{Table, table, lentRows}
 use Rattle.lent.proofs.Laws.Filled.{sets-filled}
 use Rattle.lent.specs.Outcome.{Outcome, Given}
 use Rattle.format.specs.Said.{Said, gives, _>>=_}
@@ -31,16 +31,16 @@ module _ (settings : Settings) (vendors sizes s rows attrs : List ℕ) (counts :
   t = table s settings vendors sizes rows attrs counts
 
   abbrev laidAt : ℕ → Said Lay
-  laidAt i = rowLay settings s rows attrs (counts .rows) (innerSize t) i
+  laidAt i = rowLay settings (lentRows (settings .endian) s rows attrs (counts .rows)) (innerSize t) i
 
   abbrev whole : ℕ → Said Layout
-  whole i = layoutAt settings s rows attrs (counts .rows) (innerSize t) i
+  whole i = layoutAt settings (lentRows (settings .endian) s rows attrs (counts .rows)) (innerSize t) i
 
   abbrev wholeOf : ℕ → Lay → Layout
-  wholeOf i l = layoutOf settings s rows attrs (counts .rows) (innerSize t) i l
+  wholeOf i l = layoutOf settings (lentRows (settings .endian) s rows attrs (counts .rows)) (innerSize t) i l
 
   abbrev into : ℕ → Outcome (Said Layout) ℕ
-  into i = layoutInto settings s rows attrs (counts .rows) (innerSize t) room i
+  into i = layoutInto settings (lentRows (settings .endian) s rows attrs (counts .rows)) (innerSize t) room i
 
   abbrev filling : ℕ → Lay → Outcome (Said Layout) ℕ
   filling i l = intoRoom settings s rows attrs (counts .rows) (innerSize t) i room l

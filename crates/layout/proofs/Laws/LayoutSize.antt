@@ -6,7 +6,7 @@ use mathlib.Core.Path.{_≡_, refl, sym, ap, _∙_}
 use mathlib.Core.Bool.{Bool, true, false, true≢false}
 use mathlib.Core.List.{List, [], _∷_}
 use lib.ListN.{length}
-use Rattle.tables.specs.Table.{Table, table}
+use Rattle.tables.specs.Table.{Table, table, lentRows}
 use Rattle.lent.specs.Outcome.{Outcome}
 use Rattle.format.specs.Limits.{depthLimit}
 use Rattle.format.specs.Said.{Said, gives, refuses, _>>=_, _>>_, inRoom, fillsRoom}
@@ -112,7 +112,7 @@ module _ (settings : Settings) (s rows attrs : List ℕ) (n : ℕ) (sizeOf : «T
   own = ownSize settings s rows attrs i
 
   abbrev all : Said (List Placed)
-  all = membersOf settings s rows attrs n i
+  all = membersOf settings (lentRows (settings .endian) s rows attrs n) i
 
   abbrev laidAll : List Placed → Said Lay
   laidAll ms = laidFrom rows sizeOf (hasByteSize own) 0 ms
@@ -120,12 +120,12 @@ module _ (settings : Settings) (s rows attrs : List ℕ) (n : ℕ) (sizeOf : «T
   abbrev sizeAll : List Placed → Said ℕ
   sizeAll ms = sizeOrEnds rows sizeOf ms own
 
-  size-is : isStructure (shapeOf (rowAt rows i .kind)) ≡ true → rowSize settings s rows attrs n sizeOf i ≡ (all >>= sizeAll)
+  size-is : isStructure (shapeOf (rowAt rows i .kind)) ≡ true → rowSize settings (lentRows (settings .endian) s rows attrs n) sizeOf i ≡ (all >>= sizeAll)
   unfolding rowSize shapeSize ownSize
-  size-is t = ap (shapeSize settings s rows attrs n sizeOf i) (shape-is (shapeOf (rowAt rows i .kind)) t)
+  size-is t = ap (shapeSize settings (lentRows (settings .endian) s rows attrs n) sizeOf i) (shape-is (shapeOf (rowAt rows i .kind)) t)
 
   -- the size of what is laid out is the row's size
-  pub row-laid-size : {l : Lay} → rowLay settings s rows attrs n sizeOf i ≡ gives l → rowSize settings s rows attrs n sizeOf i ≡ gives (sizeOrLargest (l .largest) own)
+  pub row-laid-size : {l : Lay} → rowLay settings (lentRows (settings .endian) s rows attrs n) sizeOf i ≡ gives l → rowSize settings (lentRows (settings .endian) s rows attrs n) sizeOf i ≡ gives (sizeOrLargest (l .largest) own)
   unfolding rowLay _>>=_
   row-laid-size {l} p =
       let kind : (isStructure (shapeOf (rowAt rows i .kind)) ≡ true) × ((all >>= laidAll) ≡ gives l) =
@@ -135,7 +135,7 @@ module _ (settings : Settings) (s rows attrs : List ℕ) (n : ℕ) (sizeOf : «T
       size-is (kind .0) ∙ ap (λ (d : Said (List Placed)). d >>= sizeAll) (each .1) ∙ laid-sized rows sizeOf own (each .0) (each .2)
 
   module _ (structure : isStructure (shapeOf (rowAt rows i .kind)) ≡ true) where
-    lay-is : rowLay settings s rows attrs n sizeOf i ≡ (all >>= laidAll)
+    lay-is : rowLay settings (lentRows (settings .endian) s rows attrs n) sizeOf i ≡ (all >>= laidAll)
     unfolding rowLay
     lay-is = sym (must-passed {b = true} (sym structure) reason.Kind (rowAt rows i .key) (all >>= laidAll) refl refl)
 
@@ -146,7 +146,7 @@ module _ (settings : Settings) (s rows attrs : List ℕ) (n : ℕ) (sizeOf : «T
       members-sizeless (refuses other elsewhere more) p = retold p
 
       -- no size, no layout
-      pub row-size-refused : rowSize settings s rows attrs n sizeOf i ≡ refuses number place counts → rowLay settings s rows attrs n sizeOf i ≡ refuses number place counts
+      pub row-size-refused : rowSize settings (lentRows (settings .endian) s rows attrs n) sizeOf i ≡ refuses number place counts → rowLay settings (lentRows (settings .endian) s rows attrs n) sizeOf i ≡ refuses number place counts
       row-size-refused p = lay-is ∙ members-sizeless all (sym (size-is structure) ∙ p)
 
       members-unlaid : hasByteSize own ≡ false → (d : Said (List Placed)) → (d >>= laidAll) ≡ refuses number place counts → (d >>= sizeAll) ≡ refuses number place counts
@@ -155,8 +155,8 @@ module _ (settings : Settings) (s rows attrs : List ℕ) (n : ℕ) (sizeOf : «T
       members-unlaid t (refuses other elsewhere more) p = retold p
 
       -- without ByteSize: no layout, no size
-      pub row-layout-refused : hasByteSize (ownSize settings s rows attrs i) ≡ false → rowLay settings s rows attrs n sizeOf i ≡ refuses number place counts
-          → rowSize settings s rows attrs n sizeOf i ≡ refuses number place counts
+      pub row-layout-refused : hasByteSize (ownSize settings s rows attrs i) ≡ false → rowLay settings (lentRows (settings .endian) s rows attrs n) sizeOf i ≡ refuses number place counts
+          → rowSize settings (lentRows (settings .endian) s rows attrs n) sizeOf i ≡ refuses number place counts
       row-layout-refused t p = size-is structure ∙ members-unlaid t all (sym lay-is ∙ p)
 
 -- ---- a key
@@ -192,13 +192,13 @@ module _ (settings : Settings) (vendors sizes s rows attrs : List ℕ) (counts :
   t = table s settings vendors sizes rows attrs counts
 
   abbrev sizeAt : ℕ → Said ℕ
-  sizeAt i = rowSize settings s rows attrs (counts .rows) (innerSize t) i
+  sizeAt i = rowSize settings (lentRows (settings .endian) s rows attrs (counts .rows)) (innerSize t) i
 
   abbrev laidAt : ℕ → Said Lay
-  laidAt i = rowLay settings s rows attrs (counts .rows) (innerSize t) i
+  laidAt i = rowLay settings (lentRows (settings .endian) s rows attrs (counts .rows)) (innerSize t) i
 
   abbrev into : ℕ → Outcome (Said Layout) ℕ
-  into i = layoutInto settings s rows attrs (counts .rows) (innerSize t) room i
+  into i = layoutInto settings (lentRows (settings .endian) s rows attrs (counts .rows)) (innerSize t) room i
 
   abbrev filling : ℕ → Lay → Outcome (Said Layout) ℕ
   filling i l = intoRoom settings s rows attrs (counts .rows) (innerSize t) i room l

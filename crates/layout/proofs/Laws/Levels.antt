@@ -15,6 +15,7 @@ use Rattle.format.specs.declared.settings.Settings.{Settings}
 use Rattle.format.specs.declared.refusal.Refusal.{Refusal}
 use Rattle.format.specs.declared.refusal.Reason.the-variants as reason
 use Rattle.blocks.specs.declared.types.Type.{«Type»}
+use Rattle.tables.specs.Table.{lentRows}
 use Rattle.tables.specs.Row.{rowAt}
 use Rattle.tables.specs.declared.row.Row.{Row}
 use Rattle.tables.specs.Find.{rowOfKey}
@@ -99,7 +100,7 @@ module _ (known : List ℕ) (i : ℕ) {size : Said ℕ} {b : Bool} (at : size �
   unfolding nextLevel
   next-kept t = at ∙ sym (rw (test-is t))
 
-  pub next-taken : b ≡ false → {r : Said ℕ} → r ≡ rowSize settings s rows attrs n (typeSizeFrom settings sizes s rows attrs n known 0) i → r ≡ nextLevel settings sizes s rows attrs n known i
+  pub next-taken : b ≡ false → {r : Said ℕ} → r ≡ rowSize settings (lentRows (settings .endian) s rows attrs n) (typeSizeFrom settings sizes s rows attrs n known 0) i → r ≡ nextLevel settings sizes s rows attrs n known i
   unfolding nextLevel
   next-taken t p = p ∙ sym (rw (test-is t))
 
@@ -109,7 +110,7 @@ module _ (known : List ℕ) (i : ℕ) {size : Said ℕ} {b : Bool} (at : size �
   unfolding saidSized rowSize shapeSize
   next-other t p is o q =
       next-taken t
-      (by-told (shapeSize settings s rows attrs n (typeSizeFrom settings sizes s rows attrs n known 0) i) (is ∙ ap (λ (r : Row). shapeOf (r .kind)) p) o
+      (by-told (shapeSize settings (lentRows (settings .endian) s rows attrs n) (typeSizeFrom settings sizes s rows attrs n known 0) i) (is ∙ ap (λ (r : Row). shapeOf (r .kind)) p) o
       (ap refusal (q ∙ ap (λ (r : Row). refusedAt (r .key) reason.Kind) p)))
 
 -- ---- the sizes of a level are those that the next asks for
@@ -121,18 +122,18 @@ module _ (settings : Settings) (sizes s rows attrs : List ℕ) (n : ℕ) (ready 
   -- what holds of each row's size holds of every key's
   key-sizes : {entry : ℕ → Said ℕ} (levels : ℕ) → ((i : ℕ) → i < n → entry (rowAt rows i .key) ≡ sizeLeft settings sizes s rows attrs n levels i)
       → ((key : ℕ) → rowOfKey rows n key ≡ found.Nothing → entry key ≡ refuse reason.Entry key)
-      → entry ≡ entrySize settings sizes s rows attrs n levels
+      → entry ≡ entrySize settings sizes (lentRows (settings .endian) s rows attrs n) levels
   unfolding sizeLeft
   key-sizes {entry} levels each none = fun-ext (λ key. by-found key (rowOfKey rows n key) refl)
     where
-      by-found : (key : ℕ) (f : Found) → rowOfKey rows n key ≡ f → entry key ≡ entrySize settings sizes s rows attrs n levels key
+      by-found : (key : ℕ) (f : Found) → rowOfKey rows n key ≡ f → entry key ≡ entrySize settings sizes (lentRows (settings .endian) s rows attrs n) levels key
       by-found key (found.At i) p =
           let here : (i < n) × (rowAt rows i .key ≡ key) = row-found rows n key p in
-          subst (λ (k : ℕ). entry k ≡ entrySize settings sizes s rows attrs n levels k) (here .1) (each i (here .0))
+          subst (λ (k : ℕ). entry k ≡ entrySize settings sizes (lentRows (settings .endian) s rows attrs n) levels k) (here .1) (each i (here .0))
       by-found key found.Nothing p = none key p ∙ sym (entry-none settings sizes s rows attrs n levels key p)
 
   module _ {known : List ℕ} (levels : ℕ) (w : KnownUpTo (sizeLeft settings sizes s rows attrs n levels) n n known) (some : 0 < length known) where
-    known-entries : (left : ℕ) → entrySizeFrom settings sizes s rows attrs n known left ≡ entrySize settings sizes s rows attrs n levels
+    known-entries : (left : ℕ) → entrySizeFrom settings sizes s rows attrs n known left ≡ entrySize settings sizes (lentRows (settings .endian) s rows attrs n) levels
     unfolding entrySizeFrom knownFound foundRow _>>=_
     known-entries left =
         let test : eqb (length known) 0 ≡ false = ne-eqb (length known) 0 (λ z. omega (arith, z)) in
@@ -145,7 +146,7 @@ module _ (settings : Settings) (sizes s rows attrs : List ℕ) (n : ℕ) (ready 
         known-none key p = ap (knownFound known key) p
 
     -- with known sizes a type has the size that it has with the levels left
-    pub known-types : (left : ℕ) → typeSizeFrom settings sizes s rows attrs n known left ≡ typeSize settings sizes s rows attrs n levels
+    pub known-types : (left : ℕ) → typeSizeFrom settings sizes s rows attrs n known left ≡ typeSize settings sizes (lentRows (settings .endian) s rows attrs n) levels
     unfolding typeSizeFrom typeSize
     known-types left = ap (typeSizeBy sizes) (known-entries left)
 
@@ -163,37 +164,37 @@ module _ (settings : Settings) (sizes s rows attrs : List ℕ) (n : ℕ) (ready 
       record {
         fits = g .fits;
         each = λ i l. g .each i l
-            ∙ cond-all (λ (x : Said ℕ). x ≡ entrySize settings sizes s rows attrs n (suc levels) (rowAt rows i .key)) (settled (knownAt known i))
+            ∙ cond-all (λ (x : Said ℕ). x ≡ entrySize settings sizes (lentRows (settings .endian) s rows attrs n) (suc levels) (rowAt rows i .key)) (settled (knownAt known i))
             (λ t. w .each i l ∙ sym (size-stays settings sizes s rows attrs n levels (rowAt rows i .key) (subst Settled (w .each i l) (settled-is (knownAt known i) t))))
-            (λ t. ap (λ (f : «Type» → Said ℕ). rowSize settings s rows attrs n f i) (known-types levels w (omega (arith, w .fits, l)) 0)
+            (λ t. ap (λ (f : «Type» → Said ℕ). rowSize settings (lentRows (settings .endian) s rows attrs n) f i) (known-types levels w (omega (arith, w .fits, l)) 0)
             ∙ sym (entry-more settings sizes s rows attrs n levels (rowAt rows i .key) (own-key i l)));
       }
 
   -- ---- a level that changes nothing
 
   abbrev oneMore : (ℕ → Said ℕ) → ℕ → Said ℕ
-  oneMore entry key = foundRow key (rowOfKey rows n key) >>= rowSize settings s rows attrs n (typeSizeBy sizes entry)
+  oneMore entry key = foundRow key (rowOfKey rows n key) >>= rowSize settings (lentRows (settings .endian) s rows attrs n) (typeSizeBy sizes entry)
 
-  same-above : (levels : ℕ) → entrySize settings sizes s rows attrs n levels ≡ entrySize settings sizes s rows attrs n (suc levels)
-      → (k : ℕ) → entrySize settings sizes s rows attrs n (k + levels) ≡ entrySize settings sizes s rows attrs n levels
+  same-above : (levels : ℕ) → entrySize settings sizes (lentRows (settings .endian) s rows attrs n) levels ≡ entrySize settings sizes (lentRows (settings .endian) s rows attrs n) (suc levels)
+      → (k : ℕ) → entrySize settings sizes (lentRows (settings .endian) s rows attrs n) (k + levels) ≡ entrySize settings sizes (lentRows (settings .endian) s rows attrs n) levels
   unfolding entrySize
-  same-above levels p zero = ap (entrySize settings sizes s rows attrs n) (zero-add levels)
+  same-above levels p zero = ap (entrySize settings sizes (lentRows (settings .endian) s rows attrs n)) (zero-add levels)
   same-above levels p (suc k) =
       let up : suc k + levels ≡ suc (k + levels) = omega arith in
-      ap (entrySize settings sizes s rows attrs n) up ∙ ap oneMore (same-above levels p k) ∙ sym p
+      ap (entrySize settings sizes (lentRows (settings .endian) s rows attrs n)) up ∙ ap oneMore (same-above levels p k) ∙ sym p
 
-  fixed-above : (levels most : ℕ) → entrySize settings sizes s rows attrs n levels ≡ entrySize settings sizes s rows attrs n (suc levels) → levels ≤ most
-      → entrySize settings sizes s rows attrs n levels ≡ entrySize settings sizes s rows attrs n most
+  fixed-above : (levels most : ℕ) → entrySize settings sizes (lentRows (settings .endian) s rows attrs n) levels ≡ entrySize settings sizes (lentRows (settings .endian) s rows attrs n) (suc levels) → levels ≤ most
+      → entrySize settings sizes (lentRows (settings .endian) s rows attrs n) levels ≡ entrySize settings sizes (lentRows (settings .endian) s rows attrs n) most
   fixed-above levels most p h =
       let up : (most - levels) + levels ≡ most = omega arith in
-      sym (ap (entrySize settings sizes s rows attrs n) (sym up) ∙ same-above levels p (most - levels))
+      sym (ap (entrySize settings sizes (lentRows (settings .endian) s rows attrs n)) (sym up) ∙ same-above levels p (most - levels))
 
   -- all are settled: so it is with every level above
   pub level-final : {known : List ℕ} (levels most : ℕ) → KnownUpTo (sizeLeft settings sizes s rows attrs n levels) n n known
       → ((i : ℕ) → i < n → settled (knownAt known i) ≡ true) → levels ≤ most → KnownUpTo (sizeLeft settings sizes s rows attrs n most) n n known
   unfolding sizeLeft
   level-final {known} levels most w all h =
-      let fixed : entrySize settings sizes s rows attrs n levels ≡ entrySize settings sizes s rows attrs n (suc levels) =
+      let fixed : entrySize settings sizes (lentRows (settings .endian) s rows attrs n) levels ≡ entrySize settings sizes (lentRows (settings .endian) s rows attrs n) (suc levels) =
       key-sizes (suc levels)
       (λ i l. sym (size-stays settings sizes s rows attrs n levels (rowAt rows i .key) (subst Settled (w .each i l) (settled-is (knownAt known i) (all i l)))))
       (λ key p. entry-none settings sizes s rows attrs n levels key p) in
@@ -213,7 +214,7 @@ module _ (settings : Settings) (sizes s rows attrs : List ℕ) (n : ℕ) (ready 
         → KnownUpTo (sizeLeft settings sizes s rows attrs n most) n n known′
     unfolding sizeLeft
     level-settled most v t h =
-        let fixed : entrySize settings sizes s rows attrs n levels ≡ entrySize settings sizes s rows attrs n (suc levels) =
+        let fixed : entrySize settings sizes (lentRows (settings .endian) s rows attrs n) levels ≡ entrySize settings sizes (lentRows (settings .endian) s rows attrs n) (suc levels) =
         key-sizes (suc levels) (λ i l. sym (w .each i l) ∙ ap (λ (u : List ℕ). knownAt u i) (sym (g .kept t)) ∙ over-same i l ∙ v .each i l)
         (λ key p. entry-none settings sizes s rows attrs n levels key p) in
         record {

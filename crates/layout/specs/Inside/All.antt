@@ -9,6 +9,7 @@ use Rattle.format.specs.Limits.{entryLimit}
 use Rattle.format.specs.Said.{Said, gives, _>>=_}
 use Rattle.format.specs.declared.settings.Settings.{Settings}
 use Rattle.blocks.specs.declared.types.Type.{«Type»}
+use Rattle.tables.specs.Table.{lentRows}
 use Rattle.tables.specs.Row.{rowAt}
 use Rattle.records.specs.Inside.Enumeration.{AskedShort}
 use Rattle.records.specs.MemberWords.{namePlace, nameLength}
@@ -24,7 +25,7 @@ use Rattle.layout.specs.declared.all.LayoutCounts.{LayoutCounts}
 
 -- row i, if it is a structure
 unfoldable pub rowStructures : Settings → List ℕ → List ℕ → List ℕ → ℕ → («Type» → Said ℕ) → ℕ → List Structure
-rowStructures settings s rows attrs n sizeOf i = alsoIf (isStructure (shapeOf (rowAt rows i .kind))) (structureAt settings s rows attrs n sizeOf i) []
+rowStructures settings s rows attrs n sizeOf i = alsoIf (isStructure (shapeOf (rowAt rows i .kind))) (structureAt settings (lentRows (settings .endian) s rows attrs n) sizeOf i) []
 
 unfoldable pub eightWords : ℕ → ℕ → ℕ → ℕ → ℕ → ℕ → Name → List ℕ
 eightWords row number size place first many name = row ∷ number ∷ size ∷ place ∷ first ∷ many ∷ namePlace name ∷ nameLength name ∷ []
@@ -58,17 +59,17 @@ module _ (settings : Settings) (s rows attrs : List ℕ) (n : ℕ) (sizeOf : «T
   -- the structures among the first k of n rows have told
   pub record WholesTold (k : ℕ) (told : List ℕ) : Type 0 where
     pub fits : n * knownWidth ≤ length told
-    pub each : (i : ℕ) → i < k → isStructure (shapeOf (rowAt rows i .kind)) ≡ true → knownAt told i ≡ wholeTold (layoutAt settings s rows attrs n sizeOf i)
+    pub each : (i : ℕ) → i < k → isStructure (shapeOf (rowAt rows i .kind)) ≡ true → knownAt told i ≡ wholeTold (layoutAt settings (lentRows (settings .endian) s rows attrs n) sizeOf i)
 
   -- row i is counted and has told, what others told is as before
   pub record RowCounted (i : ℕ) (counts counts′ : LayoutCounts) (told told′ : List ℕ) : Type 0 where
     pub counts-are : counts′ ≡ countedWith counts (rowStructures settings s rows attrs n sizeOf i)
-    pub told-is : isStructure (shapeOf (rowAt rows i .kind)) ≡ true → knownAt told′ i ≡ wholeTold (layoutAt settings s rows attrs n sizeOf i)
+    pub told-is : isStructure (shapeOf (rowAt rows i .kind)) ≡ true → knownAt told′ i ≡ wholeTold (layoutAt settings (lentRows (settings .endian) s rows attrs n) sizeOf i)
     pub others : (j : ℕ) → (j ≡ i → ⊥) → knownAt told′ j ≡ knownAt told j
     pub same-long : length told′ ≡ length told
 
   pub record AllCounted (counts : LayoutCounts) (told : List ℕ) : Type 0 where
-    pub counts-are : counts ≡ countsOf (structuresFrom settings s rows attrs n sizeOf 0 n)
+    pub counts-are : counts ≡ countsOf (structuresFrom settings (lentRows (settings .endian) s rows attrs n) sizeOf 0 n)
     pub all-told : WholesTold n told
 
 -- ---- giving

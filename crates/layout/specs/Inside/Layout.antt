@@ -12,6 +12,7 @@ use Rattle.format.specs.TagKind as tag
 use Rattle.format.specs.Said.{Said, gives, refusal, _>>=_, _>>_}
 use Rattle.format.specs.declared.settings.Settings.{Settings}
 use Rattle.blocks.specs.declared.types.Type.{«Type»}
+use Rattle.tables.specs.Table.{lentRows}
 use Rattle.tables.specs.Row.{rowAt}
 use Rattle.links.specs.Inside.Kids.{kidsOf}
 use Rattle.records.specs.Inside.Enumeration.{AskedShort}
@@ -78,7 +79,7 @@ module _ (settings : Settings) (s rows attrs : List ℕ) (n : ℕ) (sizeOf : «T
   -- child c, if it is a Member
   unfoldable pub childLaid : ℕ → ℕ → Said Lay
   childLaid largest c =
-      cond (eqb (rowAt rows c .kind) tag.Member) (readLaid rows sizeOf sized largest c (memberAt settings s rows attrs n c)) (gives (lay [] largest))
+      cond (eqb (rowAt rows c .kind) tag.Member) (readLaid rows sizeOf sized largest c (memberAt settings (lentRows (settings .endian) s rows attrs n) c)) (gives (lay [] largest))
 
   -- children one after the other
   unfoldable pub childrenLaid : ℕ → List ℕ → Said Lay

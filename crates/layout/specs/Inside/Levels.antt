@@ -8,6 +8,7 @@ use lib.ListN.{length, getD}
 use Rattle.format.specs.Said.{Said, gives, refuses, refuse}
 use Rattle.format.specs.declared.settings.Settings.{Settings}
 use Rattle.format.specs.declared.refusal.Reason.the-variants as reason
+use Rattle.tables.specs.Table.{lentRows}
 use Rattle.tables.specs.Row.{rowAt}
 use Rattle.sizes.specs.Size.{rowSize, entrySize}
 use Rattle.sizes.specs.Inside.Size.{TableReady, typeSizeFrom}
@@ -29,11 +30,11 @@ settled (refuses number place counts) = not (eqb number 10)
 module _ (settings : Settings) (sizes s rows attrs : List ℕ) (n : ℕ) where
   -- row i: its known size if that is settled; else its size where the entries that it names have known sizes
   unfoldable pub nextLevel : List ℕ → ℕ → Said ℕ
-  nextLevel known i = cond (settled (knownAt known i)) (knownAt known i) (rowSize settings s rows attrs n (typeSizeFrom settings sizes s rows attrs n known 0) i)
+  nextLevel known i = cond (settled (knownAt known i)) (knownAt known i) (rowSize settings (lentRows (settings .endian) s rows attrs n) (typeSizeFrom settings sizes s rows attrs n known 0) i)
 
   -- row i with so many levels left
   unfoldable pub sizeLeft : ℕ → ℕ → Said ℕ
-  sizeLeft levels i = entrySize settings sizes s rows attrs n levels (rowAt rows i .key)
+  sizeLeft levels i = entrySize settings sizes (lentRows (settings .endian) s rows attrs n) levels (rowAt rows i .key)
 
 -- the first k of n rows are known
 pub record KnownUpTo (sizeAt : ℕ → Said ℕ) (n k : ℕ) (known : List ℕ) : Type 0 where

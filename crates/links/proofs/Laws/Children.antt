@@ -8,7 +8,7 @@ use mathlib.Core.List.{List, [], _∷_}
 use lib.ListN.{length, set, length-set}
 use lib.Dec.{leb, eqb}
 use borrow.Author.Tests.{le-leb, lt-leb, eq-eqb, ne-eqb}
-use Rattle.tables.specs.Table.{Table, table}
+use Rattle.tables.specs.Table.{Table, table, lentRows}
 use Rattle.tables.specs.Keyed.{rowOf}
 use Rattle.tables.specs.Inside.Keyed.{saidKeyed, refusedAt}
 use Rattle.tables.specs.declared.keyed.Keyed.{Keyed}
@@ -31,7 +31,7 @@ use Rattle.format.specs.declared.settings.Settings.{Settings}
 use Rattle.format.specs.declared.refusal.Reason.the-variants as reason
 use Rattle.numbers.specs.declared.Endian.{Endian}
 use Rattle.links.specs.Links.{nullRow, nonNull, nextRow, siblingRow, childWalk}
-use Rattle.links.specs.Inside.Links.{Rows}
+use Rattle.links.specs.Inside.Links.{RowsHold}
 use Rattle.links.specs.Children.{saidChildRows, childrenMet, childRowsOf, childrenOfKey}
 use Rattle.links.specs.declared.children.ChildRows.the-variants.{Listed, Refused, Room}
 use Rattle.links.specs.Inside.Children.{gatheredInto, Gathers, TakesChild, Small, listedInto}
@@ -159,7 +159,7 @@ module _ {rows : List ℕ} {n : ℕ} {next : ℕ → ℕ} {end from : ℕ} {room
 
 -- ---- what is required along the way
 
-pub small-turn : (rows : List ℕ) {n : ℕ} {next : ℕ → ℕ} {end from : ℕ} {room₀ room : List ℕ} {c k turns : ℕ} → Rows rows n
+pub small-turn : (rows : List ℕ) {n : ℕ} {next : ℕ → ℕ} {end from : ℕ} {room₀ room : List ℕ} {c k turns : ℕ} → RowsHold rows n
     → Walking rows n next end from room₀ room c k turns → c < n → turns < n → Small c k
 small-turn rows {n} {c = c} {k = k} {turns = turns} table w l t =
     let few : n ≤ entryLimit = table .few in
@@ -182,13 +182,13 @@ takes-row rows c k room p h q =
 -- ---- the child walk of a row, and the calls around it
 
 module _ (e : Endian) (s rows attrs : List ℕ) (n i : ℕ) where
-  pub gathers-children : (room : List ℕ) {end from : ℕ} {room′ : List ℕ} {r : Kids} → end ≡ siblingRow e s rows attrs n i → from ≡ nextRow rows n i
-      → Gathers (gatheredInto rows 0 room (walkFrom n (λ c. siblingRow e s rows attrs n c) end n from)) r room′
-      → Gathers (gatheredInto rows 0 room (childWalk e s rows attrs n i)) r room′
+  pub gathers-children : (room : List ℕ) {end from : ℕ} {room′ : List ℕ} {r : Kids} → end ≡ siblingRow (lentRows e s rows attrs n) i → from ≡ nextRow rows n i
+      → Gathers (gatheredInto rows 0 room (walkFrom n (λ c. siblingRow (lentRows e s rows attrs n) c) end n from)) r room′
+      → Gathers (gatheredInto rows 0 room (childWalk (lentRows e s rows attrs n) i)) r room′
   unfolding childWalk
   gathers-children room {end} {from} {room′} {r} p q g =
-      subst (λ (x : ℕ). Gathers (gatheredInto rows 0 room (walkFrom n (λ c. siblingRow e s rows attrs n c) x n (nextRow rows n i))) r room′) p
-      (subst (λ (x : ℕ). Gathers (gatheredInto rows 0 room (walkFrom n (λ c. siblingRow e s rows attrs n c) end n x)) r room′) q g)
+      subst (λ (x : ℕ). Gathers (gatheredInto rows 0 room (walkFrom n (λ c. siblingRow (lentRows e s rows attrs n) c) x n (nextRow rows n i))) r room′) p
+      (subst (λ (x : ℕ). Gathers (gatheredInto rows 0 room (walkFrom n (λ c. siblingRow (lentRows e s rows attrs n) c) end n x)) r room′) q g)
 
 abbrev pub isCount : ℕ → Kids → Type 0
 isCount k (Count m) = k ≡ m
@@ -233,14 +233,14 @@ module _ (rows : List ℕ) (key : ℕ) (room : List ℕ) where
     given-never q = never-by w told p q
 
 pub tested-rows : {settings : Settings} {vendors sizes s rows attrs : List ℕ} {counts : Counts} {told : Tested}
-    → Tells (table s settings vendors sizes rows attrs counts) told → told ≡ Passed → Rows rows (counts .rows)
+    → Tells (table s settings vendors sizes rows attrs counts) told → told ≡ Passed → RowsHold rows (counts .rows)
 tested-rows {s = s} {rows = rows} {attrs = attrs} {counts = counts} is p =
     let c : TableHolds s _ rows attrs counts = passed-held is p in record { rising = held-rising c; few = held-rows-few c }
 
 -- from what the row of a key comes to
 module _ (t : Table) (key : ℕ) (room : List ℕ) {told x : Keyed} (is : saidKeyed told ≡ rowOf t key) (p : told ≡ x) where
   abbrev met-by : ℕ → Said (List ℕ)
-  met-by i = childrenMet (t .rows) key (childWalk (t .settings .endian) (t .section) (t .rows) (t .attrs) (t .counts .rows) i)
+  met-by i = childrenMet (t .rows) key (childWalk (lentRows (t .settings .endian) (t .section) (t .rows) (t .attrs) (t .counts .rows)) i)
 
   abbrev into : List ℕ → Outcome (Said ℕ) ℕ
   into cs = fillsRoom (leb (length cs) (length room)) (length cs) (length cs ∷ []) cs room

@@ -11,11 +11,12 @@ use lib.ListN.{length}
 use borrow.Author.Tests.{eq-eqb, ne-eqb}
 use Rattle.numbers.proofs.Laws.Tests.{cond-all}
 use Rattle.numbers.specs.declared.Endian.{Endian}
+use Rattle.tables.specs.Table.{lentRows}
 use Rattle.tables.specs.Row.{rowAt}
 use Rattle.tables.specs.declared.row.Row.{Row}
 use Rattle.links.specs.Walk.{Walk, ends, endless, meets, stops, walkFrom}
 use Rattle.links.specs.Links.{nextRow, siblingRow, childWalk, nullRow, nonNull}
-use Rattle.links.specs.Inside.Links.{AtRow, Rows}
+use Rattle.links.specs.Inside.Links.{AtRow, RowsHold}
 use Rattle.links.specs.Inside.Children.{gatheredInto}
 use Rattle.links.proofs.Laws.Children.{at-end, past-last, goes, stopped, unended, met, isEndless, isCount}
 use Rattle.links.proofs.Laws.Endless.{on-below}
@@ -66,22 +67,22 @@ module _ (n : ℕ) (next : ℕ → ℕ) (end : ℕ) where
 
 module _ (e : Endian) (s rows attrs : List ℕ) (n end : ℕ) where
   abbrev Stops : ℕ → Bool
-  Stops c = stops n (λ d. siblingRow e s rows attrs n d) end c
+  Stops c = stops n (λ d. siblingRow (lentRows e s rows attrs n) d) end c
 
   abbrev rest : ℕ → ℕ
   rest c = length (rowsMet (walkOn e s rows attrs n end c))
 
   abbrev after : ℕ → ℕ
-  after c = siblingRow e s rows attrs n c
+  after c = siblingRow (lentRows e s rows attrs n) c
 
   stopped-kids : (c : ℕ) → Stops c ≡ true → kidsFrom e s rows attrs n end c ≡ []
   unfolding kidsFrom walkOn rowsMet nonNull
-  stopped-kids c h = ap (λ (w : Walk). nonNull rows (rowsMet w)) (stopped n (λ d. siblingRow e s rows attrs n d) end c h n)
+  stopped-kids c h = ap (λ (w : Walk). nonNull rows (rowsMet w)) (stopped n (λ d. siblingRow (lentRows e s rows attrs n) d) end c h n)
 
   module _ {c : ℕ} (w : Ends e s rows attrs n end c) (h : Stops c ≡ false) where
     on-turn : walkOn e s rows attrs n end c ≡ meets c (walkOn e s rows attrs n end (after c))
     unfolding walkOn
-    on-turn = turn n (λ d. siblingRow e s rows attrs n d) end n c h (w .ending)
+    on-turn = turn n (λ d. siblingRow (lentRows e s rows attrs n) d) end n c h (w .ending)
 
     ends-after : Ends e s rows attrs n end (after c)
     ends-after =
@@ -129,15 +130,15 @@ module _ (e : Endian) (s rows attrs : List ℕ) (n end : ℕ) where
       by-test (Stops c) (λ h. inl (stopped-kids c h))
       (λ h. by-test (nullRow rows c)
       (λ t. (let less : rest c ≡ suc (rest (after c)) = fewer w h in firsts-on (null-kids w h t) (firsts m (after c) (omega arith) (ends-after w h))))
-      (λ t. inr (c, record { there = on-below n (λ d. siblingRow e s rows attrs n d) end c h; kept = t; here = w; own = row-kids w h t; on = ends-after w h; list = row-kids w h t })))
+      (λ t. inr (c, record { there = on-below n (λ d. siblingRow (lentRows e s rows attrs n) d) end c h; kept = t; here = w; own = row-kids w h t; on = ends-after w h; list = row-kids w h t })))
 
   -- from a row that is not there on, there are none
   past-kids : (c : ℕ) → n ≤ c → kidsFrom e s rows attrs n end c ≡ []
-  past-kids c l = stopped-kids c (past-last n (λ d. siblingRow e s rows attrs n d) end c l)
+  past-kids c l = stopped-kids c (past-last n (λ d. siblingRow (lentRows e s rows attrs n) d) end c l)
 
   past-ends : (c : ℕ) → n ≤ c → isEnding (walkOn e s rows attrs n end c) ≡ true
   unfolding walkOn isEnding
-  past-ends c l = ap isEnding (stopped n (λ d. siblingRow e s rows attrs n d) end c (past-last n (λ d. siblingRow e s rows attrs n d) end c l) n)
+  past-ends c l = ap isEnding (stopped n (λ d. siblingRow (lentRows e s rows attrs n) d) end c (past-last n (λ d. siblingRow (lentRows e s rows attrs n) d) end c l) n)
 
   module _ {c : ℕ} (w : Ends e s rows attrs n end c) {d : ℕ} (is : d ≡ firstOr n (kidsFrom e s rows attrs n end c)) where
     first : d < n → First c d
@@ -149,10 +150,10 @@ module _ (e : Endian) (s rows attrs : List ℕ) (n end : ℕ) where
         ]
 
     -- the first child, and those from its sibling on
-    pub kids-more : d < n → kidsFrom e s rows attrs n end c ≡ d ∷ kidsFrom e s rows attrs n end (siblingRow e s rows attrs n d)
+    pub kids-more : d < n → kidsFrom e s rows attrs n end c ≡ d ∷ kidsFrom e s rows attrs n end (siblingRow (lentRows e s rows attrs n) d)
     kids-more l = first l .list
 
-    pub ends-more : d < n → Ends e s rows attrs n end (siblingRow e s rows attrs n d)
+    pub ends-more : d < n → Ends e s rows attrs n end (siblingRow (lentRows e s rows attrs n) d)
     ends-more l = first l .on
 
     pub kids-none : n ≤ d → kidsFrom e s rows attrs n end c ≡ []
@@ -188,14 +189,14 @@ module _ (e : Endian) (s rows attrs : List ℕ) (n end : ℕ) where
     none-left h = ap (firstOr n) (sym (stopped-kids c h) ∙ w .left)
 
     pub seeking-end : c ≡ end → n ≡ firstOr n (kidsFrom e s rows attrs n end from)
-    seeking-end h = none-left (at-end n (λ d. siblingRow e s rows attrs n d) end c h)
+    seeking-end h = none-left (at-end n (λ d. siblingRow (lentRows e s rows attrs n) d) end c h)
 
     pub seeking-past : n ≤ c → n ≡ firstOr n (kidsFrom e s rows attrs n end from)
-    seeking-past h = none-left (past-last n (λ d. siblingRow e s rows attrs n d) end c h)
+    seeking-past h = none-left (past-last n (λ d. siblingRow (lentRows e s rows attrs n) d) end c h)
 
     module _ (h : c ≡ end → ⊥) (l : c < n) where
       on-way : Stops c ≡ false
-      on-way = goes n (λ d. siblingRow e s rows attrs n d) end c h l
+      on-way = goes n (λ d. siblingRow (lentRows e s rows attrs n) d) end c h l
 
       pub seeking-found : {row : Row} → row ≡ rowAt rows c → (row .kind ≡ 0 → ⊥) → c ≡ firstOr n (kidsFrom e s rows attrs n end from)
       unfolding firstOr nullRow
@@ -205,14 +206,14 @@ module _ (e : Endian) (s rows attrs : List ℕ) (n end : ℕ) where
       pub seeking-at : AtRow rows n c
       seeking-at = record { rising = w .on .table .rising; there = l }
 
-      pub seeking-on : {row : Row} {c′ : ℕ} → row ≡ rowAt rows c → row .kind ≡ 0 → c′ ≡ siblingRow e s rows attrs n c → Seeking from c′
+      pub seeking-on : {row : Row} {c′ : ℕ} → row ≡ rowAt rows c → row .kind ≡ 0 → c′ ≡ siblingRow (lentRows e s rows attrs n) c → Seeking from c′
       unfolding nullRow
       seeking-on p k q =
           let test : nullRow rows c ≡ true = eq-eqb (rowAt rows c .kind) 0 (ap (λ (r : Row). r .kind) (sym p) ∙ k) in
           subst (Seeking from) (sym q) (record { on = ends-after (w .on) on-way; left = sym (null-kids (w .on) on-way test) ∙ w .left })
 
       -- fewer rows are left to meet
-      pub seeking-less : {c′ : ℕ} → c′ ≡ siblingRow e s rows attrs n c
+      pub seeking-less : {c′ : ℕ} → c′ ≡ siblingRow (lentRows e s rows attrs n) c
           → length (rowsMet (walkOn e s rows attrs n end c′)) < length (rowsMet (walkOn e s rows attrs n end c))
       seeking-less {c′} q =
           let less : rest c ≡ suc (rest (after c)) = fewer (w .on) on-way in
@@ -240,21 +241,21 @@ ending-walk (ends cs) h = refl
 ending-walk endless h = absurd (true≢false (sym h))
 
 module _ (e : Endian) (s rows attrs : List ℕ) (n i : ℕ) where
-  module _ {end c : ℕ} (p : end ≡ siblingRow e s rows attrs n i) (q : c ≡ nextRow rows n i) where
+  module _ {end c : ℕ} (p : end ≡ siblingRow (lentRows e s rows attrs n) i) (q : c ≡ nextRow rows n i) where
     pub kids-at : kidsFrom e s rows attrs n end c ≡ kidsOf e s rows attrs n i
     unfolding kidsOf
-    kids-at = ap (λ (x : ℕ). kidsFrom e s rows attrs n x c) p ∙ ap (kidsFrom e s rows attrs n (siblingRow e s rows attrs n i)) q
+    kids-at = ap (λ (x : ℕ). kidsFrom e s rows attrs n x c) p ∙ ap (kidsFrom e s rows attrs n (siblingRow (lentRows e s rows attrs n) i)) q
 
-    pub ends-at : Ends e s rows attrs n (siblingRow e s rows attrs n i) (nextRow rows n i) → Ends e s rows attrs n end c
+    pub ends-at : Ends e s rows attrs n (siblingRow (lentRows e s rows attrs n) i) (nextRow rows n i) → Ends e s rows attrs n end c
     ends-at w =
-        subst (λ (x : ℕ). Ends e s rows attrs n x c) (sym p) (subst (Ends e s rows attrs n (siblingRow e s rows attrs n i)) (sym q) w)
+        subst (λ (x : ℕ). Ends e s rows attrs n x c) (sym p) (subst (Ends e s rows attrs n (siblingRow (lentRows e s rows attrs n) i)) (sym q) w)
 
-  pub walk-kids : {cs : List ℕ} → childWalk e s rows attrs n i ≡ ends cs → kidsOf e s rows attrs n i ≡ nonNull rows cs
+  pub walk-kids : {cs : List ℕ} → childWalk (lentRows e s rows attrs n) i ≡ ends cs → kidsOf e s rows attrs n i ≡ nonNull rows cs
   unfolding kidsOf kidsFrom walkOn childWalk rowsMet
   walk-kids p = ap (λ (w : Walk). nonNull rows (rowsMet w)) p
 
-  module _ {told : Kids} (is : told ≡ gatheredInto rows 0 [] (childWalk e s rows attrs n i) .answer) where
-    pub counted-ends : {k : ℕ} → Rows rows n → told ≡ Count k → Ends e s rows attrs n (siblingRow e s rows attrs n i) (nextRow rows n i)
+  module _ {told : Kids} (is : told ≡ gatheredInto rows 0 [] (childWalk (lentRows e s rows attrs n) i) .answer) where
+    pub counted-ends : {k : ℕ} → RowsHold rows n → told ≡ Count k → Ends e s rows attrs n (siblingRow (lentRows e s rows attrs n) i) (nextRow rows n i)
     unfolding walkOn childWalk
     counted-ends table p = record { table = table; ending = counted-by rows _ is p .0 }
 
@@ -262,10 +263,10 @@ module _ (e : Endian) (s rows attrs : List ℕ) (n i : ℕ) where
     unfolding kidsOf kidsFrom walkOn childWalk
     counted-kids p = counted-by rows _ is p .1
 
-    pub counted-walk : {k : ℕ} → told ≡ Count k → childWalk e s rows attrs n i ≡ ends (rowsMet (childWalk e s rows attrs n i))
-    counted-walk p = ending-walk (childWalk e s rows attrs n i) (counted-by rows _ is p .0)
+    pub counted-walk : {k : ℕ} → told ≡ Count k → childWalk (lentRows e s rows attrs n) i ≡ ends (rowsMet (childWalk (lentRows e s rows attrs n) i))
+    counted-walk p = ending-walk (childWalk (lentRows e s rows attrs n) i) (counted-by rows _ is p .0)
 
-    pub endless-walk : told ≡ Endless → childWalk e s rows attrs n i ≡ endless
+    pub endless-walk : told ≡ Endless → childWalk (lentRows e s rows attrs n) i ≡ endless
     endless-walk p = endless-by rows _ is p
 
 -- ---- how many children there are at most
@@ -293,4 +294,4 @@ few-kept rows (c ∷ cs) =
 
 pub few-kids : (e : Endian) (s rows attrs : List ℕ) (n end c : ℕ) → length (kidsFrom e s rows attrs n end c) ≤ n
 unfolding kidsFrom walkOn
-few-kids e s rows attrs n end c = le-trans (few-kept rows _) (few-walked n (λ d. siblingRow e s rows attrs n d) end n c)
+few-kids e s rows attrs n end c = le-trans (few-kept rows _) (few-walked n (λ d. siblingRow (lentRows e s rows attrs n) d) end n c)

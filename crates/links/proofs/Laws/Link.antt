@@ -4,6 +4,7 @@ use native.Mathlib.Omega.{arith}
 use mathlib.Core.Path.{_≡_, sym, ap, _∙_}
 use mathlib.Core.Bool.{Bool, true, false}
 use mathlib.Core.List.{List}
+use Rattle.tables.specs.Table.{lentRows}
 use Rattle.tables.specs.Row.{rowAt, erasedRow}
 use Rattle.tables.specs.declared.row.Row.{Row}
 use Rattle.numbers.specs.declared.Endian.{Endian}
@@ -52,10 +53,10 @@ next-after rows n i p q h =
     ∙ ap (λ (k : ℕ). nextFrom rows (erasedRow (rowAt rows i .flags)) k (n - k)) place
 
 module _ (e : Endian) (s rows attrs : List ℕ) (n i : ℕ) {told : Reference} (is : told ≡ referenceOf e s rows attrs i siblingNumber) where
-  pub sibling-named : {key r : ℕ} → told ≡ To key → r ≡ rowNumber n (rowOfKey rows n key) → r ≡ siblingRow e s rows attrs n i
+  pub sibling-named : {key r : ℕ} → told ≡ To key → r ≡ rowNumber n (rowOfKey rows n key) → r ≡ siblingRow (lentRows e s rows attrs n) i
   unfolding siblingRow siblingBy
   sibling-named p h = h ∙ ap (siblingBy rows n i) (sym p ∙ is)
 
-  pub sibling-next : {r : ℕ} → told ≡ reference.Nothing → r ≡ nextRow rows n i → r ≡ siblingRow e s rows attrs n i
+  pub sibling-next : {r : ℕ} → told ≡ reference.Nothing → r ≡ nextRow rows n i → r ≡ siblingRow (lentRows e s rows attrs n) i
   unfolding siblingRow siblingBy
   sibling-next p h = h ∙ ap (siblingBy rows n i) (sym p ∙ is)

@@ -11,7 +11,7 @@ use Rattle.format.specs.Said.{Said, inRoom, fillsRoom}
 use Rattle.links.specs.Walk.{Walk, ends, endless}
 use Rattle.links.specs.Links.{nullRow, nonNull}
 use Rattle.links.specs.Children.{childrenMet}
-use Rattle.links.specs.Inside.Links.{Rows}
+use Rattle.links.specs.Inside.Links.{RowsHold}
 use Rattle.links.specs.declared.children.Kids.{Kids}
 use Rattle.links.specs.declared.children.Kids.the-variants.{Count, Endless}
 
@@ -37,7 +37,7 @@ pub record Small (c k : ℕ) : Type 0 where
 
 -- a row of a table that is small enough
 pub record Asked (rows : List ℕ) (n i : ℕ) : Type 0 where
-  pub table : Rows rows n
+  pub table : RowsHold rows n
   pub there : i < n
 
 -- the children of a walk into the room: what `childrenOfKey` comes to from a row

@@ -3,10 +3,11 @@ use Prim.Native.Nat.{ℕ}
 use mathlib.Core.Path.{_≡_}
 use mathlib.Core.Bool.{Bool, true, false}
 use mathlib.Core.List.{List, [], _∷_}
+use Rattle.tables.specs.Table.{lentRows}
 use Rattle.numbers.specs.declared.Endian.{Endian}
 use Rattle.links.specs.Walk.{Walk, ends, endless, walkFrom}
 use Rattle.links.specs.Links.{siblingRow, nextRow, nonNull}
-use Rattle.links.specs.Inside.Links.{Rows}
+use Rattle.links.specs.Inside.Links.{RowsHold}
 
 -- the rows that a walk meets; none where it never ends
 unfoldable pub rowsMet : Walk → List ℕ
@@ -21,7 +22,7 @@ isEnding endless = false
 module _ (e : Endian) (s rows attrs : List ℕ) (n : ℕ) where
   -- the walk from c on, sibling by sibling, up to `end`
   unfoldable pub walkOn : ℕ → ℕ → Walk
-  walkOn end c = walkFrom n (λ d. siblingRow e s rows attrs n d) end n c
+  walkOn end c = walkFrom n (λ d. siblingRow (lentRows e s rows attrs n) d) end n c
 
   -- the children that it meets: null entries are left out
   unfoldable pub kidsFrom : ℕ → ℕ → List ℕ
@@ -29,11 +30,11 @@ module _ (e : Endian) (s rows attrs : List ℕ) (n : ℕ) where
 
   -- the children of row i
   unfoldable pub kidsOf : ℕ → List ℕ
-  kidsOf i = kidsFrom (siblingRow e s rows attrs n i) (nextRow rows n i)
+  kidsOf i = kidsFrom (siblingRow (lentRows e s rows attrs n) i) (nextRow rows n i)
 
   -- what taking children one at a time requires: the walk ends
   pub record Ends (end c : ℕ) : Type 0 where
-    pub table : Rows rows n
+    pub table : RowsHold rows n
     pub ending : isEnding (walkOn end c) ≡ true
 
 -- the first of a list of rows, or n

@@ -10,6 +10,6 @@ pub record AtRow (rows : List ℕ) (n i : ℕ) : Type 0 where
   pub there : i < n
 
 -- what the functions on a whole table require
-pub record Rows (rows : List ℕ) (n : ℕ) : Type 0 where
+pub record RowsHold (rows : List ℕ) (n : ℕ) : Type 0 where
   pub rising : Rising rows n
   pub few : n ≤ entryLimit

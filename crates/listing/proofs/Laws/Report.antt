@@ -7,7 +7,7 @@ use mathlib.Core.List.{List, []}
 use lib.ListN.{length}
 use native.Mathlib.Omega.{arith}
 use Rattle.lent.specs.Outcome.{Outcome, Given, BothGiven}
-use Rattle.tables.specs.Table.{table}
+use Rattle.tables.specs.Table.{table, lentRows}
 use Rattle.tables.specs.Tests.{testTable}
 use Rattle.tables.specs.Row.{rowWidth}
 use Rattle.tables.proofs.Laws.Holds.{fits-all}
@@ -87,7 +87,7 @@ module _ (counts : Counts) where
   pub tree-lists : (s rows attrs room : List ℕ) → ListsAll (listingTree s rows attrs counts room)
   unfolding listTree
   tree-lists s rows attrs room =
-      λ n e. listed-all rows (λ i. reachEnd (listingSettings .endian) s rows attrs (counts .rows) i) room n
+      λ n e. listed-all rows (λ i. reachEnd (lentRows (listingSettings .endian) s rows attrs (counts .rows)) i) room n
       (room-gave room (testTable (table s listingSettings [] listingSizes rows attrs counts)) _ e .2)
 
 pub few-listed : (s rows attrs room room′ : List ℕ) (counts : Counts) {answer : Said ℕ} → counts .rows ≤ 1024

@@ -9,7 +9,7 @@ use lib.ListN.{length, take, drop, length-drop, length-append}
 use lib.Seq.{length-take-le, sets}
 use lib.Dec.{leb}
 use lib.IntN.{ℤ}
-use Rattle.tables.specs.Table.{table}
+use Rattle.tables.specs.Table.{table, lentRows}
 use Rattle.lent.specs.Outcome.{Outcomes, BothGiven}
 use Rattle.numbers.proofs.Laws.Tests.{cond-all}
 use Rattle.numbers.specs.Value.{valueOf, there}
@@ -456,9 +456,9 @@ sized-whole s attrs run many size p = ap (λ (x : Name). gives (record { name = 
 
 module _ (settings : Settings) (s rows attrs : List ℕ) (n i : ℕ) where
   abbrev childless : Said Unit
-  childless = childlessFault rows i (childWalk (settings .endian) s rows attrs n i)
+  childless = childlessFault rows i (childWalk (lentRows (settings .endian) s rows attrs n) i)
 
-  pub end-clear : (many : ℕ) {told : Fault} {run : Run} {z : Said Enumeration} → saidFault told ≡ childlessFault rows i (childWalk (settings .endian) s rows attrs n i)
+  pub end-clear : (many : ℕ) {told : Fault} {run : Run} {z : Said Enumeration} → saidFault told ≡ childlessFault rows i (childWalk (lentRows (settings .endian) s rows attrs n) i)
       → told ≡ fault.Clear → run ≡ runOf (settings .endian) rows i → z ≡ enumerationSized s attrs run many → z ≡ enumerationEnd settings s rows attrs n i many
   unfolding enumerationEnd
   end-clear many is p q h = fields-said (λ (x : Run). enumerationSized s attrs x many) is p q h
@@ -466,10 +466,10 @@ module _ (settings : Settings) (s rows attrs : List ℕ) (n i : ℕ) where
   -- ---- the whole
 
   abbrev at : Said Enumeration
-  at = enumerationAt settings s rows attrs n i
+  at = enumerationAt settings (lentRows (settings .endian) s rows attrs n) i
 
   abbrev lists : Said (List Listed)
-  lists = rowLists settings s rows attrs n i
+  lists = rowLists settings (lentRows (settings .endian) s rows attrs n) i
 
   abbrev by : Said (List Listed) → Said Enumeration
   by l = l >>= λ (xs : List Listed). enumerationEnd settings s rows attrs n i (length xs)
@@ -486,7 +486,7 @@ module _ (settings : Settings) (s rows attrs : List ℕ) (n i : ℕ) where
 
   module _ {told : Fault} (is : saidFault told ≡ kindFault settings rows record′.Enumeration i) where
     pub whole-kind : (slots : Slots) {why : Refusal} (values : List ℤ) (names : List ℕ) → told ≡ fault.Refused why
-        → EnumerationStored (enumerationAt settings s rows attrs n i) (rowLists settings s rows attrs n i) slots (whole.Refused why) values values names names
+        → EnumerationStored (enumerationAt settings (lentRows (settings .endian) s rows attrs n) i) (rowLists settings (lentRows (settings .endian) s rows attrs n) i) slots (whole.Refused why) values values names names
     unfolding enumerationAt saidFault _>>_
     whole-kind slots values names p = whole-refused slots values values names names (goes-past saidFault is p _ refl)
 
@@ -502,7 +502,7 @@ module _ (settings : Settings) (s rows attrs : List ℕ) (n i : ℕ) where
       by-lists h k = goes-past saidFault is p _ (k ∙ ap by (sym h ∙ lists-are))
 
       pub whole-counted : {many : ℕ} {a : EnumerationWhole} → r ≡ counted.Count many → saidEnumerationWhole a ≡ enumerationEnd settings s rows attrs n i many
-          → EnumerationStored (enumerationAt settings s rows attrs n i) (rowLists settings s rows attrs n i) slots a values values′ names names′
+          → EnumerationStored (enumerationAt settings (lentRows (settings .endian) s rows attrs n) i) (rowLists settings (lentRows (settings .endian) s rows attrs n) i) slots a values values′ names names′
       unfolding _>>=_
       whole-counted {many} c h =
           let found : (xs : List Listed) × (listsFrom settings s attrs run 0 (run .count) ≡ gives xs) × (many ≡ 0 + length xs) = told-listed stored c in
@@ -514,7 +514,7 @@ module _ (settings : Settings) (s rows attrs : List ℕ) (n i : ℕ) where
           }
 
       pub whole-unread : {why : Refusal} → r ≡ counted.Refused why
-          → EnumerationStored (enumerationAt settings s rows attrs n i) (rowLists settings s rows attrs n i) slots (whole.Refused why) values values′ names names′
+          → EnumerationStored (enumerationAt settings (lentRows (settings .endian) s rows attrs n) i) (rowLists settings (lentRows (settings .endian) s rows attrs n) i) slots (whole.Refused why) values values′ names names′
       unfolding _>>=_
       whole-unread c = whole-refused slots values values′ names names′ (by-lists (told-refused stored c) refl)
 
@@ -543,14 +543,14 @@ module _ (settings : Settings) (s rows attrs : List ℕ) (n i : ℕ) where
       (nameOf s attrs (runOf (settings .endian) rows i) attribute.Name))
   by-members (refuses number place counts) = tt
 
-  pub members-listed : {e : Enumeration} → enumerationAt settings s rows attrs n i ≡ gives e
-      → (xs : List Listed) × (rowLists settings s rows attrs n i ≡ gives xs) × (e .members ≡ length xs)
+  pub members-listed : {e : Enumeration} → enumerationAt settings (lentRows (settings .endian) s rows attrs n) i ≡ gives e
+      → (xs : List Listed) × (rowLists settings (lentRows (settings .endian) s rows attrs n) i ≡ gives xs) × (e .members ≡ length xs)
   unfolding enumerationAt enumerationEnd
   members-listed p = subst (Members lists) p (past-members (kindFault settings rows record′.Enumeration i) lists (by lists) (by-members lists))
 
-  module _ {told : EnumerationWhole} (is : saidEnumerationWhole told ≡ enumerationAt settings s rows attrs n i) (values : List ℤ) (names : List ℕ) where
+  module _ {told : EnumerationWhole} (is : saidEnumerationWhole told ≡ enumerationAt settings (lentRows (settings .endian) s rows attrs n) i) (values : List ℤ) (names : List ℕ) where
     module _ {e : Enumeration} (p : told ≡ whole.Is e) where
-      found : (xs : List Listed) × (rowLists settings s rows attrs n i ≡ gives xs) × (e .members ≡ length xs)
+      found : (xs : List Listed) × (rowLists settings (lentRows (settings .endian) s rows attrs n) i ≡ gives xs) × (e .members ≡ length xs)
       unfolding saidEnumerationWhole
       found = members-listed (sym (case-said saidEnumerationWhole is p))
 
@@ -560,7 +560,7 @@ module _ (settings : Settings) (s rows attrs : List ℕ) (n i : ℕ) where
 
       -- the room decides
       by-room : {fits : Bool} → leb (e .members) (length values) && leb (e .members) (length names / 2) ≡ fits → {z : Said Enumeration} {values′ : List ℤ} {names′ : List ℕ}
-          → BothGiven (filled fits (found .0)) z values′ names′ → BothGiven (enumerationInto settings s rows attrs n values names i) z values′ names′
+          → BothGiven (filled fits (found .0)) z values′ names′ → BothGiven (enumerationInto settings (lentRows (settings .endian) s rows attrs n) values names i) z values′ names′
       unfolding enumerationInto saidEnumerationWhole inRooms
       by-room t {z} {values′} {names′} h =
           goes-in-both saidEnumerationWhole is p values names _
@@ -568,17 +568,17 @@ module _ (settings : Settings) (s rows attrs : List ℕ) (n i : ℕ) where
           (sym (found .1)) (subst (λ (b : Bool). BothGiven (filled b (found .0)) z values′ names′) (sym t) h))
 
       pub given-room : leb (e .members) (length values) && leb (e .members) (length names / 2) ≡ false
-          → BothGiven (enumerationInto settings s rows attrs n values names i) (saidEnumerationRead (read.Room (e .members))) values names
+          → BothGiven (enumerationInto settings (lentRows (settings .endian) s rows attrs n) values names i) (saidEnumerationRead (read.Room (e .members))) values names
       unfolding saidEnumerationRead fillsRooms
       given-room t = by-room t (record { answer-is = refl; first-is = refl; second-is = refl })
 
       pub given-members : leb (e .members) (length values) && leb (e .members) (length names / 2) ≡ true → {gcc : Bool} → gcc ≡ isGcc (settings .producer)
           → {r : EnumerationWhole} {values′ : List ℤ} {names′ : List ℕ}
-          → EnumerationStored (enumerationAt settings s rows attrs n i) (rowLists settings s rows attrs n i) (record { reversed = gcc; total = e .members }) r values values′ names names′
-          → BothGiven (enumerationInto settings s rows attrs n values names i) (saidEnumerationRead (read.Is e)) values′ names′
+          → EnumerationStored (enumerationAt settings (lentRows (settings .endian) s rows attrs n) i) (rowLists settings (lentRows (settings .endian) s rows attrs n) i) (record { reversed = gcc; total = e .members }) r values values′ names names′
+          → BothGiven (enumerationInto settings (lentRows (settings .endian) s rows attrs n) values names i) (saidEnumerationRead (read.Is e)) values′ names′
       unfolding saidEnumerationWhole saidEnumerationRead fillsRooms
       given-members t g stored =
-          let here : enumerationAt settings s rows attrs n i ≡ gives e = sym (case-said saidEnumerationWhole is p) in
+          let here : enumerationAt settings (lentRows (settings .endian) s rows attrs n) i ≡ gives e = sym (case-said saidEnumerationWhole is p) in
           by-room t
           (record {
             answer-is = refl;

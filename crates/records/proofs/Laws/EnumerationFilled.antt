@@ -10,7 +10,7 @@ use lib.Seq.{sets}
 use lib.Dec.{leb}
 use lib.IntN.{ℤ}
 use borrow.Author.Tests.{leb-true}
-use Rattle.tables.specs.Table.{table}
+use Rattle.tables.specs.Table.{table, lentRows}
 use Rattle.lent.proofs.Laws.Filled.{sets-filled}
 use Rattle.lent.specs.Outcome.{Outcomes, BothGiven}
 use Rattle.format.specs.declared.settings.Settings.{Settings}
@@ -62,7 +62,7 @@ module _ (settings : Settings) (vendors sizes s rows attrs : List ℕ) (counts :
       abbrev Result : Type 0
       Result = (xs : List Listed) × EnumerationFilled (table s settings vendors sizes rows attrs counts) key values names e values′ names′ i xs
 
-      with-members : (xs : List Listed) → rowLists settings s rows attrs (counts .rows) i ≡ gives xs → e .members ≡ length xs
+      with-members : (xs : List Listed) → rowLists settings (lentRows (settings .endian) s rows attrs (counts .rows)) i ≡ gives xs → e .members ≡ length xs
           → (leb (e .members) (length values) && leb (e .members) (length names / 2)) ≡ true
           → values′ ≡ sets values 0 (valuesOf (inOrder (settings .producer) xs)) → names′ ≡ sets names 0 (namesOf (inOrder (settings .producer) xs)) → Result
       with-members xs l m fits p q =
@@ -95,7 +95,7 @@ module _ (settings : Settings) (vendors sizes s rows attrs : List ℕ) (counts :
       filled e′ b xs =
           fillsRooms b e′ (e′ .members ∷ []) (valuesOf (inOrder (settings .producer) xs)) (namesOf (inOrder (settings .producer) xs)) values names
 
-      by-fit : (e′ : Enumeration) (xs : List Listed) → rowLists settings s rows attrs (counts .rows) i ≡ gives xs → e′ .members ≡ length xs → (b : Bool) → fits e′ ≡ b
+      by-fit : (e′ : Enumeration) (xs : List Listed) → rowLists settings (lentRows (settings .endian) s rows attrs (counts .rows)) i ≡ gives xs → e′ .members ≡ length xs → (b : Bool) → fits e′ ≡ b
           → Says (filled e′ b xs) → Result
       unfolding fillsRooms
       by-fit e′ xs l m true t g =
@@ -103,11 +103,11 @@ module _ (settings : Settings) (vendors sizes s rows attrs : List ℕ) (counts :
           with-members xs l (ap (λ (x : Enumeration). x .members) one ∙ m) (ap fits one ∙ t) (g .first-is) (g .second-is)
       by-fit e′ xs l m false t g = absurd (given-refused (g .answer-is))
 
-      by-whole : (a : Said Enumeration) → enumerationAt settings s rows attrs (counts .rows) i ≡ a
-          → Says (inRooms values names a (λ (e′ : Enumeration). inRooms values names (rowLists settings s rows attrs (counts .rows) i) (filled e′ (fits e′)))) → Result
+      by-whole : (a : Said Enumeration) → enumerationAt settings (lentRows (settings .endian) s rows attrs (counts .rows)) i ≡ a
+          → Says (inRooms values names a (λ (e′ : Enumeration). inRooms values names (rowLists settings (lentRows (settings .endian) s rows attrs (counts .rows)) i) (filled e′ (fits e′)))) → Result
       unfolding inRooms
       by-whole (gives e′) p g =
-          let found : (xs : List Listed) × (rowLists settings s rows attrs (counts .rows) i ≡ gives xs) × (e′ .members ≡ length xs) =
+          let found : (xs : List Listed) × (rowLists settings (lentRows (settings .endian) s rows attrs (counts .rows)) i ≡ gives xs) × (e′ .members ≡ length xs) =
           members-listed settings s rows attrs (counts .rows) i p
           in
           by-fit e′ (found .0) (found .1) (found .2) (fits e′) refl
@@ -115,12 +115,12 @@ module _ (settings : Settings) (vendors sizes s rows attrs : List ℕ) (counts :
       by-whole (refuses number place counts′) p g = absurd (given-refused (g .answer-is))
 
     by-row : (d : Said ℕ) → rowOf (table s settings vendors sizes rows attrs counts) key ≡ d
-        → Says (inRooms values names d (enumerationInto settings s rows attrs (counts .rows) values names))
+        → Says (inRooms values names d (enumerationInto settings (lentRows (settings .endian) s rows attrs (counts .rows)) values names))
         → (i : ℕ) × (xs : List Listed) × EnumerationFilled (table s settings vendors sizes rows attrs counts) key values names e values′ names′ i xs
     unfolding inRooms enumerationInto
     by-row (gives i) is g =
         let r : (xs : List Listed) × EnumerationFilled (table s settings vendors sizes rows attrs counts) key values names e values′ names′ i xs =
-        by-whole i is (enumerationAt settings s rows attrs (counts .rows) i) refl g
+        by-whole i is (enumerationAt settings (lentRows (settings .endian) s rows attrs (counts .rows)) i) refl g
         in
         (i, r .0, r .1)
     by-row (refuses number place counts′) is g = absurd (given-refused (g .answer-is))

@@ -11,6 +11,7 @@ use Rattle.format.specs.declared.settings.Settings.{Settings}
 use Rattle.format.specs.declared.settings.Producer.{Producer}
 use Rattle.format.specs.declared.refusal.Refusal.{Refusal}
 use Rattle.format.specs.declared.refusal.Reason.the-variants as reason
+use Rattle.tables.specs.Table.{lentRows}
 use Rattle.tables.specs.Row.{rowAt}
 use Rattle.tables.specs.Inside.Keyed.{refusedAt}
 use Rattle.tables.specs.declared.row.Row.{Row}
@@ -70,27 +71,27 @@ module _ (settings : Settings) (s rows attrs : List ℕ) (which : Record) (i : �
 
 -- ---- no children
 
-module _ (e : Endian) (s rows attrs : List ℕ) (n i : ℕ) {told : Kids} (is : told ≡ gatheredInto rows 0 [] (childWalk e s rows attrs n i) .answer) where
+module _ (e : Endian) (s rows attrs : List ℕ) (n i : ℕ) {told : Kids} (is : told ≡ gatheredInto rows 0 [] (childWalk (lentRows e s rows attrs n) i) .answer) where
   module _ {k : ℕ} (p : told ≡ Count k) where
-    count-met : k ≡ length (nonNull rows (rowsMet (childWalk e s rows attrs n i)))
+    count-met : k ≡ length (nonNull rows (rowsMet (childWalk (lentRows e s rows attrs n) i)))
     count-met = counted-kids e s rows attrs n i is p ∙ ap length (walk-kids e s rows attrs n i (counted-walk e s rows attrs n i is p))
 
-    pub childless : k ≡ 0 → gives tt ≡ childlessFault rows i (childWalk e s rows attrs n i)
+    pub childless : k ≡ 0 → gives tt ≡ childlessFault rows i (childWalk (lentRows e s rows attrs n) i)
     unfolding childlessFault must
     childless h =
         by-case (childlessFault rows i) (counted-walk e s rows attrs n i is p)
-        (test-passed refl _ (eq-eqb (length (nonNull rows (rowsMet (childWalk e s rows attrs n i)))) 0 (sym count-met ∙ h)) refl)
+        (test-passed refl _ (eq-eqb (length (nonNull rows (rowsMet (childWalk (lentRows e s rows attrs n) i)))) 0 (sym count-met ∙ h)) refl)
 
     pub has-children : {row : Row} {why : Refusal} → (k ≡ 0 → ⊥) → row ≡ rowAt rows i → why ≡ refusedAt (row .key) reason.Child
-        → refusal why ≡ childlessFault rows i (childWalk e s rows attrs n i)
+        → refusal why ≡ childlessFault rows i (childWalk (lentRows e s rows attrs n) i)
     unfolding childlessFault must
     has-children h at q =
         by-case (childlessFault rows i) (counted-walk e s rows attrs n i is p)
-        (test-failed refl _ (ne-eqb (length (nonNull rows (rowsMet (childWalk e s rows attrs n i)))) 0 (λ z. h (count-met ∙ z)))
+        (test-failed refl _ (ne-eqb (length (nonNull rows (rowsMet (childWalk (lentRows e s rows attrs n) i)))) 0 (λ z. h (count-met ∙ z)))
         (ap refusal (q ∙ ap (λ (x : Row). refusedAt (x .key) reason.Child) at)))
 
   pub endless-children : {row : Row} {why : Refusal} → told ≡ Endless → row ≡ rowAt rows i → why ≡ refusedAt (row .key) reason.Link
-      → refusal why ≡ childlessFault rows i (childWalk e s rows attrs n i)
+      → refusal why ≡ childlessFault rows i (childWalk (lentRows e s rows attrs n) i)
   unfolding childlessFault must
   endless-children p at q =
       by-case (childlessFault rows i) (endless-walk e s rows attrs n i is p) (ap refusal (q ∙ ap (λ (x : Row). refusedAt (x .key) reason.Link) at))

@@ -22,6 +22,7 @@ use Rattle.format.specs.declared.refusal.Reason.the-variants as reason
 use Rattle.attributes.specs.Decode.{referenceAt}
 use Rattle.blocks.specs.Types.{processType}
 use Rattle.blocks.specs.declared.types.Type.{«Type»}
+use Rattle.tables.specs.Table.{lentRows}
 use Rattle.tables.specs.Row.{rowAt}
 use Rattle.tables.specs.Find.{rowOfKey}
 use Rattle.tables.specs.Keyed.{foundRow}
@@ -30,7 +31,7 @@ use Rattle.tables.specs.Inside.Keyed.{refusedAt}
 use Rattle.tables.specs.declared.find.Found.{Found}
 use Rattle.tables.specs.declared.find.Found.the-variants as found
 use Rattle.links.specs.Links.{childWalk}
-use Rattle.links.specs.Inside.Links.{Rows}
+use Rattle.links.specs.Inside.Links.{RowsHold}
 use Rattle.links.specs.Inside.Children.{Asked}
 use Rattle.records.specs.Taken.{special}
 use Rattle.records.proofs.Laws.Taken.{by-case, test-passed, test-failed}
@@ -121,9 +122,9 @@ module _ (s attrs : List ℕ) (run : Run) where
     name-known last is = is ∙ ap (λ (x : Name). typedefName x f) last
 
 pub end-clear : (settings : Settings) (s rows attrs : List ℕ) (n i : ℕ) (f : Filling) {told : Fault} {run : Run} {z : Said Typedef}
-    → saidFault told ≡ childlessFault rows i (childWalk (settings .endian) s rows attrs n i) → told ≡ fault.Clear → run ≡ runOf (settings .endian) rows i
+    → saidFault told ≡ childlessFault rows i (childWalk (lentRows (settings .endian) s rows attrs n) i) → told ≡ fault.Clear → run ≡ runOf (settings .endian) rows i
     → z ≡ typedefFields (run .key) (knownOf s attrs run f)
-    → z ≡ typedefEnd settings s rows attrs n i (knownOf s attrs (runOf (settings .endian) rows i) f)
+    → z ≡ typedefEnd settings (lentRows (settings .endian) s rows attrs n) i (knownOf s attrs (runOf (settings .endian) rows i) f)
 unfolding typedefEnd typedefFields typedefWith runOf
 end-clear settings s rows attrs n i f is p q h = fields-said (λ (x : Run). typedefFields (x .key) (knownOf s attrs x f)) is p q h
 
@@ -164,7 +165,7 @@ module _ (settings : Settings) (s rows attrs : List ℕ) (n : ℕ) (run : Run) (
   module _ {a : Attribute} {told : Fault} (at : a ≡ attributeAt attrs (run .first + j))
       (is : saidFault told ≡ attributeFault (settings .roles) record′.Typedef run s a) where
     module _ (p : told ≡ fault.Clear) {word : Read32} (reads : word ≡ referenceAt (run .ends) s (a .value)) where
-      by-read : {w : Read32} {z : Said ℕ} → word ≡ w → z ≡ byRead w → z ≡ specified settings s rows attrs n run levels j
+      by-read : {w : Read32} {z : Said ℕ} → word ≡ w → z ≡ byRead w → z ≡ specified settings (lentRows (settings .endian) s rows attrs n) run levels j
       unfolding specified saidFault _>>_
       by-read q h =
           goes-past saidFault (is ∙ fault-here at) p _
@@ -172,14 +173,14 @@ module _ (settings : Settings) (s rows attrs : List ℕ) (n : ℕ) (run : Run) (
           ∙ read-map read32.Value read32.Short (run .ends .section) 4 s (attributeAt attrs (run .first + j) .value) byRead)
 
       pub reference-read : {key : ℕ} {z : Said ℕ} → word ≡ read32.Value key → z ≡ specifiedBy settings rows n levels key
-          → z ≡ specified settings s rows attrs n run levels j
+          → z ≡ specified settings (lentRows (settings .endian) s rows attrs n) run levels j
       reference-read q h = by-read q h
 
       pub reference-short : {why : Refusal} → word ≡ read32.Short → why ≡ refusedAt (run .key) reason.Block
-          → refusal why ≡ specified settings s rows attrs n run levels j
+          → refusal why ≡ specified settings (lentRows (settings .endian) s rows attrs n) run levels j
       reference-short q h = by-read q (ap refusal h)
 
-    pub specification-refused : {why : Refusal} → told ≡ fault.Refused why → refusal why ≡ specified settings s rows attrs n run levels j
+    pub specification-refused : {why : Refusal} → told ≡ fault.Refused why → refusal why ≡ specified settings (lentRows (settings .endian) s rows attrs n) run levels j
     unfolding specified saidFault _>>_
     specification-refused p = goes-past saidFault (is ∙ fault-here at) p _ refl
 
@@ -192,7 +193,7 @@ module _ (settings : Settings) (s rows attrs : List ℕ) (n : ℕ) (run : Run) (
     unfolding pauseFrom pauseAt saidScan _>>=_
     pause-end h = goes-on saidScan is p _ (test-passed refl _ (le-leb (run .count) k h) refl)
 
-    pub pause-at : k < run .count → {what x : Specified} {z : Said Reached} → saidSpecified what ≡ specified settings s rows attrs n run levels k → what ≡ x
+    pub pause-at : k < run .count → {what x : Specified} {z : Said Reached} → saidSpecified what ≡ specified settings (lentRows (settings .endian) s rows attrs n) run levels k → what ≡ x
         → z ≡ (saidSpecified x >>= λ r. gives (meets k r)) → z ≡ pauseFrom settings s rows attrs n run levels j
     unfolding pauseFrom pauseAt saidScan _>>=_
     pause-at h said q g = goes-on saidScan is p _ (test-failed refl _ (lt-leb (run .count) k h) (goes-on saidSpecified said q _ g))
@@ -278,7 +279,7 @@ module _ (settings : Settings) (s rows attrs : List ℕ) (n levels : ℕ) where
       (let some : levels ≡ 0 → ⊥ = eqb-false levels 0 t in (omega arith, row-found rows n key p .0)))
   good-row key found.Nothing p = tt
 
-  good : (run : Run) (j : ℕ) → Good (specified settings s rows attrs n run levels j)
+  good : (run : Run) (j : ℕ) → Good (specified settings (lentRows (settings .endian) s rows attrs n) run levels j)
   unfolding specified specifiedBy
   good run j =
       good-past (faultAt (settings .roles) record′.Typedef run s attrs j) _
@@ -286,7 +287,7 @@ module _ (settings : Settings) (s rows attrs : List ℕ) (n levels : ℕ) where
 
 module _ (settings : Settings) (s rows attrs : List ℕ) (n : ℕ) (below : ℕ → Said Typedef) (levels i : ℕ) (run : Run) where
   abbrev from : ℕ → ℕ → Known → Said Typedef
-  from j m known = attributesFrom settings s rows attrs n below levels i run j m known
+  from j m known = attributesFrom settings (lentRows (settings .endian) s rows attrs n) below levels i run j m known
 
   -- with what is known after j attributes
   abbrev left : ℕ → ℕ → Filling → Said Typedef
@@ -306,13 +307,13 @@ module _ (settings : Settings) (s rows attrs : List ℕ) (n : ℕ) (below : ℕ 
         | false ↦ x >> from (suc j) m (overwritten s run (attributeAt attrs (run .first + j)) known)
       ]
 
-  left-turn : (j m : ℕ) (known : Known) → from j (suc m) known ≡ turn j m known (isOwn j) (specified settings s rows attrs n run levels j) (judged j)
+  left-turn : (j m : ℕ) (known : Known) → from j (suc m) known ≡ turn j m known (isOwn j) (specified settings (lentRows (settings .endian) s rows attrs n) run levels j) (judged j)
   unfolding attributesFrom
   left-turn j m known = refl
 
   by-own : (j m : ℕ) (known : Known) {b : Bool} → isOwn j ≡ b
-      → from j (suc m) known ≡ turn j m known b (specified settings s rows attrs n run levels j) (judged j)
-  by-own j m known t = left-turn j m known ∙ ap (λ (b : Bool). turn j m known b (specified settings s rows attrs n run levels j) (judged j)) t
+      → from j (suc m) known ≡ turn j m known b (specified settings (lentRows (settings .endian) s rows attrs n) run levels j) (judged j)
+  by-own j m known t = left-turn j m known ∙ ap (λ (b : Bool). turn j m known b (specified settings (lentRows (settings .endian) s rows attrs n) run levels j) (judged j)) t
 
   -- one that is no specification: it is passed by, or its fault decides
   left-plain : (j m : ℕ) (f : Filling) {x : Said Unit} → isOwn j ≡ false → judged j ≡ x → left j (suc m) f ≡ (x >> left (suc j) m f)
@@ -322,7 +323,7 @@ module _ (settings : Settings) (s rows attrs : List ℕ) (n : ℕ) (below : ℕ 
       ∙ ap (λ (k : Known). x >> from (suc j) m k) (overwrites s attrs run j f)
 
   -- a specification is read
-  left-special : (j m : ℕ) (f : Filling) {what : Said ℕ} → isOwn j ≡ true → specified settings s rows attrs n run levels j ≡ what
+  left-special : (j m : ℕ) (f : Filling) {what : Said ℕ} → isOwn j ≡ true → specified settings (lentRows (settings .endian) s rows attrs n) run levels j ≡ what
       → left j (suc m) f ≡ (what >>= λ r. below r >>= λ t. left (suc j) m (firstFilling f t))
   unfolding numberAt
   left-special j m f {what} t p =
@@ -368,7 +369,7 @@ module _ (settings : Settings) (s rows attrs : List ℕ) (n : ℕ) (below : ℕ 
   Comes j (refuses number place counts) = (f : Filling) → left j (run .count - j) f ≡ refuses number place counts
 
   comes-at : (j k : ℕ) → j ≤ k → k < run .count → isOwn k ≡ true
-      → Before (settings .roles) record′.Typedef run s attrs j k → (what : Said ℕ) → specified settings s rows attrs n run levels k ≡ what
+      → Before (settings .roles) record′.Typedef run s attrs j k → (what : Said ℕ) → specified settings (lentRows (settings .endian) s rows attrs n) run levels k ≡ what
       → Comes j (what >>= λ r. gives (meets k r))
   unfolding _>>=_
   comes-at j k behind less t w (gives r) p =
@@ -400,7 +401,7 @@ module _ (settings : Settings) (s rows attrs : List ℕ) (n : ℕ) (below : ℕ 
       let all : k ≡ run .count = omega arith in
       left-past j k f behind (omega arith) (w .before) ∙ ap (λ (x : ℕ). left k x f) none ∙ ap (λ (x : ℕ). left x zero f) all))
       (λ t. (let less : k < run .count = leb-false (run .count) k t in
-      comes-at j k behind less (w .own (omega arith)) (w .before) (specified settings s rows attrs n run levels k) refl))
+      comes-at j k behind less (w .own (omega arith)) (w .before) (specified settings (lentRows (settings .endian) s rows attrs n) run levels k) refl))
   comes-by j h (refuses number place counts) p =
       let met = scan-refused _ _ _ _ _ p in
       let k : ℕ = met .0 in
@@ -422,43 +423,43 @@ module _ (settings : Settings) (s rows attrs : List ℕ) (n levels i : ℕ) (run
   -- how a specification's row is read
   abbrev belowOf : ℕ → ℕ → Said Typedef
   belowOf zero r = refuse reason.Depth (rowAt rows r .key)
-  belowOf (suc l) r = typedefRun settings s rows attrs n l r
+  belowOf (suc l) r = typedefRun settings (lentRows (settings .endian) s rows attrs n) l r
 
-  below-less : (l r : ℕ) → 0 < l → belowOf l r ≡ typedefRun settings s rows attrs n (l - 1) r
+  below-less : (l r : ℕ) → 0 < l → belowOf l r ≡ typedefRun settings (lentRows (settings .endian) s rows attrs n) (l - 1) r
   below-less zero r h = absurd (omega arith)
-  below-less (suc l) r h = let before : l ≡ suc l - 1 = omega arith in ap (λ (x : ℕ). typedefRun settings s rows attrs n x r) before
+  below-less (suc l) r h = let before : l ≡ suc l - 1 = omega arith in ap (λ (x : ℕ). typedefRun settings (lentRows (settings .endian) s rows attrs n) x r) before
 
   whole : (l : ℕ) (x : Run) → x ≡ runOf (settings .endian) rows i
-      → attributesFrom settings s rows attrs n (belowOf l) l i x 0 (x .count) unknown ≡ typedefRun settings s rows attrs n l i
+      → attributesFrom settings (lentRows (settings .endian) s rows attrs n) (belowOf l) l i x 0 (x .count) unknown ≡ typedefRun settings (lentRows (settings .endian) s rows attrs n) l i
   unfolding typedefRun
-  whole zero x p = ap (λ (y : Run). attributesFrom settings s rows attrs n (belowOf zero) zero i y 0 (y .count) unknown) p
-  whole (suc l) x p = ap (λ (y : Run). attributesFrom settings s rows attrs n (belowOf (suc l)) (suc l) i y 0 (y .count) unknown) p
+  whole zero x p = ap (λ (y : Run). attributesFrom settings (lentRows (settings .endian) s rows attrs n) (belowOf zero) zero i y 0 (y .count) unknown) p
+  whole (suc l) x p = ap (λ (y : Run). attributesFrom settings (lentRows (settings .endian) s rows attrs n) (belowOf (suc l)) (suc l) i y 0 (y .count) unknown) p
 
   -- the attributes from j on, f being filled
   abbrev rest-from : ℕ → ℕ → Filling → Said Typedef
-  rest-from j m f = attributesFrom settings s rows attrs n (belowOf levels) levels i run j m (knownAt s attrs run j f)
+  rest-from j m f = attributesFrom settings (lentRows (settings .endian) s rows attrs n) (belowOf levels) levels i run j m (knownAt s attrs run j f)
 
   pub record Loop (f : Filling) (j : ℕ) : Type 0 where
     pub within : j ≤ run .count
-    pub rest : rest-from j (run .count - j) f ≡ typedefRun settings s rows attrs n levels i
+    pub rest : rest-from j (run .count - j) f ≡ typedefRun settings (lentRows (settings .endian) s rows attrs n) levels i
 
   pub begin : run ≡ runOf (settings .endian) rows i → Loop filling.Nothing 0
   begin p =
       record {
         within = omega arith;
         rest = ap (λ (m : ℕ). rest-from 0 m filling.Nothing) (sub-zero (run .count))
-            ∙ ap (attributesFrom settings s rows attrs n (belowOf levels) levels i run 0 (run .count)) (sym (known-none s attrs run)) ∙ whole levels run p;
+            ∙ ap (attributesFrom settings (lentRows (settings .endian) s rows attrs n) (belowOf levels) levels i run 0 (run .count)) (sym (known-none s attrs run)) ∙ whole levels run p;
       }
 
   module _ {f : Filling} {j : ℕ} (l : Loop f j) where
     pub done : {z : Said Typedef} → run ≡ runOf (settings .endian) rows i → run .count ≤ j
-        → z ≡ typedefEnd settings s rows attrs n i (knownOf s attrs (runOf (settings .endian) rows i) f) → z ≡ typedefRun settings s rows attrs n levels i
+        → z ≡ typedefEnd settings (lentRows (settings .endian) s rows attrs n) i (knownOf s attrs (runOf (settings .endian) rows i) f) → z ≡ typedefRun settings (lentRows (settings .endian) s rows attrs n) levels i
     unfolding attributesFrom
     done p h q =
         let inside : j ≤ run .count = l .within in
         let none : zero ≡ run .count - j = omega arith in
         let all : run .count ≡ j = omega arith in
-        q ∙ ap (λ (x : Run). typedefEnd settings s rows attrs n i (knownOf s attrs x f)) (sym p)
+        q ∙ ap (λ (x : Run). typedefEnd settings (lentRows (settings .endian) s rows attrs n) i (knownOf s attrs x f)) (sym p)
         ∙ ap (λ (x : ℕ). rest-from x zero f) all ∙ ap (λ (m : ℕ). rest-from j m f) none ∙ l .rest
 
     module _ {told : Pause} (is : saidPause told ≡ pauseFrom settings s rows attrs n run levels j) where
@@ -473,7 +474,7 @@ module _ (settings : Settings) (s rows attrs : List ℕ) (n levels i : ℕ) (run
                 ∙ sym (comes settings s rows attrs n (belowOf levels) levels i run j (l .within) is p f) ∙ l .rest;
           }
 
-      pub refused-here : {why : Refusal} → told ≡ pause.Refused why → refusal why ≡ typedefRun settings s rows attrs n levels i
+      pub refused-here : {why : Refusal} → told ≡ pause.Refused why → refusal why ≡ typedefRun settings (lentRows (settings .endian) s rows attrs n) levels i
       unfolding saidPause
       refused-here p = sym (comes settings s rows attrs n (belowOf levels) levels i run j (l .within) is p f) ∙ l .rest
 
@@ -486,7 +487,7 @@ module _ (settings : Settings) (s rows attrs : List ℕ) (n levels i : ℕ) (run
         pub level-left : 0 < levels
         level-left = paused .more
 
-        pub row-asked : Rows rows n → Asked rows n row
+        pub row-asked : RowsHold rows n → Asked rows n row
         row-asked table = record { table = table; there = paused .there }
 
         pub place-there : at < run .count
@@ -495,9 +496,9 @@ module _ (settings : Settings) (s rows attrs : List ℕ) (n levels i : ℕ) (run
         pub forward : run .count - (at + 1) < run .count - j
         forward = omega (arith, paused .behind, paused .within)
 
-        module _ {next : TypedefRead} (reads : saidTypedefRead next ≡ typedefRun settings s rows attrs n (levels - 1) row) where
+        module _ {next : TypedefRead} (reads : saidTypedefRead next ≡ typedefRun settings (lentRows (settings .endian) s rows attrs n) (levels - 1) row) where
           next-read : {what : TypedefRead} → next ≡ what
-              → (saidTypedefRead what >>= λ t. rest-from (at + 1) (run .count - (at + 1)) (firstFilling f t)) ≡ typedefRun settings s rows attrs n levels i
+              → (saidTypedefRead what >>= λ t. rest-from (at + 1) (run .count - (at + 1)) (firstFilling f t)) ≡ typedefRun settings (lentRows (settings .endian) s rows attrs n) levels i
           next-read q =
               goes-on saidTypedefRead (reads ∙ sym (below-less levels row (paused .more))) q _ refl ∙ sym (paused .goes f) ∙ l .rest
 
@@ -509,6 +510,6 @@ module _ (settings : Settings) (s rows attrs : List ℕ) (n levels i : ℕ) (run
                 rest = ap (rest-from (at + 1) (run .count - (at + 1))) h ∙ next-read q;
               }
 
-          pub refused-below : {why : Refusal} → next ≡ Refused why → refusal why ≡ typedefRun settings s rows attrs n levels i
+          pub refused-below : {why : Refusal} → next ≡ Refused why → refusal why ≡ typedefRun settings (lentRows (settings .endian) s rows attrs n) levels i
           unfolding saidTypedefRead _>>=_
           refused-below q = next-read q

@@ -9,7 +9,7 @@ use lib.ListN.{length, length-append}
 use lib.Seq.{sets}
 use lib.Dec.{leb}
 use borrow.Author.Tests.{leb-true}
-use Rattle.tables.specs.Table.{Table, table}
+use Rattle.tables.specs.Table.{Table, table, lentRows}
 use Rattle.lent.proofs.Laws.Filled.{sets-filled}
 use Rattle.lent.specs.Outcome.{Outcome, Given}
 use Rattle.format.specs.Said.{Said, gives, inRoom, fillsRoom}
@@ -44,13 +44,13 @@ module _ (settings : Settings) (vendors sizes s rows attrs : List ℕ) (counts :
   t = table s settings vendors sizes rows attrs counts
 
   abbrev union : ℕ → Said Union
-  union i = unionAt settings s rows attrs (counts .rows) i
+  union i = unionAt settings (lentRows (settings .endian) s rows attrs (counts .rows)) i
 
   abbrev members : ℕ → Said (List Placed)
-  members i = rowMembers settings s rows attrs (counts .rows) i
+  members i = rowMembers settings (lentRows (settings .endian) s rows attrs (counts .rows)) i
 
   abbrev into : ℕ → Outcome (Said Union) ℕ
-  into i = unionInto settings s rows attrs (counts .rows) room i
+  into i = unionInto settings (lentRows (settings .endian) s rows attrs (counts .rows)) room i
 
   abbrev fitting : Union → Bool
   fitting v = leb (v .members) (length room / memberWidth)

@@ -20,6 +20,7 @@ use Rattle.format.proofs.Laws.Said.{case-said, goes-on, goes-past, goes-in, giv
 use Rattle.format.specs.declared.settings.Settings.{Settings}
 use Rattle.format.specs.declared.refusal.Refusal.{Refusal}
 use Rattle.format.specs.declared.refusal.Reason.the-variants as reason
+use Rattle.tables.specs.Table.{lentRows}
 use Rattle.tables.specs.Row.{rowAt}
 use Rattle.tables.specs.Inside.Keyed.{refusedAt}
 use Rattle.tables.specs.declared.row.Row.{Row}
@@ -92,9 +93,9 @@ refused-most : {most number place : ℕ} {counts : List ℕ} (more : ℕ) → re
 refused-most more p = absurd (given-refused (sym p))
 
 module _ (settings : Settings) (s rows attrs : List ℕ) (n key c k : ℕ) (room : List ℕ) {row : Row} (at : row ≡ rowAt rows c) where
-  module _ (h : row .kind ≡ tag.Member) {told : MemberRead} (is : saidMemberRead told ≡ memberAt settings s rows attrs n c) where
+  module _ (h : row .kind ≡ tag.Member) {told : MemberRead} (is : saidMemberRead told ≡ memberAt settings (lentRows (settings .endian) s rows attrs n) c) where
     child-read : {x : MemberRead} → told ≡ x → (rest : Said (List Placed))
-        → childThen settings s rows attrs n key c rest ≡ (saidMemberRead x >>= withMember c rest)
+        → childThen settings (lentRows (settings .endian) s rows attrs n) key c rest ≡ (saidMemberRead x >>= withMember c rest)
     unfolding childThen memberThen
     child-read p rest =
         let test : eqb (rowAt rows c .kind) tag.Member ≡ true = eq-eqb (rowAt rows c .kind) tag.Member (ap (λ (r : Row). r .kind) (sym at) ∙ h) in
@@ -119,7 +120,7 @@ module _ (settings : Settings) (s rows attrs : List ℕ) (n key c k : ℕ) (room
     ignored-is = is ∙ ap (λ (r : Row). ignored (r .kind)) at
 
     child-other : (rest : Said (List Placed))
-        → childThen settings s rows attrs n key c rest ≡ cond (ignored (rowAt rows c .kind)) rest (refuse reason.Child key)
+        → childThen settings (lentRows (settings .endian) s rows attrs n) key c rest ≡ cond (ignored (rowAt rows c .kind)) rest (refuse reason.Child key)
     unfolding childThen
     child-other rest =
         let test : eqb (rowAt rows c .kind) tag.Member ≡ false = ne-eqb (rowAt rows c .kind) tag.Member (λ z. h (ap (λ (r : Row). r .kind) at ∙ z)) in
@@ -151,12 +152,12 @@ pub record Taking (settings : Settings) (s rows attrs : List ℕ) (n key end : �
   pub first : c ≡ firstOr n (kidsFrom (settings .endian) s rows attrs n end c)
   pub counted : k + length (kidsFrom (settings .endian) s rows attrs n end c) ≤ n
   pub same-room : length room ≡ length room₀
-  pub left : membersStored k room (membersFrom settings s rows attrs n key (kidsFrom (settings .endian) s rows attrs n end c)) ≡ membersStored 0 room₀ all
+  pub left : membersStored k room (membersFrom settings (lentRows (settings .endian) s rows attrs n) key (kidsFrom (settings .endian) s rows attrs n end c)) ≡ membersStored 0 room₀ all
 
 module _ (settings : Settings) (s rows attrs : List ℕ) (n : ℕ) where
-  pub taking-begins : (i : ℕ) (room : List ℕ) {row : Row} {end from c : ℕ} → row ≡ rowAt rows i → end ≡ siblingRow (settings .endian) s rows attrs n i
+  pub taking-begins : (i : ℕ) (room : List ℕ) {row : Row} {end from c : ℕ} → row ≡ rowAt rows i → end ≡ siblingRow (lentRows (settings .endian) s rows attrs n) i
       → from ≡ nextRow rows n i → EndsAt (settings .endian) s rows attrs n i → c ≡ firstOr n (kidsFrom (settings .endian) s rows attrs n end from)
-      → Taking settings s rows attrs n (row .key) end (membersFrom settings s rows attrs n (rowAt rows i .key) (kidsOf (settings .endian) s rows attrs n i)) room room c 0
+      → Taking settings s rows attrs n (row .key) end (membersFrom settings (lentRows (settings .endian) s rows attrs n) (rowAt rows i .key) (kidsOf (settings .endian) s rows attrs n i)) room room c 0
   taking-begins i room {row} {end} {from} {c} at p q w is =
       let begun : Ends (settings .endian) s rows attrs n end from = ends-at (settings .endian) s rows attrs n i p q (w .ending) in
       let few : length (kidsFrom (settings .endian) s rows attrs n end c) ≤ n = few-kids (settings .endian) s rows attrs n end c in
@@ -166,8 +167,8 @@ module _ (settings : Settings) (s rows attrs : List ℕ) (n : ℕ) where
         counted = omega arith;
         same-room = refl;
         left =
-            ap (λ (r : Row). membersStored 0 room (membersFrom settings s rows attrs n (r .key) (kidsFrom (settings .endian) s rows attrs n end c))) at
-            ∙ ap (λ (cs : List ℕ). membersStored 0 room (membersFrom settings s rows attrs n (rowAt rows i .key) cs))
+            ap (λ (r : Row). membersStored 0 room (membersFrom settings (lentRows (settings .endian) s rows attrs n) (r .key) (kidsFrom (settings .endian) s rows attrs n end c))) at
+            ∙ ap (λ (cs : List ℕ). membersStored 0 room (membersFrom settings (lentRows (settings .endian) s rows attrs n) (rowAt rows i .key) cs))
             (kids-same (settings .endian) s rows attrs n end begun is ∙ kids-at (settings .endian) s rows attrs n i p q);
       }
 
@@ -177,10 +178,10 @@ module _ {settings : Settings} {s rows attrs : List ℕ} {n key end : ℕ} {all 
   kidsAt x = kidsFrom (settings .endian) s rows attrs n end x
 
   abbrev after : ℕ → ℕ
-  after x = siblingRow (settings .endian) s rows attrs n x
+  after x = siblingRow (lentRows (settings .endian) s rows attrs n) x
 
   abbrev found : List ℕ → Said (List Placed)
-  found cs = membersFrom settings s rows attrs n key cs
+  found cs = membersFrom settings (lentRows (settings .endian) s rows attrs n) key cs
 
   -- no child is left
   pub taking-ends : n ≤ c → MembersStored all (saidCounted (counted.Count k)) room₀ room
@@ -259,29 +260,29 @@ module _ {settings : Settings} {s rows attrs : List ℕ} {n key end : ℕ} {all 
 
 -- ---- all children of a row
 
-pub members-ending : (e : Endian) (s rows attrs : List ℕ) (n i : ℕ) {told : Kids} {k : ℕ} → told ≡ gatheredInto rows 0 [] (childWalk e s rows attrs n i) .answer
+pub members-ending : (e : Endian) (s rows attrs : List ℕ) (n i : ℕ) {told : Kids} {k : ℕ} → told ≡ gatheredInto rows 0 [] (childWalk (lentRows e s rows attrs n) i) .answer
     → Asked rows n i → told ≡ kids.Count k → EndsAt e s rows attrs n i
 members-ending e s rows attrs n i is a p = record { asked = a; ending = counted-ends e s rows attrs n i is (a .table) p }
 
-module _ (settings : Settings) (s rows attrs : List ℕ) (n i : ℕ) {told : Kids} (is : told ≡ gatheredInto rows 0 [] (childWalk (settings .endian) s rows attrs n i) .answer) where
+module _ (settings : Settings) (s rows attrs : List ℕ) (n i : ℕ) {told : Kids} (is : told ≡ gatheredInto rows 0 [] (childWalk (lentRows (settings .endian) s rows attrs n) i) .answer) where
   pub members-walked : {k : ℕ} {r : Said ℕ} {room room′ : List ℕ} → told ≡ kids.Count k
-      → MembersStored (membersFrom settings s rows attrs n (rowAt rows i .key) (kidsOf (settings .endian) s rows attrs n i)) r room room′
-      → MembersStored (rowMembers settings s rows attrs n i) r room room′
+      → MembersStored (membersFrom settings (lentRows (settings .endian) s rows attrs n) (rowAt rows i .key) (kidsOf (settings .endian) s rows attrs n i)) r room room′
+      → MembersStored (rowMembers settings (lentRows (settings .endian) s rows attrs n) i) r room room′
   unfolding rowMembers membersBy
   members-walked {r = r} {room = room} {room′ = room′} p g =
-      let walk : childWalk (settings .endian) s rows attrs n i ≡ ends (rowsMet (childWalk (settings .endian) s rows attrs n i)) = counted-walk (settings .endian) s rows attrs n i is p in
+      let walk : childWalk (lentRows (settings .endian) s rows attrs n) i ≡ ends (rowsMet (childWalk (lentRows (settings .endian) s rows attrs n) i)) = counted-walk (settings .endian) s rows attrs n i is p in
       subst (λ (all : Said (List Placed)). MembersStored all r room room′)
-      (ap (membersFrom settings s rows attrs n (rowAt rows i .key)) (walk-kids (settings .endian) s rows attrs n i walk)
-      ∙ sym (ap (membersBy settings s rows attrs n (rowAt rows i .key)) walk))
+      (ap (membersFrom settings (lentRows (settings .endian) s rows attrs n) (rowAt rows i .key)) (walk-kids (settings .endian) s rows attrs n i walk)
+      ∙ sym (ap (membersBy settings (lentRows (settings .endian) s rows attrs n) (rowAt rows i .key)) walk))
       g
 
   pub members-endless : (room : List ℕ) {row : Row} {why : Refusal} → told ≡ kids.Endless → row ≡ rowAt rows i → why ≡ refusedAt (row .key) reason.Link
-      → MembersStored (rowMembers settings s rows attrs n i) (saidCounted (counted.Refused why)) room room
+      → MembersStored (rowMembers settings (lentRows (settings .endian) s rows attrs n) i) (saidCounted (counted.Refused why)) room room
   unfolding saidCounted rowMembers membersBy countOf _>>=_
   members-endless room {why = why} p at q =
-      let none : refusal why ≡ rowMembers settings s rows attrs n i =
+      let none : refusal why ≡ rowMembers settings (lentRows (settings .endian) s rows attrs n) i =
       ap refusal (q ∙ ap (λ (r : Row). refusedAt (r .key) reason.Link) at)
-      ∙ sym (ap (membersBy settings s rows attrs n (rowAt rows i .key)) (endless-walk (settings .endian) s rows attrs n i is p))
+      ∙ sym (ap (membersBy settings (lentRows (settings .endian) s rows attrs n) (rowAt rows i .key)) (endless-walk (settings .endian) s rows attrs n i is p))
       in
       record { answer-is = ap countOf none; room-is = λ ms e. absurd (given-refused (sym (none ∙ e))) }
 
@@ -303,34 +304,34 @@ counted-on (gives ms) next = refl
 counted-on (refuses number place counts) next = refl
 
 module _ (settings : Settings) (s rows attrs : List ℕ) (n i : ℕ) {told : Fault} (is : saidFault told ≡ headOf settings s rows attrs record′.Union i) where
-  module _ (clear : told ≡ fault.Clear) {taken : Counted} {room room′ : List ℕ} (g : MembersStored (rowMembers settings s rows attrs n i) (saidCounted taken) room room′) where
+  module _ (clear : told ≡ fault.Clear) {taken : Counted} {room room′ : List ℕ} (g : MembersStored (rowMembers settings (lentRows (settings .endian) s rows attrs n) i) (saidCounted taken) room room′) where
     read-counted : {x : Counted} {z : Said Union} → taken ≡ x → z ≡ (saidCounted x >>= unionSized s attrs (runOf (settings .endian) rows i))
-        → UnionStored (unionAt settings s rows attrs n i) (rowMembers settings s rows attrs n i) z room room′
+        → UnionStored (unionAt settings (lentRows (settings .endian) s rows attrs n) i) (rowMembers settings (lentRows (settings .endian) s rows attrs n) i) z room room′
     unfolding unionAt saidFault _>>_
     read-counted p h =
         record {
           answer-is =
               goes-past saidFault is clear _
               (goes-on saidCounted (g .answer-is) p (unionSized s attrs (runOf (settings .endian) rows i)) h
-              ∙ counted-on (rowMembers settings s rows attrs n i) (unionSized s attrs (runOf (settings .endian) rows i)));
+              ∙ counted-on (rowMembers settings (lentRows (settings .endian) s rows attrs n) i) (unionSized s attrs (runOf (settings .endian) rows i)));
           room-is = λ u e ms f. g .room-is ms f;
         }
 
     pub read-sized : {many : ℕ} {run : Run} {z : Said Union} → taken ≡ counted.Count many → run ≡ runOf (settings .endian) rows i → z ≡ unionSized s attrs run many
-        → UnionStored (unionAt settings s rows attrs n i) (rowMembers settings s rows attrs n i) z room room′
+        → UnionStored (unionAt settings (lentRows (settings .endian) s rows attrs n) i) (rowMembers settings (lentRows (settings .endian) s rows attrs n) i) z room room′
     unfolding saidCounted _>>=_
     read-sized {many} p q h = read-counted p (h ∙ ap (λ (x : Run). unionSized s attrs x many) q)
 
     pub read-refused : {why : Refusal} → taken ≡ counted.Refused why
-        → UnionStored (unionAt settings s rows attrs n i) (rowMembers settings s rows attrs n i) (saidUnionWhole (whole.Refused why)) room room′
+        → UnionStored (unionAt settings (lentRows (settings .endian) s rows attrs n) i) (rowMembers settings (lentRows (settings .endian) s rows attrs n) i) (saidUnionWhole (whole.Refused why)) room room′
     unfolding saidUnionWhole saidCounted _>>=_
     read-refused p = read-counted p refl
 
   pub read-faulty : (room : List ℕ) {why : Refusal} → told ≡ fault.Refused why
-      → UnionStored (unionAt settings s rows attrs n i) (rowMembers settings s rows attrs n i) (saidUnionWhole (whole.Refused why)) room room
+      → UnionStored (unionAt settings (lentRows (settings .endian) s rows attrs n) i) (rowMembers settings (lentRows (settings .endian) s rows attrs n) i) (saidUnionWhole (whole.Refused why)) room room
   unfolding saidUnionWhole unionAt saidFault _>>_
   read-faulty room {why} p =
-      let wrong : refusal why ≡ unionAt settings s rows attrs n i = goes-past saidFault is p _ refl in
+      let wrong : refusal why ≡ unionAt settings (lentRows (settings .endian) s rows attrs n) i = goes-past saidFault is p _ refl in
       record { answer-is = wrong; room-is = λ u e ms f. absurd (given-refused (sym (wrong ∙ e))) }
 
 -- the members that a union counts
@@ -345,44 +346,44 @@ sized-counts s attrs run many p =
     ap (λ (x : Union). x .members)
     (given-is (step-gave (wordNeeded (run .key) (wordOf s attrs run attribute.ByteSize)) (λ size. gives (union many size (nameOf s attrs run attribute.Name))) p .2))
 
-pub union-counts : (settings : Settings) (s rows attrs : List ℕ) (n i : ℕ) {u : Union} → unionAt settings s rows attrs n i ≡ gives u
-    → AsMany (rowMembers settings s rows attrs n i) u
+pub union-counts : (settings : Settings) (s rows attrs : List ℕ) (n i : ℕ) {u : Union} → unionAt settings (lentRows (settings .endian) s rows attrs n) i ≡ gives u
+    → AsMany (rowMembers settings (lentRows (settings .endian) s rows attrs n) i) u
 unfolding unionAt
 union-counts settings s rows attrs n i {u} p =
     let run : Run = runOf (settings .endian) rows i in
-    let all : (ms : List Placed) × (rowMembers settings s rows attrs n i ≡ gives ms) × (unionSized s attrs run (length ms) ≡ gives u) =
-    step-gave (rowMembers settings s rows attrs n i) (λ ms. unionSized s attrs run (length ms)) (past-gave (headOf settings s rows attrs record′.Union i) _ p)
+    let all : (ms : List Placed) × (rowMembers settings (lentRows (settings .endian) s rows attrs n) i ≡ gives ms) × (unionSized s attrs run (length ms) ≡ gives u) =
+    step-gave (rowMembers settings (lentRows (settings .endian) s rows attrs n) i) (λ ms. unionSized s attrs run (length ms)) (past-gave (headOf settings s rows attrs record′.Union i) _ p)
     in
     record { list = all .0; are = all .1; many = sized-counts s attrs run (length (all .0)) (all .2) }
 
 -- ---- into lent room
 
-module _ (settings : Settings) (s rows attrs : List ℕ) (n i : ℕ) (room : List ℕ) {told : UnionWhole} (is : saidUnionWhole told ≡ unionAt settings s rows attrs n i) {u : Union}
+module _ (settings : Settings) (s rows attrs : List ℕ) (n i : ℕ) (room : List ℕ) {told : UnionWhole} (is : saidUnionWhole told ≡ unionAt settings (lentRows (settings .endian) s rows attrs n) i) {u : Union}
     (p : told ≡ whole.Is u) where
-  read-is : unionAt settings s rows attrs n i ≡ gives u
+  read-is : unionAt settings (lentRows (settings .endian) s rows attrs n) i ≡ gives u
   unfolding saidUnionWhole
   read-is = sym (case-said saidUnionWhole is p)
 
-  these : AsMany (rowMembers settings s rows attrs n i) u
+  these : AsMany (rowMembers settings (lentRows (settings .endian) s rows attrs n) i) u
   these = union-counts settings s rows attrs n i read-is
 
   abbrev filling : List Placed → Outcome (Said Union) ℕ
   filling ms = fillsRoom (leb (u .members) (length room / memberWidth)) u (u .members ∷ []) (membersWords ms) room
 
   -- the union and its members are there: they fit, or not
-  give-in : {z : Said Union} {room′ : List ℕ} → Given (filling (these .list)) z room′ → Given (unionInto settings s rows attrs n room i) z room′
+  give-in : {z : Said Union} {room′ : List ℕ} → Given (filling (these .list)) z room′ → Given (unionInto settings (lentRows (settings .endian) s rows attrs n) room i) z room′
   unfolding unionInto saidUnionWhole inRoom
   give-in g = goes-in saidUnionWhole is p room _ (goes-in (λ (d : Said (List Placed)). d) refl (these .are) room filling g)
 
   pub give-filled : {z : Said Union} {room′ : List ℕ} → u .members ≤ length room / memberWidth
-      → UnionStored (unionAt settings s rows attrs n i) (rowMembers settings s rows attrs n i) z room room′
-      → Given (unionInto settings s rows attrs n room i) (saidUnionRead (Is u)) room′
+      → UnionStored (unionAt settings (lentRows (settings .endian) s rows attrs n) i) (rowMembers settings (lentRows (settings .endian) s rows attrs n) i) z room room′
+      → Given (unionInto settings (lentRows (settings .endian) s rows attrs n) room i) (saidUnionRead (Is u)) room′
   unfolding saidUnionRead
   give-filled h g =
       give-in
       (fills u (u .members ∷ []) (membersWords (these .list)) room (le-leb (u .members) (length room / memberWidth) h) refl
       (g .room-is u read-is (these .list) (these .are)))
 
-  pub give-unfit : length room / memberWidth < u .members → Given (unionInto settings s rows attrs n room i) (saidUnionRead (Room (u .members))) room
+  pub give-unfit : length room / memberWidth < u .members → Given (unionInto settings (lentRows (settings .endian) s rows attrs n) room i) (saidUnionRead (Room (u .members))) room
   unfolding saidUnionRead
   give-unfit h = give-in (wants u (u .members ∷ []) (membersWords (these .list)) room (lt-leb (u .members) (length room / memberWidth) h) refl refl)

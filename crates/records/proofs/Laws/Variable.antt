@@ -8,6 +8,7 @@ use Rattle.format.specs.AttributeKind as attribute
 use Rattle.format.specs.TagKind as tag
 use Rattle.format.specs.declared.settings.Settings.{Settings}
 use Rattle.blocks.specs.declared.types.Type.{«Type»}
+use Rattle.tables.specs.Table.{lentRows}
 use Rattle.tables.specs.Row.{rowAt}
 use Rattle.tables.specs.declared.row.Row.{Row}
 use Rattle.records.specs.Scan.{runOf}
@@ -37,8 +38,8 @@ unfolding saidVariableRead
 variable-whole s attrs run role local of p q h = rw (p, q, h)
 
 pub variable-clear : (settings : Settings) (s rows attrs : List ℕ) (n i : ℕ) {told : Fault} {run : Run} {row : Row} {r : Said Variable}
-    → saidFault told ≡ frontOf settings s rows attrs n record′.Variable i → told ≡ Clear → run ≡ runOf (settings .endian) rows i → row ≡ rowAt rows i
-    → r ≡ variableFields s attrs run (settings .roles .mangled) (eqb (row .kind) tag.LocalVariable) → r ≡ variableAt settings s rows attrs n i
+    → saidFault told ≡ frontOf settings (lentRows (settings .endian) s rows attrs n) record′.Variable i → told ≡ Clear → run ≡ runOf (settings .endian) rows i → row ≡ rowAt rows i
+    → r ≡ variableFields s attrs run (settings .roles .mangled) (eqb (row .kind) tag.LocalVariable) → r ≡ variableAt settings (lentRows (settings .endian) s rows attrs n) i
 unfolding variableAt
 variable-clear settings s rows attrs n i {run = run} is p q at h =
     fields-said (λ (x : Run). variableFields s attrs x (settings .roles .mangled) (eqb (rowAt rows i .kind) tag.LocalVariable)) is p q

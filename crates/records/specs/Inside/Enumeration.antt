@@ -4,6 +4,7 @@ use mathlib.Core.Path.{_≡_}
 use mathlib.Core.List.{List}
 use lib.ListN.{length}
 use lib.IntN.{ℤ}
+use Rattle.tables.specs.Table.{lentRows}
 use Rattle.format.specs.Limits.{sectionLimit}
 use Rattle.format.specs.Said.{Said, gives, refusal, _>>_}
 use Rattle.format.specs.declared.settings.Settings.{Settings}
@@ -75,7 +76,7 @@ module _ (settings : Settings) (s attrs : List ℕ) (run : Run) where
 -- after the attributes: no children, then a ByteSize
 unfoldable pub enumerationEnd : Settings → List ℕ → List ℕ → List ℕ → ℕ → ℕ → ℕ → Said Enumeration
 enumerationEnd settings s rows attrs n i many = do
-  childlessFault rows i (childWalk (settings .endian) s rows attrs n i)
+  childlessFault rows i (childWalk (lentRows (settings .endian) s rows attrs n) i)
   enumerationSized s attrs (runOf (settings .endian) rows i) many
 
 -- the whole enumeration

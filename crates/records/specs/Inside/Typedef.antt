@@ -7,6 +7,7 @@ use lib.Dec.{leb}
 use Rattle.format.specs.AttributeKind as attribute
 use Rattle.format.specs.Said.{Said, gives, refusal, _>>=_}
 use Rattle.format.specs.declared.settings.Settings.{Settings}
+use Rattle.tables.specs.Table.{lentRows}
 use Rattle.tables.specs.declared.find.Found.{Found}
 use Rattle.tables.specs.declared.find.Found.the-variants as found
 use Rattle.records.specs.Inside.Scan.{scanFrom}
@@ -93,7 +94,7 @@ typedefFields key known = do
 module _ (settings : Settings) (s rows attrs : List ℕ) (n : ℕ) (run : Run) (levels : ℕ) where
   -- where the scan stopped: after the last attribute, or at a specification
   unfoldable pub pauseAt : ℕ → Said Reached
-  pauseAt j = cond (leb (run .count) j) (gives over) (specified settings s rows attrs n run levels j >>= λ r. gives (meets j r))
+  pauseAt j = cond (leb (run .count) j) (gives over) (specified settings (lentRows (settings .endian) s rows attrs n) run levels j >>= λ r. gives (meets j r))
 
   -- from attribute j on
   unfoldable pub pauseFrom : ℕ → Said Reached

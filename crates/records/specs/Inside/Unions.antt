@@ -4,6 +4,7 @@ use mathlib.Core.Path.{_≡_}
 use mathlib.Core.List.{List, []}
 use lib.ListN.{length}
 use lib.Seq.{sets}
+use Rattle.tables.specs.Table.{lentRows}
 use Rattle.lent.specs.Outcome.{Outcome, outcome}
 use Rattle.numbers.specs.declared.Endian.{Endian}
 use Rattle.format.specs.Said.{Said, gives, _>>=_, inRoom, refusal}
@@ -30,7 +31,7 @@ pub record TakeAsked (rows : List ℕ) (n c k : ℕ) : Type 0 where
 -- a row whose child walk ends
 pub record EndsAt (e : Endian) (s rows attrs : List ℕ) (n i : ℕ) : Type 0 where
   pub asked : Asked rows n i
-  pub ending : Ends e s rows attrs n (siblingRow e s rows attrs n i) (nextRow rows n i)
+  pub ending : Ends e s rows attrs n (siblingRow (lentRows e s rows attrs n) i) (nextRow rows n i)
 
 -- how many there are
 unfoldable pub countOf : Said (List Placed) → Said ℕ
@@ -48,7 +49,7 @@ storedOn counted room rest = inRoom [] counted (λ k. membersStored k room rest)
 
 -- one child, whatever comes after it
 pub record TakesMember (settings : Settings) (s rows attrs : List ℕ) (n key c k : ℕ) (r : Said ℕ) (room room′ : List ℕ) : Type 0 where
-  pub turn : (rest : Said (List Placed)) → membersStored k room (childThen settings s rows attrs n key c rest) ≡ storedOn r room′ rest
+  pub turn : (rest : Said (List Placed)) → membersStored k room (childThen settings (lentRows (settings .endian) s rows attrs n) key c rest) ≡ storedOn r room′ rest
   pub one-more : (more : ℕ) → r ≡ gives more → more ≤ k + 1
   pub same-room : length room′ ≡ length room
 

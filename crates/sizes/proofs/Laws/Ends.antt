@@ -9,6 +9,7 @@ use Rattle.format.specs.Said.{Said, gives, refuses, _>>=_}
 use Rattle.format.proofs.Laws.Said.{given-is, step-gave}
 use Rattle.format.specs.declared.settings.Settings.{Settings}
 use Rattle.blocks.specs.declared.types.Type.{«Type»}
+use Rattle.tables.specs.Table.{lentRows}
 use Rattle.tables.specs.Row.{rowAt}
 use Rattle.records.specs.Member.{memberAt}
 use Rattle.records.specs.Unions.{Placed, memberThen}
@@ -45,25 +46,25 @@ module _ (settings : Settings) (s rows attrs : List ℕ) (n : ℕ) (typeSize : �
         sized-then f (λ x. endsFrom rows typeSize x xs) (same xs q) rows c largest (m .offset) (sizeOr typeSize (m .of) (m .«byte_size»))
         ∙ ap (endsFrom rows typeSize largest) (given-is r)
 
-    member-then : memberThen settings s rows attrs n c rest ≡ gives ms → from (memberAt settings s rows attrs n c) ≡ endsFrom rows typeSize largest ms
+    member-then : memberThen settings (lentRows (settings .endian) s rows attrs n) c rest ≡ gives ms → from (memberAt settings (lentRows (settings .endian) s rows attrs n) c) ≡ endsFrom rows typeSize largest ms
     unfolding memberThen
     member-then p =
-        let here = step-gave (memberAt settings s rows attrs n c) _ p in
+        let here = step-gave (memberAt settings (lentRows (settings .endian) s rows attrs n) c) _ p in
         let those = step-gave rest _ (here .2) in
         ap from (here .1) ∙ read-then (here .0) (those .0) (those .1) (those .2)
 
     -- a child of whatever kind
-    child-then : (b : Bool) → cond b (memberThen settings s rows attrs n c rest) rest ≡ gives ms
+    child-then : (b : Bool) → cond b (memberThen settings (lentRows (settings .endian) s rows attrs n) c rest) rest ≡ gives ms
         → (cond b (memberAdded settings s rows attrs n typeSize c >>= λ (x : Extent). grown rows c largest (x .offset) (x .size)) (gives largest) >>= f)
         ≡ endsFrom rows typeSize largest ms
     unfolding memberAdded _>>=_
     child-then true p = member-then p
     child-then false p = same ms p largest
 
-  pub ends-members : (largest : ℕ) (cs : List ℕ) {ms : List Placed} → memberRowsFrom settings s rows attrs n cs ≡ gives ms
+  pub ends-members : (largest : ℕ) (cs : List ℕ) {ms : List Placed} → memberRowsFrom settings (lentRows (settings .endian) s rows attrs n) cs ≡ gives ms
       → endsOver settings s rows attrs n typeSize largest cs ≡ endsFrom rows typeSize largest ms
   unfolding memberRowsFrom memberChildThen endsOver childEnd endsFrom
   ends-members largest [] p = ap (endsFrom rows typeSize largest) (given-is p)
   ends-members largest (c ∷ cs) {ms} p =
-      child-then c largest (λ next. endsOver settings s rows attrs n typeSize next cs) (memberRowsFrom settings s rows attrs n cs) ms
+      child-then c largest (λ next. endsOver settings s rows attrs n typeSize next cs) (memberRowsFrom settings (lentRows (settings .endian) s rows attrs n) cs) ms
       (λ xs q x. ends-members x cs q) (eqb (rowAt rows c .kind) tag.Member) p

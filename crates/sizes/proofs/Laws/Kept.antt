@@ -20,6 +20,7 @@ use Rattle.format.specs.declared.refusal.Reason.the-variants as reason
 use Rattle.blocks.specs.declared.types.Type.{«Type»}
 use Rattle.blocks.specs.declared.types.TypeKind.{TypeKind}
 use Rattle.blocks.specs.declared.types.TypeKind.the-variants as kind
+use Rattle.tables.specs.Table.{lentRows}
 use Rattle.tables.specs.Row.{rowAt}
 use Rattle.tables.specs.Find.{rowOfKey}
 use Rattle.tables.specs.Keyed.{foundRow}
@@ -70,11 +71,11 @@ kept-offset known kept c at {offset} p q h k = goes-on saidSized at p _ (k ∙ a
 
 module _ {e : Endian} {s rows attrs : List ℕ} {n : ℕ} {kept : List ℕ} (w : SiblingsKept e s rows attrs n kept) (c : ℕ) (l : c < n) (h : 0 < length kept)
     {told : Sized} (at : saidSized told ≡ knownAt kept (c * 3 + 2)) where
-  pub sibling-kept : {r : ℕ} → told ≡ Is r → r ≡ siblingRow e s rows attrs n c
+  pub sibling-kept : {r : ℕ} → told ≡ Is r → r ≡ siblingRow (lentRows e s rows attrs n) c
   unfolding saidSized
   sibling-kept p = given-is (case-said saidSized at p ∙ w .sibling c l h)
 
-  pub sibling-there : {why : Refusal} {r : ℕ} → told ≡ Refused why → r ≡ siblingRow e s rows attrs n c
+  pub sibling-there : {why : Refusal} {r : ℕ} → told ≡ Refused why → r ≡ siblingRow (lentRows e s rows attrs n) c
   unfolding saidSized
   sibling-there p = absurd (given-refused (sym (case-said saidSized at p ∙ w .sibling c l h)))
 
@@ -141,9 +142,9 @@ module _ {settings : Settings} {sizes s rows attrs : List ℕ} {n : ℕ} {known 
   member-kept levels p =
       p
       ∙ ap (λ (x : Said ℕ). addedBy known x (knownAt kept (c * 3 + 1))) (w .all-kept .parts .rows-kept .faults .first c (w .asked .asked .there) h (w .is-member))
-      ∙ ap (addedBy known (firstOf (memberAt settings s rows attrs n c))) (w .all-kept .parts .second c (w .asked .asked .there) h (w .is-member))
-      ∙ read-kept sizes rows n known (memberAt settings s rows attrs n c)
-      ∙ ap (λ (entry : ℕ → Said ℕ). memberAt settings s rows attrs n c >>= addedOf sizes rows n known entry) (entry-known levels)
+      ∙ ap (addedBy known (firstOf (memberAt settings (lentRows (settings .endian) s rows attrs n) c))) (w .all-kept .parts .second c (w .asked .asked .there) h (w .is-member))
+      ∙ read-kept sizes rows n known (memberAt settings (lentRows (settings .endian) s rows attrs n) c)
+      ∙ ap (λ (entry : ℕ → Said ℕ). memberAt settings (lentRows (settings .endian) s rows attrs n) c >>= addedOf sizes rows n known entry) (entry-known levels)
 
 -- ---- faults
 
@@ -163,7 +164,7 @@ module _ {settings : Settings} {s rows attrs : List ℕ} {n : ℕ} {kept : List 
   unfolding faultKept memberFault
   member-fault-kept w c l {row} at k p =
       test-passed (ap (λ (x : Row). eqb (x .kind) tag.Member) at) _ (eq-eqb (row .kind) tag.Member k)
-      (p ∙ ap sizeFault (w .first c l h (ap (λ (x : Row). x .kind) (sym at) ∙ k)) ∙ read-fault (memberAt settings s rows attrs n c))
+      (p ∙ ap sizeFault (w .first c l h (ap (λ (x : Row). x .kind) (sym at) ∙ k)) ∙ read-fault (memberAt settings (lentRows (settings .endian) s rows attrs n) c))
 
   pub structure-fault-kept : {i : ℕ} → StructureAsked settings s rows attrs n kept i → {z : Said Unit} → z ≡ faultKept kept i → z ≡ structureFault settings s rows attrs n i
   unfolding faultKept

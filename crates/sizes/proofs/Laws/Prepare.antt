@@ -19,6 +19,7 @@ use Rattle.blocks.specs.Subscripts.{Array, saidCounted, countSubscripts}
 use Rattle.blocks.specs.declared.types.Type.{«Type»}
 use Rattle.blocks.specs.declared.subscripts.Counted.{Counted}
 use Rattle.blocks.specs.declared.subscripts.Counted.the-variants as counted
+use Rattle.tables.specs.Table.{lentRows}
 use Rattle.tables.specs.Row.{rowAt}
 use Rattle.tables.specs.Inside.Keyed.{refusedAt}
 use Rattle.tables.specs.declared.row.Row.{Row}
@@ -189,7 +190,7 @@ module _ {s attrs : List ℕ} {run : Run} {j : ℕ} {last : Prepared} (w : Prepa
 
 module _ (settings : Settings) (s rows attrs : List ℕ) (n : ℕ) where
   module _ (c : ℕ) {row : Row} (at : row ≡ rowAt rows c) where
-    module _ (h : row .kind ≡ tag.Member) {told : MemberRead} (is : saidMemberRead told ≡ memberAt settings s rows attrs n c) where
+    module _ (h : row .kind ≡ tag.Member) {told : MemberRead} (is : saidMemberRead told ≡ memberAt settings (lentRows (settings .endian) s rows attrs n) c) where
       member-is : {x : MemberRead} {z : Said Unit} → told ≡ x → z ≡ (saidMemberRead x >> gives tt) → z ≡ memberFault settings s rows attrs n c
       unfolding memberFault
       member-is p g =
@@ -221,7 +222,7 @@ module _ (settings : Settings) (s rows attrs : List ℕ) (n : ℕ) where
     unfolding membersFault saidFault _>>_
     members-refused p cs = goes-past saidFault is p (membersFault settings s rows attrs n cs) refl
 
-  module _ (i : ℕ) {told : Kids} (is : told ≡ gatheredInto rows 0 [] (childWalk (settings .endian) s rows attrs n i) .answer) where
+  module _ (i : ℕ) {told : Kids} (is : told ≡ gatheredInto rows 0 [] (childWalk (lentRows (settings .endian) s rows attrs n) i) .answer) where
     pub structure-walked : {k : ℕ} {z : Said Unit} → told ≡ kids.Count k → z ≡ membersFault settings s rows attrs n (kidsOf (settings .endian) s rows attrs n i)
         → z ≡ structureFault settings s rows attrs n i
     unfolding structureFault walkFault
@@ -311,30 +312,30 @@ fault-refused (gives ms) p = absurd (given-refused p)
 fault-refused (refuses number place counts) p = ap (λ (d : Said Unit). d >> gives []) p
 
 module _ (settings : Settings) (s rows attrs : List ℕ) (n : ℕ) where
-  children-fault : (cs : List ℕ) → membersFault settings s rows attrs n cs ≡ faultIn (memberRowsFrom settings s rows attrs n cs)
+  children-fault : (cs : List ℕ) → membersFault settings s rows attrs n cs ≡ faultIn (memberRowsFrom settings (lentRows (settings .endian) s rows attrs n) cs)
   unfolding membersFault memberFault memberRowsFrom memberChildThen memberThen _>>_
   children-fault [] = refl
   children-fault (c ∷ cs) =
       ap (λ (d : Said Unit). memberFault settings s rows attrs n c >> d) (children-fault cs)
-      ∙ child-fault (eqb (rowAt rows c .kind) tag.Member) c (memberAt settings s rows attrs n c) (memberRowsFrom settings s rows attrs n cs)
+      ∙ child-fault (eqb (rowAt rows c .kind) tag.Member) c (memberAt settings (lentRows (settings .endian) s rows attrs n) c) (memberRowsFrom settings (lentRows (settings .endian) s rows attrs n) cs)
 
-  walk-fault : (i : ℕ) (w : Walk) → walkFault settings s rows attrs n i w ≡ faultIn (memberRowsBy settings s rows attrs n (rowAt rows i .key) w)
+  walk-fault : (i : ℕ) (w : Walk) → walkFault settings s rows attrs n i w ≡ faultIn (memberRowsBy settings (lentRows (settings .endian) s rows attrs n) (rowAt rows i .key) w)
   unfolding walkFault memberRowsBy _>>_
   walk-fault i (ends cs) = children-fault (nonNull rows cs)
   walk-fault i endless = refl
 
-  same-fault : (i : ℕ) → structureFault settings s rows attrs n i ≡ faultIn (membersOf settings s rows attrs n i)
+  same-fault : (i : ℕ) → structureFault settings s rows attrs n i ≡ faultIn (membersOf settings (lentRows (settings .endian) s rows attrs n) i)
   unfolding structureFault membersOf
-  same-fault i = walk-fault i (childWalk (settings .endian) s rows attrs n i)
+  same-fault i = walk-fault i (childWalk (lentRows (settings .endian) s rows attrs n) i)
 
   -- no fault: all members were read
-  pub fault-members : (i : ℕ) → structureFault settings s rows attrs n i ≡ gives tt → AllRead (membersOf settings s rows attrs n i)
-  fault-members i p = clear-read (membersOf settings s rows attrs n i) (sym (same-fault i) ∙ p)
+  pub fault-members : (i : ℕ) → structureFault settings s rows attrs n i ≡ gives tt → AllRead (membersOf settings (lentRows (settings .endian) s rows attrs n) i)
+  fault-members i p = clear-read (membersOf settings (lentRows (settings .endian) s rows attrs n) i) (sym (same-fault i) ∙ p)
 
   -- a fault: they are refused for it
   pub refused-members : (i : ℕ) {number place : ℕ} {counts : List ℕ} → structureFault settings s rows attrs n i ≡ refuses number place counts
-      → membersOf settings s rows attrs n i ≡ refuses number place counts
-  refused-members i p = fault-refused (membersOf settings s rows attrs n i) (sym (same-fault i) ∙ p)
+      → membersOf settings (lentRows (settings .endian) s rows attrs n) i ≡ refuses number place counts
+  refused-members i p = fault-refused (membersOf settings (lentRows (settings .endian) s rows attrs n) i) (sym (same-fault i) ∙ p)
 
 -- ---- what was prepared, with the sizes of types
 
@@ -363,7 +364,7 @@ module _ (settings : Settings) (s rows attrs : List ℕ) (n : ℕ) (typeSize : �
       let last : Found = lastOf (sought.Number attribute.SubscrData) attrs run in
       past-bind faults (lastPrepared s attrs run last) finish ∙ ap (λ (d : Said ℕ). faults >> d) (last-finished last)
 
-  members-finished : (all : Said (List Placed)) (w : Word) → membersOf settings s rows attrs n i ≡ all
+  members-finished : (all : Said (List Placed)) (w : Word) → membersOf settings (lentRows (settings .endian) s rows attrs n) i ≡ all
       → ((faultIn all >> gives (sizePrepared settings s rows attrs n w)) >>= finish) ≡ (all >>= λ ms. sizeOrEnds rows typeSize ms w)
   unfolding finished sizePrepared sizeOrEnds _>>=_ _>>_
   members-finished (gives ms) (word.Is x) p = refl
@@ -371,24 +372,24 @@ module _ (settings : Settings) (s rows attrs : List ℕ) (n : ℕ) (typeSize : �
   members-finished (refuses number place counts) w p = refl
 
   structure-finished : (preparedStructure settings s rows attrs n i >>= finish)
-      ≡ (membersOf settings s rows attrs n i >>= λ ms. sizeOrEnds rows typeSize ms (wordOf s attrs run attribute.ByteSize))
+      ≡ (membersOf settings (lentRows (settings .endian) s rows attrs n) i >>= λ ms. sizeOrEnds rows typeSize ms (wordOf s attrs run attribute.ByteSize))
   unfolding preparedStructure
   structure-finished =
       ap (λ (f : Said Unit). (f >> gives (sizePrepared settings s rows attrs n (wordOf s attrs run attribute.ByteSize))) >>= finish)
       (same-fault settings s rows attrs n i)
-      ∙ members-finished (membersOf settings s rows attrs n i) (wordOf s attrs run attribute.ByteSize) refl
+      ∙ members-finished (membersOf settings (lentRows (settings .endian) s rows attrs n) i) (wordOf s attrs run attribute.ByteSize) refl
 
-  shape-finished : (x : Shape) → (preparedShape settings s rows attrs n i x >>= finish) ≡ shapeSize settings s rows attrs n typeSize i x
+  shape-finished : (x : Shape) → (preparedShape settings s rows attrs n i x >>= finish) ≡ shapeSize settings (lentRows (settings .endian) s rows attrs n) typeSize i x
   unfolding preparedShape preparedEnumeration preparedUnion preparedPointer shapeSize finished _>>=_
   shape-finished shape.Array = array-finished
   shape-finished shape.Structure = structure-finished
-  shape-finished shape.Enumeration = bind-bind (enumerationAt settings s rows attrs n i) (λ e. gives (sized (e .«byte_size»))) finish
-  shape-finished shape.Union = bind-bind (unionAt settings s rows attrs n i) (λ u. gives (sized (u .«byte_size»))) finish
-  shape-finished shape.PtrToMember = past-bind (ptrAt settings s rows attrs n i) (gives (sized 4)) finish
+  shape-finished shape.Enumeration = bind-bind (enumerationAt settings (lentRows (settings .endian) s rows attrs n) i) (λ e. gives (sized (e .«byte_size»))) finish
+  shape-finished shape.Union = bind-bind (unionAt settings (lentRows (settings .endian) s rows attrs n) i) (λ u. gives (sized (u .«byte_size»))) finish
+  shape-finished shape.PtrToMember = past-bind (ptrAt settings (lentRows (settings .endian) s rows attrs n) i) (gives (sized 4)) finish
   shape-finished shape.Subroutine = refl
   shape-finished shape.Other = refl
 
   -- it is the size
-  pub prepared-size : (preparedRow settings s rows attrs n i >>= finished settings s rows attrs n typeSize i) ≡ rowSize settings s rows attrs n typeSize i
+  pub prepared-size : (preparedRow settings s rows attrs n i >>= finished settings s rows attrs n typeSize i) ≡ rowSize settings (lentRows (settings .endian) s rows attrs n) typeSize i
   unfolding preparedRow rowSize
   prepared-size = shape-finished (shapeOf (rowAt rows i .kind))

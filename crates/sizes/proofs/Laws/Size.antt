@@ -7,7 +7,7 @@ use mathlib.Core.List.{List, [], _∷_}
 use lib.ListN.{length, getD}
 use lib.Dec.{eqb, ltb}
 use borrow.Author.Tests.{eq-eqb, ne-eqb, le-leb, lt-leb, lt-ltb, le-ltb}
-use Rattle.tables.specs.Table.{table}
+use Rattle.tables.specs.Table.{table, lentRows}
 use Rattle.numbers.proofs.Laws.Tests.{cond-all}
 use Rattle.format.specs.Lookup.{indexOf}
 use Rattle.format.specs.FundType.{fundTypes}
@@ -71,7 +71,7 @@ use Rattle.sizes.specs.declared.sized.Sized.the-variants.{Is, Refused}
 -- ---- what a member adds
 
 module _ (settings : Settings) (s rows attrs : List ℕ) (n : ℕ) (sizeOf : «Type» → Said ℕ) (c : ℕ) {told : MemberRead}
-    (is : saidMemberRead told ≡ memberAt settings s rows attrs n c) {m : Member} (p : told ≡ read.Is m) where
+    (is : saidMemberRead told ≡ memberAt settings (lentRows (settings .endian) s rows attrs n) c) {m : Member} (p : told ≡ read.Is m) where
   pub added-own : {size : ℕ} → m .«byte_size» ≡ word.Is size → saidAdded (added.Is (m .offset) size) ≡ memberAdded settings s rows attrs n sizeOf c
   unfolding memberAdded saidAdded saidMemberRead withSize sizeOr _>>=_
   added-own q = goes-on saidMemberRead is p _ (by-case (λ (w : Word). withSize (m .offset) (sizeOr sizeOf (m .of) w)) q refl)
@@ -170,9 +170,9 @@ module _ (settings : Settings) (s rows attrs : List ℕ) (n i : ℕ) where
   unfolding preparedShape preparedStructure preparedEnumeration preparedUnion preparedPointer
   shape-clear shape.Array p = absurd (array-other s attrs (runOf (settings .endian) rows i) p)
   shape-clear shape.Structure p = tests-gave (structureFault settings s rows attrs n i) _ p .0
-  shape-clear shape.Enumeration p = absurd (other (λ h. h) (step-gave (enumerationAt settings s rows attrs n i) _ p .2))
-  shape-clear shape.Union p = absurd (other (λ h. h) (step-gave (unionAt settings s rows attrs n i) _ p .2))
-  shape-clear shape.PtrToMember p = absurd (other (λ h. h) (past-gave (ptrAt settings s rows attrs n i) _ p))
+  shape-clear shape.Enumeration p = absurd (other (λ h. h) (step-gave (enumerationAt settings (lentRows (settings .endian) s rows attrs n) i) _ p .2))
+  shape-clear shape.Union p = absurd (other (λ h. h) (step-gave (unionAt settings (lentRows (settings .endian) s rows attrs n) i) _ p .2))
+  shape-clear shape.PtrToMember p = absurd (other (λ h. h) (past-gave (ptrAt settings (lentRows (settings .endian) s rows attrs n) i) _ p))
   shape-clear shape.Subroutine p = absurd (other (λ h. h) p)
   shape-clear shape.Other p = absurd (given-refused (sym p))
 
@@ -182,7 +182,7 @@ module _ (settings : Settings) (s rows attrs : List ℕ) (n i : ℕ) where
   walk-ending endless p = absurd (given-refused (sym p))
 
   -- where the walk ends, the members are those among the children
-  pub walk-members : (key : ℕ) (w : Walk) → isEnding w ≡ true → memberRowsFrom settings s rows attrs n (nonNull rows (rowsMet w)) ≡ memberRowsBy settings s rows attrs n key w
+  pub walk-members : (key : ℕ) (w : Walk) → isEnding w ≡ true → memberRowsFrom settings (lentRows (settings .endian) s rows attrs n) (nonNull rows (rowsMet w)) ≡ memberRowsBy settings (lentRows (settings .endian) s rows attrs n) key w
   unfolding isEnding rowsMet memberRowsBy
   walk-members key (ends cs) p = refl
   walk-members key endless p = absurd (true≢false (sym p))
@@ -193,13 +193,13 @@ module _ (settings : Settings) (s rows attrs : List ℕ) (n i : ℕ) where
       unfolding preparedRow saidPrepared
       row-clear = shape-clear (shapeOf (rowAt rows i .kind)) (sym (case-said saidPrepared is p))
 
-      row-ending : isEnding (childWalk (settings .endian) s rows attrs n i) ≡ true
+      row-ending : isEnding (childWalk (lentRows (settings .endian) s rows attrs n) i) ≡ true
       unfolding structureFault
-      row-ending = walk-ending (childWalk (settings .endian) s rows attrs n i) row-clear
+      row-ending = walk-ending (childWalk (lentRows (settings .endian) s rows attrs n) i) row-clear
 
-      row-members : memberRowsFrom settings s rows attrs n (kidsOf (settings .endian) s rows attrs n i) ≡ membersOf settings s rows attrs n i
+      row-members : memberRowsFrom settings (lentRows (settings .endian) s rows attrs n) (kidsOf (settings .endian) s rows attrs n i) ≡ membersOf settings (lentRows (settings .endian) s rows attrs n) i
       unfolding kidsOf kidsFrom walkOn childWalk membersOf
-      row-members = walk-members (rowAt rows i .key) (childWalk (settings .endian) s rows attrs n i) row-ending
+      row-members = walk-members (rowAt rows i .key) (childWalk (lentRows (settings .endian) s rows attrs n) i) row-ending
 
       pub ends-asked : AskedShort s rows n i → EndsShort settings s rows attrs n i
       unfolding walkOn childWalk
@@ -208,19 +208,19 @@ module _ (settings : Settings) (s rows attrs : List ℕ) (n i : ℕ) where
 
     module _ (sizeOf : «Type» → Said ℕ) where
       pub row-is : {x : Prepared} {z : Said ℕ} → told ≡ x → z ≡ (saidPrepared x >>= finished settings s rows attrs n sizeOf i)
-          → z ≡ rowSize settings s rows attrs n sizeOf i
+          → z ≡ rowSize settings (lentRows (settings .endian) s rows attrs n) sizeOf i
       row-is q h = goes-on saidPrepared is q _ h ∙ prepared-size settings s rows attrs n sizeOf i
 
       pub row-element : {t : «Type»} {k : ℕ} → told ≡ prepared.Element t k → {size x : Sized} {z : Said ℕ} → saidSized size ≡ sizeOf t → size ≡ x
-          → z ≡ (saidSized x >>= arrayProduct settings s rows attrs i k) → z ≡ rowSize settings s rows attrs n sizeOf i
+          → z ≡ (saidSized x >>= arrayProduct settings s rows attrs i k) → z ≡ rowSize settings (lentRows (settings .endian) s rows attrs n) sizeOf i
       unfolding finished saidPrepared arrayProduct runOf endsOf _>>=_
       row-element {t} {k} q p u v = row-is q (goes-on saidSized p u (arrayProduct settings s rows attrs i k) v)
 
       pub row-ends : {z : Said ℕ} → told ≡ prepared.Ends → z ≡ endsOver settings s rows attrs n sizeOf 0 (kidsOf (settings .endian) s rows attrs n i)
-          → z ≡ rowSize settings s rows attrs n sizeOf i
+          → z ≡ rowSize settings (lentRows (settings .endian) s rows attrs n) sizeOf i
       unfolding finished saidPrepared _>>=_
       row-ends q v =
-          let all : AllRead (membersOf settings s rows attrs n i) = fault-members settings s rows attrs n i (row-clear q) in
+          let all : AllRead (membersOf settings (lentRows (settings .endian) s rows attrs n) i) = fault-members settings s rows attrs n i (row-clear q) in
           row-is q
           (v ∙ ends-members settings s rows attrs n sizeOf 0 (kidsOf (settings .endian) s rows attrs n i) (row-members q ∙ all .are)
           ∙ ap (λ (d : Said (List Placed)). d >>= endsFrom rows sizeOf 0) (sym (all .are)))
@@ -229,39 +229,39 @@ module _ (settings : Settings) (s rows attrs : List ℕ) (n i : ℕ) where
 
 module _ (settings : Settings) (sizes s rows attrs : List ℕ) (n : ℕ) where
   -- the last level: 10 for a key that is found, 11 for another
-  pub entry-zero : (key : ℕ) {f : Found} → rowOfKey rows n key ≡ f → entrySize settings sizes s rows attrs n 0 key ≡ (foundRow key f >> refuse reason.Depth key)
+  pub entry-zero : (key : ℕ) {f : Found} → rowOfKey rows n key ≡ f → entrySize settings sizes (lentRows (settings .endian) s rows attrs n) 0 key ≡ (foundRow key f >> refuse reason.Depth key)
   unfolding entrySize
   entry-zero key p = ap (λ (f : Found). foundRow key f >> refuse reason.Depth key) p
 
   -- with one more level an entry's types have those below it
   pub entry-more : (levels key : ℕ) {f : Found} → rowOfKey rows n key ≡ f
-      → entrySize settings sizes s rows attrs n (suc levels) key
-      ≡ (foundRow key f >>= rowSize settings s rows attrs n (typeSize settings sizes s rows attrs n levels))
+      → entrySize settings sizes (lentRows (settings .endian) s rows attrs n) (suc levels) key
+      ≡ (foundRow key f >>= rowSize settings (lentRows (settings .endian) s rows attrs n) (typeSize settings sizes (lentRows (settings .endian) s rows attrs n) levels))
   unfolding entrySize typeSize
-  entry-more levels key p = ap (λ (f : Found). foundRow key f >>= rowSize settings s rows attrs n (typeSize settings sizes s rows attrs n levels)) p
+  entry-more levels key p = ap (λ (f : Found). foundRow key f >>= rowSize settings (lentRows (settings .endian) s rows attrs n) (typeSize settings sizes (lentRows (settings .endian) s rows attrs n) levels)) p
 
-  pub entry-none : (levels key : ℕ) → rowOfKey rows n key ≡ found.Nothing → entrySize settings sizes s rows attrs n levels key ≡ refuse reason.Entry key
+  pub entry-none : (levels key : ℕ) → rowOfKey rows n key ≡ found.Nothing → entrySize settings sizes (lentRows (settings .endian) s rows attrs n) levels key ≡ refuse reason.Entry key
   unfolding foundRow _>>=_ _>>_
   entry-none zero key p = entry-zero key p
   entry-none (suc levels) key p = entry-more levels key p
 
   -- no sizes are known
-  pub entry-plain : (levels key : ℕ) → entrySizeFrom settings sizes s rows attrs n [] levels key ≡ entrySize settings sizes s rows attrs n levels key
+  pub entry-plain : (levels key : ℕ) → entrySizeFrom settings sizes s rows attrs n [] levels key ≡ entrySize settings sizes (lentRows (settings .endian) s rows attrs n) levels key
   unfolding entrySizeFrom
   entry-plain levels key = refl
 
-  pub type-plain : (levels : ℕ) (t : «Type») → typeSizeFrom settings sizes s rows attrs n [] levels t ≡ typeSize settings sizes s rows attrs n levels t
+  pub type-plain : (levels : ℕ) (t : «Type») → typeSizeFrom settings sizes s rows attrs n [] levels t ≡ typeSize settings sizes (lentRows (settings .endian) s rows attrs n) levels t
   unfolding typeSizeFrom typeSize entrySizeFrom
   type-plain levels t = refl
 
   -- the same of any table of known sizes that is empty, for an entry that asks for types
   plain-entry : (known : List ℕ) (levels i : ℕ) → eqb (length known) 0 ≡ true
-      → rowSize settings s rows attrs n (typeSizeFrom settings sizes s rows attrs n known levels) i
-      ≡ rowSize settings s rows attrs n (typeSize settings sizes s rows attrs n levels) i
+      → rowSize settings (lentRows (settings .endian) s rows attrs n) (typeSizeFrom settings sizes s rows attrs n known levels) i
+      ≡ rowSize settings (lentRows (settings .endian) s rows attrs n) (typeSize settings sizes (lentRows (settings .endian) s rows attrs n) levels) i
   unfolding typeSizeFrom typeSize entrySizeFrom
   plain-entry known levels i h =
-      ap (λ (b : Bool). rowSize settings s rows attrs n
-      (typeSizeBy sizes (λ key. cond b (entrySize settings sizes s rows attrs n levels key) (knownFound known key (rowOfKey rows n key)))) i) h
+      ap (λ (b : Bool). rowSize settings (lentRows (settings .endian) s rows attrs n)
+      (typeSizeBy sizes (λ key. cond b (entrySize settings sizes (lentRows (settings .endian) s rows attrs n) levels key) (knownFound known key (rowOfKey rows n key)))) i) h
 
   module _ (known : List ℕ) (levels key : ℕ) {f : Found} (is : f ≡ rowOfKey rows n key) where
     pub entry-known : {i : ℕ} {z : Said ℕ} → f ≡ found.At i → 0 < length known → z ≡ knownAt known i → z ≡ entrySizeFrom settings sizes s rows attrs n known levels key
@@ -281,7 +281,7 @@ module _ (settings : Settings) (sizes s rows attrs : List ℕ) (n : ℕ) where
       none-known : eqb (length known) 0 ≡ true
       none-known = eq-eqb (length known) 0 (omega arith)
 
-      entry-left : entrySize settings sizes s rows attrs n levels key ≡ entrySizeFrom settings sizes s rows attrs n known levels key
+      entry-left : entrySize settings sizes (lentRows (settings .endian) s rows attrs n) levels key ≡ entrySizeFrom settings sizes s rows attrs n known levels key
       unfolding entrySizeFrom
       entry-left = sym (rw none-known)
 
@@ -289,16 +289,16 @@ module _ (settings : Settings) (sizes s rows attrs : List ℕ) (n : ℕ) where
           → saidSized (Refused why) ≡ entrySizeFrom settings sizes s rows attrs n known levels key
       unfolding foundRow saidSized _>>_
       entry-deep z q =
-          ap refusal q ∙ sym (entry-zero key (sym is ∙ p)) ∙ ap (λ (l : ℕ). entrySize settings sizes s rows attrs n l key) (sym z) ∙ entry-left
+          ap refusal q ∙ sym (entry-zero key (sym is ∙ p)) ∙ ap (λ (l : ℕ). entrySize settings sizes (lentRows (settings .endian) s rows attrs n) l key) (sym z) ∙ entry-left
 
       pub entry-row : (levels ≡ 0 → ⊥) → {z : Said ℕ}
-          → z ≡ rowSize settings s rows attrs n (typeSizeFrom settings sizes s rows attrs n known (levels - 1)) i
+          → z ≡ rowSize settings (lentRows (settings .endian) s rows attrs n) (typeSizeFrom settings sizes s rows attrs n known (levels - 1)) i
           → z ≡ entrySizeFrom settings sizes s rows attrs n known levels key
       unfolding foundRow _>>=_
       entry-row z q =
           let one : suc (levels - 1) ≡ levels = omega (arith, z) in
           q ∙ plain-entry known (levels - 1) i none-known ∙ sym (entry-more (levels - 1) key (sym is ∙ p))
-          ∙ ap (λ (l : ℕ). entrySize settings sizes s rows attrs n l key) one ∙ entry-left
+          ∙ ap (λ (l : ℕ). entrySize settings sizes (lentRows (settings .endian) s rows attrs n) l key) one ∙ entry-left
 
 -- ---- a type
 

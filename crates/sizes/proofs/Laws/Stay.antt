@@ -12,6 +12,7 @@ use Rattle.blocks.specs.Subscripts.{Array}
 use Rattle.blocks.specs.declared.types.Type.{«Type»}
 use Rattle.blocks.specs.declared.types.TypeKind.{TypeKind}
 use Rattle.blocks.specs.declared.types.TypeKind.the-variants as kind
+use Rattle.tables.specs.Table.{lentRows}
 use Rattle.tables.specs.Row.{rowAt}
 use Rattle.tables.specs.Find.{rowOfKey}
 use Rattle.tables.specs.Keyed.{foundRow}
@@ -78,11 +79,11 @@ module _ (f g : «Type» → Said ℕ) (stays : (t : «Type») → Settled (f t)
       (λ (array : Array) t. then-stays (f (array .element)) (g (array .element)) _ _ (stays (array .element)) (λ size u. refl) t) r) q) p
 
   module _ (settings : Settings) (s rows attrs : List ℕ) (n i : ℕ) where
-    shape-stays : (x : Shape) → Settled (shapeSize settings s rows attrs n f i x) → shapeSize settings s rows attrs n g i x ≡ shapeSize settings s rows attrs n f i x
+    shape-stays : (x : Shape) → Settled (shapeSize settings (lentRows (settings .endian) s rows attrs n) f i x) → shapeSize settings (lentRows (settings .endian) s rows attrs n) g i x ≡ shapeSize settings (lentRows (settings .endian) s rows attrs n) f i x
     unfolding shapeSize
     shape-stays shape.Array p = array-stays s attrs (runOf (settings .endian) rows i) p
     shape-stays shape.Structure p =
-        next-stays (membersOf settings s rows attrs n i) _ _
+        next-stays (membersOf settings (lentRows (settings .endian) s rows attrs n) i) _ _
         (λ ms q. members-stay rows ms (wordOf s attrs (runOf (settings .endian) rows i) attribute.ByteSize) q) p
     shape-stays shape.Enumeration p = refl
     shape-stays shape.Union p = refl
@@ -106,8 +107,8 @@ module _ (sizes : List ℕ) (f g : ℕ → Said ℕ) (stays : (key : ℕ) → Se
 
 module _ (settings : Settings) (sizes s rows attrs : List ℕ) (n : ℕ) where
   row-stays : (f g : ℕ → Said ℕ) → ((key : ℕ) → Settled (f key) → g key ≡ f key) → (i : ℕ)
-      → Settled (rowSize settings s rows attrs n (typeSizeBy sizes f) i)
-      → rowSize settings s rows attrs n (typeSizeBy sizes g) i ≡ rowSize settings s rows attrs n (typeSizeBy sizes f) i
+      → Settled (rowSize settings (lentRows (settings .endian) s rows attrs n) (typeSizeBy sizes f) i)
+      → rowSize settings (lentRows (settings .endian) s rows attrs n) (typeSizeBy sizes g) i ≡ rowSize settings (lentRows (settings .endian) s rows attrs n) (typeSizeBy sizes f) i
   unfolding rowSize
   row-stays f g h i p =
       shape-stays (typeSizeBy sizes f) (typeSizeBy sizes g) (type-stays sizes f g h) settings s rows attrs n i (shapeOf (rowAt rows i .kind)) p
@@ -119,10 +120,10 @@ module _ (settings : Settings) (sizes s rows attrs : List ℕ) (n : ℕ) where
   last-settled key next (refuses number place counts) p = refl
 
   -- with one more level a settled size is the same
-  pub size-stays : (levels key : ℕ) → Settled (entrySize settings sizes s rows attrs n levels key)
-      → entrySize settings sizes s rows attrs n (suc levels) key ≡ entrySize settings sizes s rows attrs n levels key
+  pub size-stays : (levels key : ℕ) → Settled (entrySize settings sizes (lentRows (settings .endian) s rows attrs n) levels key)
+      → entrySize settings sizes (lentRows (settings .endian) s rows attrs n) (suc levels) key ≡ entrySize settings sizes (lentRows (settings .endian) s rows attrs n) levels key
   unfolding entrySize
   size-stays zero key p = last-settled key _ (foundRow key (rowOfKey rows n key)) p
   size-stays (suc levels) key p =
       next-stays (foundRow key (rowOfKey rows n key)) _ _
-      (λ i q. row-stays (entrySize settings sizes s rows attrs n levels) (entrySize settings sizes s rows attrs n (suc levels)) (size-stays levels) i q) p
+      (λ i q. row-stays (entrySize settings sizes (lentRows (settings .endian) s rows attrs n) levels) (entrySize settings sizes (lentRows (settings .endian) s rows attrs n) (suc levels)) (size-stays levels) i q) p

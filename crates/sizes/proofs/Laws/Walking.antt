@@ -4,6 +4,7 @@ use native.Mathlib.Omega.{arith}
 use mathlib.Core.Path.{_≡_, sym, ap, _∙_, subst}
 use mathlib.Core.List.{List, [], _∷_}
 use lib.ListN.{length}
+use Rattle.tables.specs.Table.{lentRows}
 use Rattle.numbers.specs.declared.Endian.{Endian}
 use Rattle.links.specs.Links.{siblingRow, nextRow}
 use Rattle.links.specs.Inside.Kids.{kidsFrom, kidsOf, Ends, firstOr}
@@ -17,7 +18,7 @@ pub record Walking (e : Endian) (s rows attrs : List ℕ) (n end : ℕ) {A : Typ
   pub first : c ≡ firstOr n (kidsFrom e s rows attrs n end c)
   pub left : f (kidsFrom e s rows attrs n end c) ≡ all
 
-pub walking-begins : (e : Endian) (s rows attrs : List ℕ) (n i : ℕ) {A : Type 0} (f : List ℕ → A) {end from c : ℕ} → end ≡ siblingRow e s rows attrs n i
+pub walking-begins : (e : Endian) (s rows attrs : List ℕ) (n i : ℕ) {A : Type 0} (f : List ℕ → A) {end from c : ℕ} → end ≡ siblingRow (lentRows e s rows attrs n) i
     → from ≡ nextRow rows n i → EndsAt e s rows attrs n i → c ≡ firstOr n (kidsFrom e s rows attrs n end from)
     → Walking e s rows attrs n end f (f (kidsOf e s rows attrs n i)) c
 walking-begins e s rows attrs n i f {end} {from} p q w is =
@@ -33,7 +34,7 @@ module _ {e : Endian} {s rows attrs : List ℕ} {n end : ℕ} {A : Type 0} {f : 
   kidsAt x = kidsFrom e s rows attrs n end x
 
   abbrev after : ℕ → ℕ
-  after x = siblingRow e s rows attrs n x
+  after x = siblingRow (lentRows e s rows attrs n) x
 
   -- no child is left
   pub walking-ends : n ≤ c → f [] ≡ all

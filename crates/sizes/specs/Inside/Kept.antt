@@ -10,11 +10,12 @@ use Rattle.format.specs.TagKind as tag
 use Rattle.format.specs.Said.{Said, gives, refuses, refuse, _>>=_, _>>_}
 use Rattle.format.specs.declared.settings.Settings.{Settings}
 use Rattle.format.specs.declared.refusal.Reason.the-variants as reason
+use Rattle.tables.specs.Table.{lentRows}
 use Rattle.tables.specs.Row.{rowAt}
 use Rattle.tables.specs.Find.{rowOfKey}
 use Rattle.tables.specs.Keyed.{foundRow}
 use Rattle.links.specs.Links.{siblingRow}
-use Rattle.links.specs.Inside.Links.{Rows}
+use Rattle.links.specs.Inside.Links.{RowsHold}
 use Rattle.links.specs.Inside.Children.{Asked}
 use Rattle.records.specs.Inside.Enumeration.{AskedShort}
 use Rattle.records.specs.Member.{memberAt}
@@ -82,13 +83,13 @@ faultKept kept c = sizeFault (knownAt kept (c * 3))
 -- ---- what is kept of all rows
 
 pub record SiblingsKept (e : Endian) (s rows attrs : List ℕ) (n : ℕ) (kept : List ℕ) : Type 0 where
-  pub sibling : (c : ℕ) → c < n → 0 < length kept → knownAt kept (c * 3 + 2) ≡ gives (siblingRow e s rows attrs n c)
+  pub sibling : (c : ℕ) → c < n → 0 < length kept → knownAt kept (c * 3 + 2) ≡ gives (siblingRow (lentRows e s rows attrs n) c)
 
 module _ (settings : Settings) (s rows attrs : List ℕ) (n : ℕ) (kept : List ℕ) where
   -- siblings, and members' faults
   pub record FaultsKept : Type 0 where
     pub siblings : SiblingsKept (settings .endian) s rows attrs n kept
-    pub first : (c : ℕ) → c < n → 0 < length kept → rowAt rows c .kind ≡ tag.Member → knownAt kept (c * 3) ≡ firstOf (memberAt settings s rows attrs n c)
+    pub first : (c : ℕ) → c < n → 0 < length kept → rowAt rows c .kind ≡ tag.Member → knownAt kept (c * 3) ≡ firstOf (memberAt settings (lentRows (settings .endian) s rows attrs n) c)
 
   -- and structures' faults
   pub record RowsKept : Type 0 where
@@ -98,7 +99,7 @@ module _ (settings : Settings) (s rows attrs : List ℕ) (n : ℕ) (kept : List 
 
 module _ (settings : Settings) (sizes s rows attrs : List ℕ) (n : ℕ) (kept : List ℕ) where
   abbrev pub SecondKept : ℕ → Type 0
-  SecondKept k = (c : ℕ) → c < k → 0 < length kept → rowAt rows c .kind ≡ tag.Member → knownAt kept (c * 3 + 1) ≡ secondOf sizes rows n (memberAt settings s rows attrs n c)
+  SecondKept k = (c : ℕ) → c < k → 0 < length kept → rowAt rows c .kind ≡ tag.Member → knownAt kept (c * 3 + 1) ≡ secondOf sizes rows n (memberAt settings (lentRows (settings .endian) s rows attrs n) c)
 
   -- siblings and members
   pub record MembersKept : Type 0 where
@@ -136,7 +137,7 @@ pub record LayoutAsked (settings : Settings) (sizes s rows attrs : List ℕ) (n 
 
 -- a table that was tested, and room for all rows
 pub record KeepAsked (rows : List ℕ) (n : ℕ) (kept : List ℕ) : Type 0 where
-  pub table : Rows rows n
+  pub table : RowsHold rows n
   pub fits : n * keptWidth ≤ length kept
 
 pub record FaultAsked (settings : Settings) (s rows attrs : List ℕ) (n : ℕ) (kept : List ℕ) : Type 0 where
@@ -152,9 +153,9 @@ pub record PutTwo (c : ℕ) (first second : Said ℕ) (kept kept′ : List ℕ) 
 
 -- row c, those before it as before
 pub record PutRow (settings : Settings) (sizes s rows attrs : List ℕ) (n c : ℕ) (kept kept′ : List ℕ) : Type 0 where
-  pub sibling-is : knownAt kept′ (c * 3 + 2) ≡ gives (siblingRow (settings .endian) s rows attrs n c)
-  pub first-is : rowAt rows c .kind ≡ tag.Member → knownAt kept′ (c * 3) ≡ firstOf (memberAt settings s rows attrs n c)
-  pub second-is : rowAt rows c .kind ≡ tag.Member → knownAt kept′ (c * 3 + 1) ≡ secondOf sizes rows n (memberAt settings s rows attrs n c)
+  pub sibling-is : knownAt kept′ (c * 3 + 2) ≡ gives (siblingRow (lentRows (settings .endian) s rows attrs n) c)
+  pub first-is : rowAt rows c .kind ≡ tag.Member → knownAt kept′ (c * 3) ≡ firstOf (memberAt settings (lentRows (settings .endian) s rows attrs n) c)
+  pub second-is : rowAt rows c .kind ≡ tag.Member → knownAt kept′ (c * 3 + 1) ≡ secondOf sizes rows n (memberAt settings (lentRows (settings .endian) s rows attrs n) c)
   pub before : (j : ℕ) → j < c * 3 → knownAt kept′ j ≡ knownAt kept j
   pub same-long : length kept′ ≡ length kept
 

@@ -9,6 +9,7 @@ use Rattle.format.specs.Said.{Said, gives, refuse, refusal, _>>=_, _>>_}
 use Rattle.format.specs.declared.settings.Settings.{Settings}
 use Rattle.format.specs.declared.refusal.Reason.the-variants as reason
 use Rattle.blocks.specs.declared.types.Type.{«Type»}
+use Rattle.tables.specs.Table.{lentRows}
 use Rattle.tables.specs.Row.{rowAt}
 use Rattle.links.specs.Walk.{Walk, ends, endless}
 use Rattle.links.specs.Links.{childWalk, nonNull}
@@ -66,7 +67,7 @@ module _ (s attrs : List ℕ) (run : Run) where
 module _ (settings : Settings) (s rows attrs : List ℕ) (n : ℕ) where
   -- what is wrong with child c, if it is a Member
   unfoldable pub memberFault : ℕ → Said Unit
-  memberFault c = cond (eqb (rowAt rows c .kind) tag.Member) (memberAt settings s rows attrs n c >> gives tt) (gives tt)
+  memberFault c = cond (eqb (rowAt rows c .kind) tag.Member) (memberAt settings (lentRows (settings .endian) s rows attrs n) c >> gives tt) (gives tt)
 
   -- the first fault among children
   unfoldable pub membersFault : List ℕ → Said Unit
@@ -80,7 +81,7 @@ module _ (settings : Settings) (s rows attrs : List ℕ) (n : ℕ) where
 
   -- what is wrong with the members of row i
   unfoldable pub structureFault : ℕ → Said Unit
-  structureFault i = walkFault i (childWalk (settings .endian) s rows attrs n i)
+  structureFault i = walkFault i (childWalk (lentRows (settings .endian) s rows attrs n) i)
 
   -- a ByteSize, or the ends are needed
   unfoldable pub sizePrepared : Word → Ready
@@ -98,18 +99,18 @@ module _ (settings : Settings) (s rows attrs : List ℕ) (n : ℕ) where
   -- an enumeration's row
   unfoldable pub preparedEnumeration : ℕ → Said Ready
   preparedEnumeration i = do
-    e ← enumerationAt settings s rows attrs n i
+    e ← enumerationAt settings (lentRows (settings .endian) s rows attrs n) i
     gives (sized (e .«byte_size»))
 
   -- a union's
   unfoldable pub preparedUnion : ℕ → Said Ready
   preparedUnion i = do
-    u ← unionAt settings s rows attrs n i
+    u ← unionAt settings (lentRows (settings .endian) s rows attrs n) i
     gives (sized (u .«byte_size»))
 
   -- a pointer to member's
   unfoldable pub preparedPointer : ℕ → Said Ready
-  preparedPointer i = ptrAt settings s rows attrs n i >> gives (sized 4)
+  preparedPointer i = ptrAt settings (lentRows (settings .endian) s rows attrs n) i >> gives (sized 4)
 
   -- by the row's shape
   unfoldable pub preparedShape : ℕ → Shape → Said Ready
@@ -132,5 +133,5 @@ module _ (settings : Settings) (s rows attrs : List ℕ) (n : ℕ) where
     size ← typeSize t
     productOf (runOf (settings .endian) rows i .ends .section) (rowAt rows i .key) (subscriptBlock s attrs (runOf (settings .endian) rows i) k) size
   finished typeSize i endsWanted = do
-    ms ← membersOf settings s rows attrs n i
+    ms ← membersOf settings (lentRows (settings .endian) s rows attrs n) i
     endsFrom rows typeSize 0 ms

@@ -9,11 +9,12 @@ use Rattle.format.specs.TagKind as tag
 use Rattle.format.specs.Said.{Said, gives, refusal, _>>=_}
 use Rattle.format.specs.declared.settings.Settings.{Settings}
 use Rattle.blocks.specs.declared.types.Type.{«Type»}
+use Rattle.tables.specs.Table.{lentRows}
 use Rattle.tables.specs.Row.{rowAt}
 use Rattle.tables.specs.Find.{rowOfKey}
 use Rattle.tables.specs.Keyed.{foundRow}
 use Rattle.tables.specs.declared.find.Found.{Found}
-use Rattle.links.specs.Inside.Links.{Rows}
+use Rattle.links.specs.Inside.Links.{RowsHold}
 use Rattle.records.specs.Scan.{runOf}
 use Rattle.records.specs.Member.{memberAt}
 use Rattle.records.specs.Inside.Unions.{EndsAt}
@@ -24,7 +25,7 @@ use Rattle.sizes.specs.declared.kept.Added.the-variants as added
 
 -- a table that was tested
 pub record TableReady (s rows : List ℕ) (n : ℕ) : Type 0 where
-  pub table : Rows rows n
+  pub table : RowsHold rows n
   pub short : length s < sectionLimit
 
 -- a row of it whose child walk ends
@@ -58,7 +59,7 @@ module _ (settings : Settings) (s rows attrs : List ℕ) (n : ℕ) (typeSize : �
   -- what the member at row c adds to its structure
   unfoldable pub memberAdded : ℕ → Said Extent
   memberAdded c = do
-    m ← memberAt settings s rows attrs n c
+    m ← memberAt settings (lentRows (settings .endian) s rows attrs n) c
     withSize (m .offset) (sizeOr typeSize (m .of) (m .«byte_size»))
 
   -- the largest end with that of child c, if it is a Member
@@ -87,7 +88,7 @@ knownFound known key found = foundRow key found >>= knownAt known
 module _ (settings : Settings) (sizes s rows attrs : List ℕ) (n : ℕ) (known : List ℕ) (levels : ℕ) where
   -- the size of an entry: from the known ones if there are any, else with so many levels left
   unfoldable pub entrySizeFrom : ℕ → Said ℕ
-  entrySizeFrom key = cond (eqb (length known) 0) (entrySize settings sizes s rows attrs n levels key) (knownFound known key (rowOfKey rows n key))
+  entrySizeFrom key = cond (eqb (length known) 0) (entrySize settings sizes (lentRows (settings .endian) s rows attrs n) levels key) (knownFound known key (rowOfKey rows n key))
 
   -- the same of a type
   unfoldable pub typeSizeFrom : «Type» → Said ℕ

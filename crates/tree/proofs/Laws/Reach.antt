@@ -9,6 +9,7 @@ use lib.Dec.{ltb, eqb}
 use borrow.Author.Tests.{lt-ltb, le-ltb, eq-eqb, ne-eqb, ltb-true}
 use Rattle.numbers.proofs.Laws.Tests.{cond-all}
 use Rattle.numbers.specs.declared.Endian.{Endian}
+use Rattle.tables.specs.Table.{lentRows}
 use Rattle.tables.specs.Find.{rowOfKey}
 use Rattle.tables.proofs.Laws.Find.{row-found}
 use Rattle.tables.specs.declared.find.Found.{Found}
@@ -33,15 +34,15 @@ module _ (i : ℕ) {found told : Found} (is : found ≡ told) where
   none-named p = ap (laterRow i) (sym p ∙ is)
 
 module _ (e : Endian) (s rows attrs : List ℕ) (n i : ℕ) {told : Reference} (is : told ≡ referenceOf e s rows attrs i siblingNumber) where
-  pub reach-all : {key : ℕ} → told ≡ reference.To key → key ≡ length s → n ≡ reachEnd e s rows attrs n i
+  pub reach-all : {key : ℕ} → told ≡ reference.To key → key ≡ length s → n ≡ reachEnd (lentRows e s rows attrs n) i
   unfolding reachEnd reachBy
   reach-all {key} p h = sym (ap (reachBy s rows n i) (sym is ∙ p) ∙ rw (eq-eqb key (length s) h))
 
-  pub reach-row : {key r : ℕ} → told ≡ reference.To key → (key ≡ length s → ⊥) → r ≡ laterRow i (rowOfKey rows n key) → r ≡ reachEnd e s rows attrs n i
+  pub reach-row : {key r : ℕ} → told ≡ reference.To key → (key ≡ length s → ⊥) → r ≡ laterRow i (rowOfKey rows n key) → r ≡ reachEnd (lentRows e s rows attrs n) i
   unfolding reachEnd reachBy
   reach-row {key} p h q = q ∙ sym (ap (reachBy s rows n i) (sym is ∙ p) ∙ rw (ne-eqb key (length s) h))
 
-  pub reach-alone : told ≡ reference.Nothing → suc i ≡ reachEnd e s rows attrs n i
+  pub reach-alone : told ≡ reference.Nothing → suc i ≡ reachEnd (lentRows e s rows attrs n) i
   unfolding reachEnd reachBy
   reach-alone p = ap (reachBy s rows n i) (sym p ∙ is)
 
@@ -63,10 +64,10 @@ by-reaches s rows n i h (reference.To key) =
     cond-all (Reaches n i) (eqb key (length s)) (λ p. inr (h, omega arith)) (λ p. later-reaches rows n i key (rowOfKey rows n key) refl)
 by-reaches s rows n i h reference.Nothing = inr (omega arith, omega arith)
 
-pub reaching : (e : Endian) (s rows attrs : List ℕ) (n : ℕ) → Reaching n (λ i. reachEnd e s rows attrs n i)
+pub reaching : (e : Endian) (s rows attrs : List ℕ) (n : ℕ) → Reaching n (λ i. reachEnd (lentRows e s rows attrs n) i)
 unfolding reachEnd
 reaching e s rows attrs n = record { bad-or-later = λ i h. by-reaches s rows n i h (referenceOf e s rows attrs i siblingNumber) }
 
-pub reach-within : (e : Endian) (s rows attrs : List ℕ) (n i : ℕ) {r : ℕ} → i < n → r ≡ reachEnd e s rows attrs n i → r ≤ n
+pub reach-within : (e : Endian) (s rows attrs : List ℕ) (n i : ℕ) {r : ℕ} → i < n → r ≡ reachEnd (lentRows e s rows attrs n) i → r ≤ n
 reach-within e s rows attrs n i h is =
     ⊎-elim (λ bad. omega arith) (λ good. omega (arith, good .1)) (reaching e s rows attrs n .bad-or-later i h)

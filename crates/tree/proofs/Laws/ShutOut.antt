@@ -8,7 +8,7 @@ use mathlib.Core.List.{List, [], _∷_, _++_}
 use lib.ListN.{length, getD, drop}
 use lib.Seq.{sets, sets-eq}
 use borrow.Author.Tests.{le-leb, lt-ltb}
-use Rattle.tables.specs.Table.{table}
+use Rattle.tables.specs.Table.{table, lentRows}
 use Rattle.lent.specs.Outcome.{Outcome, outcome, Given, Outcomes, BothGiven, outcomes}
 use Rattle.numbers.specs.Value.{valueOf, there, readAt}
 use Rattle.numbers.specs.declared.Endian.the-variants.{Big}
@@ -166,7 +166,7 @@ abbrev placesA : List ℕ
 placesA = 0 ∷ 0 ∷ 1 ∷ 1 ∷ 1 ∷ 1 ∷ []
 
 A-listed : (rows attrs room : List ℕ) → 6 ≤ length room
-    → listingOf (rowsWords rowsA ++ rows) 3 (λ i. reachEnd Big inputA (rowsWords rowsA ++ rows) (attrsWords attrsA ++ attrs) 3 i) room
+    → listingOf (rowsWords rowsA ++ rows) 3 (λ i. reachEnd (lentRows Big inputA (rowsWords rowsA ++ rows) (attrsWords attrsA ++ attrs) 3) i) room
     ≡ outcome (gives 3) (sets room 0 placesA)
 unfolding valueOf there readAt rowWords attrWords rowsWords attrsWords rowAt attrAt erasedRow wants attrFrom attributeOf asReference referenceBy referenceOf countBelow nearestBelow firstFrom reachBy reachEnd lies depth parent crosses faulty deep firstFault firstDeep placesFrom firstErased treeTests listingOf must _>>_ inRoom fillsRoom
 A-listed rows attrs room h = ap (λ (b : Bool). cond b (outcome (gives 3) (sets room 0 placesA)) (outcome (wanting (3 ∷ [])) room)) (le-leb 6 (length room) h)

@@ -9,7 +9,7 @@ use lib.ListN.{length}
 use lib.Seq.{sets}
 use lib.Dec.{leb, ltb}
 use borrow.Author.Tests.{le-leb, lt-leb}
-use Rattle.tables.specs.Table.{table}
+use Rattle.tables.specs.Table.{table, lentRows}
 use Rattle.lent.specs.Outcome.{Outcome, outcome, Given}
 use Rattle.format.specs.Limits.{depthLimit}
 use Rattle.format.specs.Said.{Said, gives, refusal, wanting, must, _>>_, inRoom, fillsRoom}
@@ -159,7 +159,7 @@ module _ (rows : List ℕ) (n : ℕ) (reach : ℕ → ℕ) (room : List ℕ) {er
 module _ (settings : Settings) (vendors sizes s rows attrs : List ℕ) (counts : Counts) (room : List ℕ) {told : Tested}
     (is : Tells (table s settings vendors sizes rows attrs counts) told) where
   pub tree-passed : told ≡ Passed → {r : Said ℕ} {room′ : List ℕ}
-      → Given (listingOf rows (counts .rows) (λ i. reachEnd (settings .endian) s rows attrs (counts .rows) i) room) r room′
+      → Given (listingOf rows (counts .rows) (λ i. reachEnd (lentRows (settings .endian) s rows attrs (counts .rows)) i) room) r room′
       → Given (listTree (table s settings vendors sizes rows attrs counts) room) r room′
   unfolding listTree saidTested inRoom
   tree-passed p g = goes-in saidTested (is .told) p room _ g

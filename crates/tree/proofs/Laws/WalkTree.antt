@@ -12,6 +12,7 @@ use borrow.Author.Tests.{le-leb, leb-false, eqb-true}
 use Rattle.lent.specs.Outcome.{outcome}
 use Rattle.numbers.specs.declared.Endian.{Endian}
 use Rattle.format.specs.Said.{gives, inRoom, fillsRoom}
+use Rattle.tables.specs.Table.{lentRows}
 use Rattle.tables.specs.Row.{rowAt, erasedRow}
 use Rattle.tables.specs.Find.{rowOfKey}
 use Rattle.tables.specs.Inside.Find.{Rising}
@@ -93,22 +94,22 @@ module _ {s rows : List ℕ} {n : ℕ} (plain : Plain s rows n) where
       (λ t. rw t (later-found i (rowOfKey rows n key) (rw t at h)))
   sibling-by-reach i l reference.Nothing h = next-plain i l
 
-  module _ (e : Endian) (attrs : List ℕ) (nested : Nested n (λ i. reachEnd e s rows attrs n i)) where
+  module _ (e : Endian) (attrs : List ℕ) (nested : Nested n (λ i. reachEnd (lentRows e s rows attrs n) i)) where
     abbrev pub reach : ℕ → ℕ
-    reach i = reachEnd e s rows attrs n i
+    reach i = reachEnd (lentRows e s rows attrs n) i
 
-    sibling-reach : (i : ℕ) → i < n → siblingRow e s rows attrs n i ≡ reachEnd e s rows attrs n i
+    sibling-reach : (i : ℕ) → i < n → siblingRow (lentRows e s rows attrs n) i ≡ reachEnd (lentRows e s rows attrs n) i
     unfolding siblingRow reachEnd
     sibling-reach i l = sibling-by-reach i l (referenceOf e s rows attrs i siblingNumber) (nested .later i l)
 
     -- the walk meets the rows with that parent
     walk-parent : (i : ℕ) → i < n
-        → childWalk e s rows attrs n i ≡ ends (allFrom (λ j. eqb (parent n (λ k. reachEnd e s rows attrs n k) j) (suc i)) 0 n)
+        → childWalk (lentRows e s rows attrs n) i ≡ ends (allFrom (λ j. eqb (parent n (λ k. reachEnd (lentRows e s rows attrs n) k) j) (suc i)) 0 n)
     unfolding childWalk
     walk-parent i l =
         rw (sibling-reach i l, next-plain i l)
-        (walk-same n (λ c. siblingRow e s rows attrs n c) (λ k. reachEnd e s rows attrs n k) (reachEnd e s rows attrs n i) sibling-reach n (suc i)
-        ∙ walk-children n (λ k. reachEnd e s rows attrs n k) nested i l)
+        (walk-same n (λ c. siblingRow (lentRows e s rows attrs n) c) (λ k. reachEnd (lentRows e s rows attrs n) k) (reachEnd (lentRows e s rows attrs n) i) sibling-reach n (suc i)
+        ∙ walk-children n (λ k. reachEnd (lentRows e s rows attrs n) k) nested i l)
 
 -- ---- null entries are left out
 
@@ -121,15 +122,15 @@ non-null-all rows p i (suc k) =
     (λ t. rw t (non-null-all rows p (suc i) k))
 
 -- with room enough they are what the walk of row i gives
-pub children-given : {s rows : List ℕ} {n : ℕ} → Plain s rows n → (e : Endian) (attrs : List ℕ) → Nested n (λ i. reachEnd e s rows attrs n i)
-    → (i : ℕ) → i < n → (room : List ℕ) → length (childrenIn rows n (λ k. reachEnd e s rows attrs n k) i) ≤ length room
-    → listedInto rows (rowAt rows i .key) room (childWalk e s rows attrs n i)
-    ≡ outcome (gives (length (childrenIn rows n (λ k. reachEnd e s rows attrs n k) i))) (sets room 0 (childrenIn rows n (λ k. reachEnd e s rows attrs n k) i))
+pub children-given : {s rows : List ℕ} {n : ℕ} → Plain s rows n → (e : Endian) (attrs : List ℕ) → Nested n (λ i. reachEnd (lentRows e s rows attrs n) i)
+    → (i : ℕ) → i < n → (room : List ℕ) → length (childrenIn rows n (λ k. reachEnd (lentRows e s rows attrs n) k) i) ≤ length room
+    → listedInto rows (rowAt rows i .key) room (childWalk (lentRows e s rows attrs n) i)
+    ≡ outcome (gives (length (childrenIn rows n (λ k. reachEnd (lentRows e s rows attrs n) k) i))) (sets room 0 (childrenIn rows n (λ k. reachEnd (lentRows e s rows attrs n) k) i))
 unfolding listedInto childrenMet inRoom fillsRoom
 children-given {s} {rows} {n} plain e attrs nested i l room h =
-    let kids : List ℕ = childrenIn rows n (λ k. reachEnd e s rows attrs n k) i in
+    let kids : List ℕ = childrenIn rows n (λ k. reachEnd (lentRows e s rows attrs n) k) i in
     rw (
       walk-parent plain e attrs nested i l,
-      non-null-all rows (λ j. eqb (parent n (λ k. reachEnd e s rows attrs n k) j) (suc i)) 0 n,
+      non-null-all rows (λ j. eqb (parent n (λ k. reachEnd (lentRows e s rows attrs n) k) j) (suc i)) 0 n,
       le-leb (length kids) (length room) h,
     )

@@ -1,3 +1,4 @@
+use Rattle.tables.specs.Table.{lentRows}
 use Rattle.links.proofs.Laws.Children.{small-turn, Walking, walking-begins, gathered-end, gathered-past, gathered-never, walking-on}
 use Rattle.links.specs.Links.{siblingRow}
 use borrow.Author.Needs.{needs}
@@ -6,7 +7,7 @@ use Rattle.links.proofs.children.walk.Statement.{statement}
 use Rattle.links.proofs.children.walk.Tie as tie
 
 abbrev Inv-loop : tie.InvT-loop
-Inv-loop s e rows attrs n end from room₀ c₀ k₀ turns₀ room c k turns = Walking rows n (λ i. siblingRow e s rows attrs n i) end from room₀ room c k turns
+Inv-loop s e rows attrs n end from room₀ c₀ k₀ turns₀ room c k turns = Walking rows n (λ i. siblingRow (lentRows e s rows attrs n) i) end from room₀ room c k turns
 
 abbrev μ-loop : tie.MeasureT-loop
 μ-loop s e rows attrs n end from room₀ c₀ k₀ turns₀ room c k turns = n - turns

@@ -1,3 +1,4 @@
+use Rattle.tables.specs.Table.{lentRows}
 use Rattle.tables.specs.Row.{rowAt}
 use Rattle.links.proofs.Laws.Kids.{ends-at}
 use Rattle.links.specs.Inside.Kids.{kidsFrom, kidsOf}
@@ -10,7 +11,7 @@ use Rattle.records.proofs.unions.take_children.Statement.{statement}
 use Rattle.records.proofs.unions.take_children.Tie as tie
 
 abbrev Inv-loop : tie.InvT-loop
-Inv-loop s settings rows attrs n i room₀ e row end c₀ k₀ room c k = Taking settings s rows attrs n (row .key) end (membersFrom settings s rows attrs n (rowAt rows i .key) (kidsOf (settings .endian) s rows attrs n i)) room₀ room c k
+Inv-loop s settings rows attrs n i room₀ e row end c₀ k₀ room c k = Taking settings s rows attrs n (row .key) end (membersFrom settings (lentRows (settings .endian) s rows attrs n) (rowAt rows i .key) (kidsOf (settings .endian) s rows attrs n i)) room₀ room c k
 
 abbrev μ-loop : tie.MeasureT-loop
 μ-loop s settings rows attrs n i room₀ e row end c₀ k₀ room c k = length (kidsFrom (settings .endian) s rows attrs n end c)

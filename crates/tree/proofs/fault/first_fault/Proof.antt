@@ -1,3 +1,4 @@
+use Rattle.tables.specs.Table.{lentRows}
 use Rattle.tree.proofs.Laws.Chain.{fault-begin, fault-back, fault-all}
 use native.Mathlib.Nat.{le-refl}
 use Rattle.tree.specs.Inside.Passing.{faultFrom}
@@ -10,7 +11,7 @@ use Rattle.tree.proofs.fault.first_fault.Statement.{statement}
 use Rattle.tree.proofs.fault.first_fault.Tie as tie
 
 abbrev Inv-loop : tie.InvT-loop
-Inv-loop s e rows attrs n i₀ b₀ i b = (i ≤ n) × (b ≡ faultFrom n (λ k. reachEnd e s rows attrs n k) i (n - i))
+Inv-loop s e rows attrs n i₀ b₀ i b = (i ≤ n) × (b ≡ faultFrom n (λ k. reachEnd (lentRows e s rows attrs n) k) i (n - i))
 
 abbrev μ-loop : tie.MeasureT-loop
 μ-loop s e rows attrs n i₀ b₀ i b = i

@@ -1,3 +1,4 @@
+use Rattle.tables.specs.Table.{lentRows}
 use Rattle.tree.proofs.Laws.Chain.{along-begin, along-blocked, along-bad, along-past, along-next, along-end}
 use Rattle.tree.specs.Reach.{reachEnd}
 use Rattle.tree.specs.Inside.Fault.{Along}
@@ -8,7 +9,7 @@ use Rattle.tree.proofs.fault.first_further.Statement.{statement}
 use Rattle.tree.proofs.fault.first_further.Tie as tie
 
 abbrev Inv-loop : tie.InvT-loop
-Inv-loop s e rows attrs n i end b c₀ c = Along n (λ k. reachEnd e s rows attrs n k) end b i c
+Inv-loop s e rows attrs n i end b c₀ c = Along n (λ k. reachEnd (lentRows e s rows attrs n) k) end b i c
 
 abbrev μ-loop : tie.MeasureT-loop
 μ-loop s e rows attrs n i end b c₀ c = end - c

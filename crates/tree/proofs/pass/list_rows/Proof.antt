@@ -1,3 +1,4 @@
+use Rattle.tables.specs.Table.{lentRows}
 use Rattle.tree.proofs.Laws.Reach.{reach-within}
 use Rattle.tree.specs.Reach.{reachEnd}
 use Rattle.tree.proofs.Laws.Stack.{Passing, pass-begin, pass-length, pass-done, pass-deep, pass-next}
@@ -9,7 +10,7 @@ use Rattle.tree.proofs.pass.list_rows.Statement.{statement}
 use Rattle.tree.proofs.pass.list_rows.Tie as tie
 
 abbrev Inv-loop : tie.InvT-loop
-Inv-loop s e rows attrs n room₀ stack₀ ends₀ h₀ j₀ room stack ends h j = Passing (λ c. reachEnd e s rows attrs n c) n room₀ room stack ends h j
+Inv-loop s e rows attrs n room₀ stack₀ ends₀ h₀ j₀ room stack ends h j = Passing (λ c. reachEnd (lentRows e s rows attrs n) c) n room₀ room stack ends h j
 
 abbrev μ-loop : tie.MeasureT-loop
 μ-loop s e rows attrs n room₀ stack₀ ends₀ h₀ j₀ room stack ends h j = n - j
