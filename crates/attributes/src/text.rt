@@ -3,7 +3,7 @@ ghost use mathlib.Core.Path.{_≡_};
 ghost use Prim.Native.Nat.{_+_, _≤_, _<_};
 ghost use lib.ListN.{length};
 ghost use Rattle.attributes.specs.Text.{zeroFrom};
-ghost use Rattle.format.specs.Inside.Sixteen.{someIs};
+ghost use Rattle.format.specs.Inside.Some.{someIs};
 ghost use Rattle.attributes.specs.Inside.Eight.{hereOr, firstZero};
 
 // One byte a turn.

@@ -1,3 +1,3 @@
--- How the code looks a number up: `NamedWords` (document 01's attribute numbers as bits), `Sixteen` (so many numbers of a list at once).
+-- How the code looks a number up: `NamedWords` (document 01's attribute numbers as bits), `Some` (some numbers of a list at once).
 pub mod NamedWords
-pub mod Sixteen
+pub mod Some

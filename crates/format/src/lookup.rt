@@ -4,7 +4,7 @@ ghost use mathlib.Core.Path.{_≡_};
 ghost use Prim.Native.Nat.{_+_, _≤_};
 ghost use lib.ListN.{length};
 ghost use Rattle.format.specs.Lookup.{isOn};
-ghost use Rattle.format.specs.Inside.Sixteen.{someIs};
+ghost use Rattle.format.specs.Inside.Some.{someIs};
 
 // One number a turn.
 fn among_few(list: &[u16], x: u16) -> bool

@@ -19,7 +19,7 @@ use Rattle.tables.specs.Keyed.{rowOf}
 use Rattle.records.specs.Scan.{runOf}
 use Rattle.records.specs.Fields.{wordOf}
 use Rattle.records.specs.MemberWords.{namePlace, nameLength}
-use Rattle.records.specs.Unions.{Placed}
+use Rattle.records.specs.Unions.{RowMember}
 use Rattle.records.specs.declared.fields.Word.{Word}
 use Rattle.records.specs.declared.fields.Word.the-variants as word
 use Rattle.sizes.specs.Size.{innerSize, isStructure, withEnd, memberSize, membersOf, shapeOf}
@@ -50,7 +50,7 @@ saidLayoutRead (layout.Refused why) = refusal why
 saidLayoutRead (layout.Room many) = wanting (many ∷ [])
 
 -- a member with its size; without a name, place and length are 0
-unfoldable pub laidMember : Placed → ℕ → Laid
+unfoldable pub laidMember : RowMember → ℕ → Laid
 laidMember m size =
     record { offset = m .member .offset; size = size; place = namePlace (m .member .name); length = nameLength (m .member .name) }
 
@@ -60,7 +60,7 @@ endOr sized key largest end = cond sized (gives largest) (withEnd key largest en
 
 module _ (rows : List ℕ) (sizeOf : «Type» → Said ℕ) (sized : Bool) where
   -- member by member: its size, which is taken with a ByteSize too, then its end
-  unfoldable pub laidFrom : ℕ → List Placed → Said Lay
+  unfoldable pub laidFrom : ℕ → List RowMember → Said Lay
   laidFrom largest [] = gives (lay [] largest)
   laidFrom largest (m ∷ ms) = do
     size ← memberSize sizeOf m

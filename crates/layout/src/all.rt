@@ -1,7 +1,7 @@
 // Every structure's and class's layout of a table, in file order, in one call that tests the table once. The sizes of all rows are taken first, so that the
 // row sizes taken are at most rows times depth.
 use crate::keep::keep_rows;
-use crate::levels::fill_known;
+use crate::levels::fill_noted;
 use crate::one::LAID_WIDTH;
 use crate::one::LayoutWhole;
 use crate::one::read_layout;
@@ -15,8 +15,8 @@ use records::fields::last_name;
 use records::member_words::name_length;
 use records::member_words::name_place;
 use records::scan::run_of;
-use sizes::known::known_at;
-use sizes::known::put_known;
+use sizes::noted::noted_at;
+use sizes::noted::put_noted;
 use sizes::prepare::is_structure;
 use sizes::sized::Sized;
 use tables::row::Counts;
@@ -32,7 +32,7 @@ ghost use Rattle.lent.specs.Outcome.{BothGiven};
 ghost use Rattle.sizes.specs.Size.{saidSized, typeSize};
 ghost use Rattle.layout.specs.Inside.Layout.{saidLayoutWhole};
 ghost use Rattle.sizes.specs.Inside.Size.{TableReady, typeSizeFrom};
-ghost use Rattle.sizes.specs.Inside.Known.{knownWidth};
+ghost use Rattle.sizes.specs.Inside.Noted.{notedWidth};
 ghost use Rattle.layout.specs.Inside.Levels.{deepest, FillAsked};
 ghost use Rattle.sizes.specs.Inside.Kept.{AllKept};
 ghost use Rattle.layout.specs.All.{saidAllLayouts, structureWidth, structuresFrom, allLayouts, layoutsInto};
@@ -90,7 +90,7 @@ fn count_row(
     rows: &[u32],
     attrs: &[u32],
     n: usize,
-    known: &[u64],
+    noted: &[u64],
     kept: &[u64],
     told: &mut [u64],
     i: usize,
@@ -98,11 +98,11 @@ fn count_row(
 ) -> LayoutCounts
     requires { ⌜
         CountAsked (now s) (now rows) n i counts ×
-        (n * knownWidth ≤ length (now told) × AllKept settings (now sizes) (now s) (now rows) (now attrs) n (now known) (now kept))
+        (n * notedWidth ≤ length (now told) × AllKept settings (now sizes) (now s) (now rows) (now attrs) n (now noted) (now kept))
         ⌝ }
     ensures { λ r. ⌜
         RowCounted settings (now (s .entry)) (now (rows .entry)) (now (attrs .entry)) n
-        (typeSizeFrom settings (now (sizes .entry)) (now (s .entry)) (now (rows .entry)) (now (attrs .entry)) n (now (known .entry)) 0) i counts r
+        (typeSizeFrom settings (now (sizes .entry)) (now (s .entry)) (now (rows .entry)) (now (attrs .entry)) n (now (noted .entry)) 0) i counts r
         (now (told .entry)) (now (told .exit))
         ⌝ }
 {
@@ -118,13 +118,13 @@ fn count_row(
         rows,
         attrs,
         n,
-        known,
+        noted,
         kept,
         0,
         i,
         &mut none,
     );
-    put_known(told, i, size_told(answer));
+    put_noted(told, i, size_told(answer));
     match answer {
         LayoutWhole::Is(found) => one_more(counts, found.members),
         LayoutWhole::Refused(_) => one_more(counts, 0),
@@ -139,14 +139,14 @@ fn count_layouts(
     rows: &[u32],
     attrs: &[u32],
     n: usize,
-    known: &[u64],
+    noted: &[u64],
     kept: &[u64],
     told: &mut [u64],
 ) -> LayoutCounts
-    requires { ⌜ FillAsked (now s) (now rows) n (now told) × AllKept settings (now sizes) (now s) (now rows) (now attrs) n (now known) (now kept) ⌝ }
+    requires { ⌜ FillAsked (now s) (now rows) n (now told) × AllKept settings (now sizes) (now s) (now rows) (now attrs) n (now noted) (now kept) ⌝ }
     ensures { λ r. ⌜
         AllCounted settings (now (s .entry)) (now (rows .entry)) (now (attrs .entry)) n
-        (typeSizeFrom settings (now (sizes .entry)) (now (s .entry)) (now (rows .entry)) (now (attrs .entry)) n (now (known .entry)) 0) r
+        (typeSizeFrom settings (now (sizes .entry)) (now (s .entry)) (now (rows .entry)) (now (attrs .entry)) n (now (noted .entry)) 0) r
         (now (told .exit))
         ⌝ }
 {
@@ -163,7 +163,7 @@ fn count_layouts(
             rows,
             attrs,
             n,
-            known,
+            noted,
             kept,
             told,
             i,
@@ -211,7 +211,7 @@ fn put_row(
     rows: &[u32],
     attrs: &[u32],
     n: usize,
-    known: &[u64],
+    noted: &[u64],
     kept: &[u64],
     told: &[u64],
     i: usize,
@@ -221,12 +221,12 @@ fn put_row(
 ) -> LayoutCounts
     requires { ⌜
         PutAsked (now s) (now rows) n i counts (now members) ×
-        (WholesTold settings (now s) (now rows) (now attrs) n (typeSizeFrom settings (now sizes) (now s) (now rows) (now attrs) n (now known) 0) n
-        (now told) × AllKept settings (now sizes) (now s) (now rows) (now attrs) n (now known) (now kept))
+        (WholesTold settings (now s) (now rows) (now attrs) n (typeSizeFrom settings (now sizes) (now s) (now rows) (now attrs) n (now noted) 0) n
+        (now told) × AllKept settings (now sizes) (now s) (now rows) (now attrs) n (now noted) (now kept))
         ⌝ }
     ensures { λ r. ⌜
         Puts (rowStructures settings (now (s .entry)) (now (rows .entry)) (now (attrs .entry)) n
-        (typeSizeFrom settings (now (sizes .entry)) (now (s .entry)) (now (rows .entry)) (now (attrs .entry)) n (now (known .entry)) 0) i) counts r
+        (typeSizeFrom settings (now (sizes .entry)) (now (s .entry)) (now (rows .entry)) (now (attrs .entry)) n (now (noted .entry)) 0) i) counts r
         (now (structures .entry)) (now (structures .exit)) (now (members .entry)) (now (members .exit))
         ⌝ }
 {
@@ -238,7 +238,7 @@ fn put_row(
     let name = last_name(s, attrs, run_of(e, rows, i), NAME);
     let k = counts.structures;
     let first = counts.members;
-    match known_at(told, i) {
+    match noted_at(told, i) {
         Sized::Is(_) => {
             let from = first * LAID_WIDTH;
             match read_layout(
@@ -248,7 +248,7 @@ fn put_row(
                 rows,
                 attrs,
                 n,
-                known,
+                noted,
                 kept,
                 0,
                 i,
@@ -298,7 +298,7 @@ fn put_layouts(
     rows: &[u32],
     attrs: &[u32],
     n: usize,
-    known: &[u64],
+    noted: &[u64],
     kept: &[u64],
     told: &[u64],
     structures: &mut [u64],
@@ -306,13 +306,13 @@ fn put_layouts(
 )
     requires { ⌜
         PutsAsked (now s) (now rows) n (structuresFrom settings (lentRows (settings .endian) (now s) (now rows) (now attrs) n)
-        (typeSizeFrom settings (now sizes) (now s) (now rows) (now attrs) n (now known) 0) 0 n) (now members) ×
-        (WholesTold settings (now s) (now rows) (now attrs) n (typeSizeFrom settings (now sizes) (now s) (now rows) (now attrs) n (now known) 0) n
-        (now told) × AllKept settings (now sizes) (now s) (now rows) (now attrs) n (now known) (now kept))
+        (typeSizeFrom settings (now sizes) (now s) (now rows) (now attrs) n (now noted) 0) 0 n) (now members) ×
+        (WholesTold settings (now s) (now rows) (now attrs) n (typeSizeFrom settings (now sizes) (now s) (now rows) (now attrs) n (now noted) 0) n
+        (now told) × AllKept settings (now sizes) (now s) (now rows) (now attrs) n (now noted) (now kept))
         ⌝ }
     ensures { λ _. ⌜
         PutAll (structuresFrom settings (lentRows (settings .endian) (now (s .entry)) (now (rows .entry)) (now (attrs .entry)) n)
-        (typeSizeFrom settings (now (sizes .entry)) (now (s .entry)) (now (rows .entry)) (now (attrs .entry)) n (now (known .entry)) 0) 0 n)
+        (typeSizeFrom settings (now (sizes .entry)) (now (s .entry)) (now (rows .entry)) (now (attrs .entry)) n (now (noted .entry)) 0) 0 n)
         (now (structures .entry)) (now (structures .exit)) (now (members .entry)) (now (members .exit))
         ⌝ }
 {
@@ -329,7 +329,7 @@ fn put_layouts(
             rows,
             attrs,
             n,
-            known,
+            noted,
             kept,
             told,
             i,
@@ -349,21 +349,21 @@ fn give_layouts(
     rows: &[u32],
     attrs: &[u32],
     n: usize,
-    known: &[u64],
+    noted: &[u64],
     kept: &[u64],
     told: &mut [u64],
     structures: &mut [u64],
     members: &mut [u64],
 ) -> AllLayouts
-    requires { ⌜ FillAsked (now s) (now rows) n (now told) × AllKept settings (now sizes) (now s) (now rows) (now attrs) n (now known) (now kept) ⌝ }
+    requires { ⌜ FillAsked (now s) (now rows) n (now told) × AllKept settings (now sizes) (now s) (now rows) (now attrs) n (now noted) (now kept) ⌝ }
     ensures { λ r. ⌜
         BothGiven (layoutsInto (now (structures .entry)) (now (members .entry))
         (structuresFrom settings (lentRows (settings .endian) (now (s .entry)) (now (rows .entry)) (now (attrs .entry)) n)
-        (typeSizeFrom settings (now (sizes .entry)) (now (s .entry)) (now (rows .entry)) (now (attrs .entry)) n (now (known .entry)) 0) 0 n))
+        (typeSizeFrom settings (now (sizes .entry)) (now (s .entry)) (now (rows .entry)) (now (attrs .entry)) n (now (noted .entry)) 0) 0 n))
         (saidAllLayouts r) (now (structures .exit)) (now (members .exit))
         ⌝ }
 {
-    let needed = count_layouts(s, settings, sizes, rows, attrs, n, known, kept, told);
+    let needed = count_layouts(s, settings, sizes, rows, attrs, n, noted, kept, told);
     if needed.structures > structures.len() / STRUCTURE_WIDTH {
         return AllLayouts::Room(needed);
     }
@@ -377,7 +377,7 @@ fn give_layouts(
         rows,
         attrs,
         n,
-        known,
+        noted,
         kept,
         told,
         structures,
@@ -408,9 +408,9 @@ fn lay_all(
 {
     let mut kept = [0u64; KEPT_WORDS];
     keep_rows(s, settings, sizes, rows, attrs, n, &mut kept);
-    let mut known = [0u64; KNOWN_WORDS];
+    let mut noted = [0u64; KNOWN_WORDS];
     let mut next = [0u64; KNOWN_WORDS];
-    fill_known(
+    fill_noted(
         s,
         settings,
         sizes,
@@ -418,7 +418,7 @@ fn lay_all(
         attrs,
         n,
         &kept,
-        &mut known,
+        &mut noted,
         &mut next,
     );
     give_layouts(
@@ -428,7 +428,7 @@ fn lay_all(
         rows,
         attrs,
         n,
-        &known,
+        &noted,
         &kept,
         &mut next,
         structures,

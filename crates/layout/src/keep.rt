@@ -12,7 +12,7 @@ use records::member::member_at;
 use records::scan::Fault;
 use records::scan::refused;
 use sizes::kept::KEPT;
-use sizes::known::put_known;
+use sizes::noted::put_noted;
 use sizes::prepare::is_structure;
 use sizes::prepare::structure_fault;
 use sizes::size::fundamental_size;
@@ -78,8 +78,8 @@ fn keep_two(kept: &mut [u64], c: usize, first: Sized, second: Sized)
     requires { ⌜ c * keptWidth + keptWidth ≤ length (now kept) ⌝ }
     ensures { λ _. ⌜ PutTwo c (saidSized first) (saidSized second) (now (kept .entry)) (now (kept .exit)) ⌝ }
 {
-    put_known(kept, c * KEPT, first);
-    put_known(kept, c * KEPT + 1, second);
+    put_noted(kept, c * KEPT, first);
+    put_noted(kept, c * KEPT + 1, second);
 }
 
 // The member at row c.
@@ -119,7 +119,7 @@ fn keep_row(
 {
     let e = settings.endian;
     let sibling = sibling_row(s, e, rows, attrs, n, c);
-    put_known(kept, c * KEPT + 2, Sized::Is((sibling % 4294967296) as u32));
+    put_noted(kept, c * KEPT + 2, Sized::Is((sibling % 4294967296) as u32));
     let row = row_at(rows, c);
     if row.kind == 0x0d {
         let read = member_at(s, settings, rows, attrs, n, c);
@@ -147,7 +147,7 @@ fn keep_members(
     }
 }
 
-// A fault in the words of known sizes.
+// A fault in the words of noted sizes.
 fn fault_size(fault: Fault) -> Sized
     ensures { λ r. ⌜ saidSized r ≡ faultSize (saidFault fault) ⌝ }
 {
@@ -173,7 +173,7 @@ fn keep_fault(
     let row = row_at(rows, i);
     if is_structure(row.kind) {
         let fault = structure_fault(s, settings, rows, attrs, n, kept, i);
-        put_known(kept, i * KEPT, fault_size(fault));
+        put_noted(kept, i * KEPT, fault_size(fault));
     }
 }
 

@@ -6,7 +6,7 @@ use format::refusal::Reason;
 use format::refusal::Refusal;
 use format::settings::Settings;
 use lent::words::put_word;
-use links::kids::child_from;
+use links::each_child::child_from;
 use links::link::next_row;
 use numbers::Endian;
 use records::fields::Word;
@@ -36,7 +36,7 @@ ghost use Rattle.tables.specs.Table.{table, lentRows};
 ghost use Rattle.lent.specs.Outcome.{Given};
 ghost use Rattle.records.specs.Inside.Enumeration.{AskedShort};
 ghost use Rattle.tables.specs.Row.{rowAt};
-ghost use Rattle.links.specs.Inside.Kids.{kidsOf};
+ghost use Rattle.links.specs.Inside.EachChild.{childrenAt};
 ghost use Rattle.sizes.specs.Size.{saidSized};
 ghost use Rattle.sizes.specs.Inside.Kept.{AllKept, LayoutAsked};
 ghost use Rattle.sizes.specs.Inside.Size.{EndsShort, typeSizeFrom};
@@ -129,7 +129,7 @@ fn put_laid(
     }
 }
 
-// The member at row c, whose size is known, laid as number `count`.
+// The member at row c, whose size is noted, laid as number `count`.
 fn lay_sized(
     s: &[u8],
     e: Endian,
@@ -169,7 +169,7 @@ fn lay_child(
     rows: &[u32],
     attrs: &[u32],
     n: usize,
-    known: &[u64],
+    noted: &[u64],
     kept: &[u64],
     levels: usize,
     bounded: bool,
@@ -178,10 +178,10 @@ fn lay_child(
     largest: u32,
     room: &mut [u64],
 ) -> Laying
-    requires { ⌜ LayAsked (now s) (now rows) n c count × AllKept settings (now sizes) (now s) (now rows) (now attrs) n (now known) (now kept) ⌝ }
+    requires { ⌜ LayAsked (now s) (now rows) n c count × AllKept settings (now sizes) (now s) (now rows) (now attrs) n (now noted) (now kept) ⌝ }
     ensures { λ r. ⌜
         Lays (childLaid settings (now (s .entry)) (now (rows .entry)) (now (attrs .entry)) n
-        (typeSizeFrom settings (now (sizes .entry)) (now (s .entry)) (now (rows .entry)) (now (attrs .entry)) n (now (known .entry)) levels) bounded
+        (typeSizeFrom settings (now (sizes .entry)) (now (s .entry)) (now (rows .entry)) (now (attrs .entry)) n (now (noted .entry)) levels) bounded
         largest c) count r (now (room .entry)) (now (room .exit))
         ⌝ }
 {
@@ -190,7 +190,7 @@ fn lay_child(
         return Laying::Is { count, largest };
     }
     let e = settings.endian;
-    match member_added(s, settings, sizes, rows, attrs, n, known, kept, levels, c) {
+    match member_added(s, settings, sizes, rows, attrs, n, noted, kept, levels, c) {
         Added::Is { offset, size } => lay_sized(
             s,
             e,
@@ -216,7 +216,7 @@ fn lay_children(
     rows: &[u32],
     attrs: &[u32],
     n: usize,
-    known: &[u64],
+    noted: &[u64],
     kept: &[u64],
     levels: usize,
     bounded: bool,
@@ -224,12 +224,12 @@ fn lay_children(
     room: &mut [u64],
 ) -> Laying
     requires { ⌜
-        EndsShort settings (now s) (now rows) (now attrs) n i × AllKept settings (now sizes) (now s) (now rows) (now attrs) n (now known) (now kept)
+        EndsShort settings (now s) (now rows) (now attrs) n i × AllKept settings (now sizes) (now s) (now rows) (now attrs) n (now noted) (now kept)
         ⌝ }
     ensures { λ r. ⌜
         Lays (childrenLaid settings (now (s .entry)) (now (rows .entry)) (now (attrs .entry)) n
-        (typeSizeFrom settings (now (sizes .entry)) (now (s .entry)) (now (rows .entry)) (now (attrs .entry)) n (now (known .entry)) levels) bounded 0
-        (kidsOf (settings .endian) (now (s .entry)) (now (rows .entry)) (now (attrs .entry)) n i)) 0 r (now (room .entry)) (now (room .exit))
+        (typeSizeFrom settings (now (sizes .entry)) (now (s .entry)) (now (rows .entry)) (now (attrs .entry)) n (now (noted .entry)) levels) bounded 0
+        (childrenAt (settings .endian) (now (s .entry)) (now (rows .entry)) (now (attrs .entry)) n i)) 0 r (now (room .entry)) (now (room .exit))
         ⌝ }
 {
     let e = settings.endian;
@@ -245,7 +245,7 @@ fn lay_children(
             rows,
             attrs,
             n,
-            known,
+            noted,
             kept,
             levels,
             bounded,
@@ -284,17 +284,17 @@ fn lay_structure(
     rows: &[u32],
     attrs: &[u32],
     n: usize,
-    known: &[u64],
+    noted: &[u64],
     kept: &[u64],
     levels: usize,
     bounded: bool,
     i: usize,
     room: &mut [u64],
 ) -> Laying
-    requires { ⌜ LayoutAsked settings (now sizes) (now s) (now rows) (now attrs) n (now known) (now kept) i ⌝ }
+    requires { ⌜ LayoutAsked settings (now sizes) (now s) (now rows) (now attrs) n (now noted) (now kept) i ⌝ }
     ensures { λ r. ⌜
         Lays (structureLaid settings (now (s .entry)) (now (rows .entry)) (now (attrs .entry)) n
-        (typeSizeFrom settings (now (sizes .entry)) (now (s .entry)) (now (rows .entry)) (now (attrs .entry)) n (now (known .entry)) levels) bounded
+        (typeSizeFrom settings (now (sizes .entry)) (now (s .entry)) (now (rows .entry)) (now (attrs .entry)) n (now (noted .entry)) levels) bounded
         i) 0 r (now (room .entry)) (now (room .exit))
         ⌝ }
 {
@@ -306,7 +306,7 @@ fn lay_structure(
             rows,
             attrs,
             n,
-            known,
+            noted,
             kept,
             levels,
             bounded,
@@ -325,18 +325,18 @@ pub(crate) fn read_layout(
     rows: &[u32],
     attrs: &[u32],
     n: usize,
-    known: &[u64],
+    noted: &[u64],
     kept: &[u64],
     levels: usize,
     i: usize,
     room: &mut [u64],
 ) -> LayoutWhole
-    requires { ⌜ AskedShort (now s) (now rows) n i × AllKept settings (now sizes) (now s) (now rows) (now attrs) n (now known) (now kept) ⌝ }
+    requires { ⌜ AskedShort (now s) (now rows) n i × AllKept settings (now sizes) (now s) (now rows) (now attrs) n (now noted) (now kept) ⌝ }
     ensures { λ r. ⌜
         WholeLaid (layoutAt settings (lentRows (settings .endian) (now (s .entry)) (now (rows .entry)) (now (attrs .entry)) n)
-        (typeSizeFrom settings (now (sizes .entry)) (now (s .entry)) (now (rows .entry)) (now (attrs .entry)) n (now (known .entry)) levels) i)
+        (typeSizeFrom settings (now (sizes .entry)) (now (s .entry)) (now (rows .entry)) (now (attrs .entry)) n (now (noted .entry)) levels) i)
         (rowLay settings (lentRows (settings .endian) (now (s .entry)) (now (rows .entry)) (now (attrs .entry)) n)
-        (typeSizeFrom settings (now (sizes .entry)) (now (s .entry)) (now (rows .entry)) (now (attrs .entry)) n (now (known .entry)) levels) i) r
+        (typeSizeFrom settings (now (sizes .entry)) (now (s .entry)) (now (rows .entry)) (now (attrs .entry)) n (now (noted .entry)) levels) i) r
         (now (room .entry)) (now (room .exit))
         ⌝ }
 {
@@ -353,7 +353,7 @@ pub(crate) fn read_layout(
         rows,
         attrs,
         n,
-        known,
+        noted,
         kept,
         levels,
         is_bounded(own),
@@ -377,16 +377,16 @@ fn give_layout(
     rows: &[u32],
     attrs: &[u32],
     n: usize,
-    known: &[u64],
+    noted: &[u64],
     kept: &[u64],
     levels: usize,
     i: usize,
     room: &mut [u64],
 ) -> LayoutRead
-    requires { ⌜ AskedShort (now s) (now rows) n i × AllKept settings (now sizes) (now s) (now rows) (now attrs) n (now known) (now kept) ⌝ }
+    requires { ⌜ AskedShort (now s) (now rows) n i × AllKept settings (now sizes) (now s) (now rows) (now attrs) n (now noted) (now kept) ⌝ }
     ensures { λ r. ⌜
         Given (layoutInto settings (lentRows (settings .endian) (now (s .entry)) (now (rows .entry)) (now (attrs .entry)) n)
-        (typeSizeFrom settings (now (sizes .entry)) (now (s .entry)) (now (rows .entry)) (now (attrs .entry)) n (now (known .entry)) levels)
+        (typeSizeFrom settings (now (sizes .entry)) (now (s .entry)) (now (rows .entry)) (now (attrs .entry)) n (now (noted .entry)) levels)
         (now (room .entry)) i) (saidLayoutRead r) (now (room .exit))
         ⌝ }
 {
@@ -398,7 +398,7 @@ fn give_layout(
         rows,
         attrs,
         n,
-        known,
+        noted,
         kept,
         levels,
         i,
@@ -413,7 +413,7 @@ fn give_layout(
                     rows,
                     attrs,
                     n,
-                    known,
+                    noted,
                     kept,
                     levels,
                     i,
@@ -447,7 +447,7 @@ pub fn layout_of_key(
 {
     match row_of(s, settings, vendors, sizes, rows, attrs, counts, key) {
         Keyed::Row(i) => {
-            let known = [0u64; 0];
+            let noted = [0u64; 0];
             give_layout(
                 s,
                 settings,
@@ -455,8 +455,8 @@ pub fn layout_of_key(
                 rows,
                 attrs,
                 counts.rows,
-                &known,
-                &known,
+                &noted,
+                &noted,
                 DEPTH_LIMIT - 1,
                 i,
                 room,

@@ -5,7 +5,7 @@ pub mod Neighbour
 pub mod Attribute
 pub mod Link
 pub mod Children
-pub mod Kids
+pub mod EachChild
 pub mod Typed
 pub mod There
 pub mod Endless

@@ -1,6 +1,6 @@
--- How the code goes about it: `Links` (a row of a tested table), `Kids` (children one at a time), `Children` (how they are gathered), `Typed` (where
+-- How the code goes about it: `Links` (a row of a tested table), `EachChild` (children one at a time), `Children` (how they are gathered), `Typed` (where
 -- a value stands).
 pub mod Links
-pub mod Kids
+pub mod EachChild
 pub mod Children
 pub mod Typed

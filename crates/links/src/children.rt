@@ -28,7 +28,7 @@ pub enum ChildRows {
 }
 
 // What a walk comes to: so many children; or it never ends.
-pub enum Kids {
+pub enum Gathered {
     Count(usize),
     Endless,
 }
@@ -57,7 +57,7 @@ fn walk(
     end: usize,
     from: usize,
     room: &mut [u32],
-) -> Kids
+) -> Gathered
     requires { ⌜ RowsHold (now rows) n ⌝ }
     ensures { λ r. ⌜
         Gathers (gatheredInto (now (rows .entry)) 0 (now (room .entry))
@@ -69,16 +69,16 @@ fn walk(
     let mut turns = 0;
     while c != end {
         if n <= c {
-            return Kids::Count(k);
+            return Gathered::Count(k);
         }
         if n <= turns {
-            return Kids::Endless;
+            return Gathered::Endless;
         }
         k = take_child(rows, c, room, k);
         c = sibling_row(s, e, rows, attrs, n, c);
         turns += 1;
     }
-    Kids::Count(k)
+    Gathered::Count(k)
 }
 
 // The child walk of row i.
@@ -90,7 +90,7 @@ fn gather(
     n: usize,
     i: usize,
     room: &mut [u32],
-) -> Kids
+) -> Gathered
     requires { ⌜ Asked (now rows) n i ⌝ }
     ensures { λ r. ⌜
         Gathers (gatheredInto (now (rows .entry)) 0 (now (room .entry))
@@ -104,7 +104,7 @@ fn gather(
 }
 
 // The same into no room: it counts.
-pub fn count_children(s: &[u8], e: Endian, rows: &[u32], attrs: &[u32], n: usize, i: usize) -> Kids
+pub fn count_children(s: &[u8], e: Endian, rows: &[u32], attrs: &[u32], n: usize, i: usize) -> Gathered
     requires { ⌜ Asked (now rows) n i ⌝ }
     ensures { λ r. ⌜
         r ≡ gatheredInto (now (rows .entry)) 0 [] (childWalk (lentRows e (now (s .entry)) (now (rows .entry)) (now (attrs .entry)) n) i) .answer
@@ -133,7 +133,7 @@ fn give(
         ⌝ }
 {
     match count_children(s, e, rows, attrs, n, i) {
-        Kids::Count(k) => {
+        Gathered::Count(k) => {
             if k <= room.len() {
                 gather(s, e, rows, attrs, n, i, room);
                 ChildRows::Listed(k)
@@ -141,7 +141,7 @@ fn give(
                 ChildRows::Room(k)
             }
         }
-        Kids::Endless => ChildRows::Refused(Refusal {
+        Gathered::Endless => ChildRows::Refused(Refusal {
             reason: Reason::Link,
             place: key as u64,
         }),

@@ -30,7 +30,7 @@ ghost use Rattle.format.specs.Said.{gives};
 ghost use Rattle.links.specs.Attribute.{attributeOf};
 ghost use Rattle.links.specs.Typed.{saidLooked, saidValue, attrFound, attributeOfKey, blockForm, spotAt, spotIn, placeOfKey};
 ghost use Rattle.links.specs.Typed.{asValue, asWidened, wordAt, valueOfKey, partAs, partOf, toldWords, Handed};
-ghost use Rattle.links.specs.Inside.Typed.{saidPlaced};
+ghost use Rattle.links.specs.Inside.Typed.{saidSpotted};
 
 // The attribute that was looked for; or the row has none.
 pub enum Looked {
@@ -52,7 +52,7 @@ pub struct Spot {
     pub ends: Endians,
 }
 
-pub enum Placed {
+pub enum Spotted {
     At(Spot),
     Nothing,
     Refused(Refusal),
@@ -150,29 +150,29 @@ pub fn type_attribute(
 }
 
 // Where row i's first attribute of this number has its value.
-fn spot_at(e: Endian, rows: &[u32], attrs: &[u32], i: usize, number: u32) -> Placed
-    ensures { λ r. ⌜ saidPlaced r ≡ gives (spotAt e (now (rows .entry)) (now (attrs .entry)) number i) ⌝ }
+fn spot_at(e: Endian, rows: &[u32], attrs: &[u32], i: usize, number: u32) -> Spotted
+    ensures { λ r. ⌜ saidSpotted r ≡ gives (spotAt e (now (rows .entry)) (now (attrs .entry)) number i) ⌝ }
 {
     match attribute_of(rows, attrs, i, Wanted::Number(number)) {
         Found::At(k) => {
             let attr = attr_at(attrs, k);
             let ends = ends_of(e, rows, i);
-            Placed::At(Spot {
+            Spotted::At(Spot {
                 at: attr.value as usize,
                 ends,
             })
         }
-        Found::Nothing => Placed::Nothing,
+        Found::Nothing => Spotted::Nothing,
     }
 }
 
-fn spot_in(e: Endian, rows: &[u32], attrs: &[u32], i: usize, number: u16, form: FormKind) -> Placed
-    ensures { λ r. ⌜ saidPlaced r ≡ gives (spotIn e (now (rows .entry)) (now (attrs .entry)) number form i) ⌝ }
+fn spot_in(e: Endian, rows: &[u32], attrs: &[u32], i: usize, number: u16, form: FormKind) -> Spotted
+    ensures { λ r. ⌜ saidSpotted r ≡ gives (spotIn e (now (rows .entry)) (now (attrs .entry)) number form i) ⌝ }
 {
     if is_form(form, number) {
         spot_at(e, rows, attrs, i, number as u32)
     } else {
-        Placed::Nothing
+        Spotted::Nothing
     }
 }
 
@@ -188,9 +188,9 @@ fn place_of(
     key: u32,
     number: u16,
     form: FormKind,
-) -> Placed
+) -> Spotted
     ensures { λ r. ⌜
-        saidPlaced r ≡ placeOfKey (table (now (s .entry)) settings (now (vendors .entry)) (now (sizes .entry)) (now (rows .entry))
+        saidSpotted r ≡ placeOfKey (table (now (s .entry)) settings (now (vendors .entry)) (now (sizes .entry)) (now (rows .entry))
         (now (attrs .entry)) counts) key number form
         ⌝ }
 {
@@ -199,7 +199,7 @@ fn place_of(
             let e = settings.endian;
             spot_in(e, rows, attrs, i, number, form)
         }
-        Keyed::Refused(why) => Placed::Refused(why),
+        Keyed::Refused(why) => Spotted::Refused(why),
     }
 }
 
@@ -268,9 +268,9 @@ fn value_of(
         number,
         form,
     ) {
-        Placed::At(spot) => word_at(s, spot, form),
-        Placed::Nothing => Value::Nothing,
-        Placed::Refused(why) => Value::Refused(why),
+        Spotted::At(spot) => word_at(s, spot, form),
+        Spotted::Nothing => Value::Nothing,
+        Spotted::Refused(why) => Value::Refused(why),
     }
 }
 
@@ -416,28 +416,28 @@ fn part_as(s: &[u8], spot: Spot, form: FormKind) -> &[u8]
     }
 }
 
-fn part_of(s: &[u8], placed: Placed, form: FormKind) -> &[u8]
-    ensures { λ r. ⌜ now r ≡ partOf form (now (s .entry)) (saidPlaced placed) ⌝ }
+fn part_of(s: &[u8], placed: Spotted, form: FormKind) -> &[u8]
+    ensures { λ r. ⌜ now r ≡ partOf form (now (s .entry)) (saidSpotted placed) ⌝ }
 {
     match placed {
-        Placed::At(spot) => part_as(s, spot, form),
-        Placed::Nothing => &s[..0],
-        Placed::Refused(why) => &s[..0],
+        Spotted::At(spot) => part_as(s, spot, form),
+        Spotted::Nothing => &s[..0],
+        Spotted::Refused(why) => &s[..0],
     }
 }
 
 // Whether there is a part, in three words: 1; 0 for none; 2 for a refusal, then its number and its place.
-fn tell(placed: Placed, told: &mut [u64; 3])
-    ensures { λ r. ⌜ now (told .exit) ≡ toldWords (saidPlaced placed) ⌝ }
+fn tell(placed: Spotted, told: &mut [u64; 3])
+    ensures { λ r. ⌜ now (told .exit) ≡ toldWords (saidSpotted placed) ⌝ }
 {
     match placed {
-        Placed::At(spot) => {
+        Spotted::At(spot) => {
             *told = [1, 0, 0];
         }
-        Placed::Nothing => {
+        Spotted::Nothing => {
             *told = [0, 0, 0];
         }
-        Placed::Refused(why) => {
+        Spotted::Refused(why) => {
             let reason = why.reason;
             *told = [2, number_of(reason) as u64, why.place];
         }

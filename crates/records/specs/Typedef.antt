@@ -45,13 +45,13 @@ pub data Held : Type 0 where
   holds : Said «Type» → Held
 
 -- a name and a type, if there are any yet
-pub record Known : Type 0 where
+pub record SoFar : Type 0 where
   pub name : Name
   pub of : Held
 
 -- nothing is known yet
-unfoldable pub unknown : Known
-unknown = record { name = name.Nothing; of = nothing }
+unfoldable pub nothingYet : SoFar
+nothingYet = record { name = name.Nothing; of = nothing }
 
 -- a specification fills a name that is missing
 unfoldable pub nameFilled : Name → Text → Name
@@ -64,11 +64,11 @@ typeFilled (holds t) other = holds t
 typeFilled nothing other = holds (gives other)
 
 -- what a specification fills
-unfoldable pub filledIn : Known → Typedef → Known
+unfoldable pub filledIn : SoFar → Typedef → SoFar
 filledIn known t = record { name = nameFilled (known .name) (t .name); of = typeFilled (known .of) (t .of) }
 
 -- an attribute overwrites what it says: a name, a type, or nothing of both
-unfoldable pub overwritten : List ℕ → Run → Attribute → Known → Known
+unfoldable pub overwritten : List ℕ → Run → Attribute → SoFar → SoFar
 overwritten s run a known =
     record {
       name = cond (eqb (a .number) attribute.Name) (name.Is (textOf s (a .value))) (known .name);
@@ -102,7 +102,7 @@ module _ (settings : Settings) (t : Rows) where
   -- ---- the attributes in their order
 
   -- after the attributes: no children, then name and type
-  unfoldable pub typedefEnd : ℕ → Known → Said Typedef
+  unfoldable pub typedefEnd : ℕ → SoFar → Said Typedef
   typedefEnd i known = do
     childlessFault (t .rows) i (childWalk t i)
     text ← nameNeeded (rowAt (t .rows) i .key) (known .name)
@@ -110,7 +110,7 @@ module _ (settings : Settings) (t : Rows) where
     gives (record { name = text; of = of })
 
   -- m attributes of row i's run from number j on; `below` reads the typedef that a specification names
-  unfoldable pub attributesFrom : (ℕ → Said Typedef) → ℕ → ℕ → Run → ℕ → ℕ → Known → Said Typedef
+  unfoldable pub attributesFrom : (ℕ → Said Typedef) → ℕ → ℕ → Run → ℕ → ℕ → SoFar → Said Typedef
   attributesFrom below levels i run j zero known = typedefEnd i known
   attributesFrom below levels i run j (suc m) known =
       elim (special record′.Typedef (numberAt (settings .roles) record′.Typedef run (t .section) (t .attrs) j)) [
@@ -128,9 +128,9 @@ module _ (settings : Settings) (t : Rows) where
   typedefRun zero i =
       attributesFrom (λ r. refuse reason.Depth (rowAt (t .rows) r .key)) zero i (runOf (settings .endian) (t .rows) i) 0
       (runOf (settings .endian) (t .rows) i .count)
-      unknown
+      nothingYet
   typedefRun (suc levels) i =
-      attributesFrom (typedefRun levels) (suc levels) i (runOf (settings .endian) (t .rows) i) 0 (runOf (settings .endian) (t .rows) i .count) unknown
+      attributesFrom (typedefRun levels) (suc levels) i (runOf (settings .endian) (t .rows) i) 0 (runOf (settings .endian) (t .rows) i .count) nothingYet
 
   -- the typedef at row i
   unfoldable pub typedefAt : ℕ → Said Typedef

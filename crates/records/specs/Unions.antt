@@ -47,35 +47,35 @@ unfolding ignoredKinds
 ignored kind = isOn kind ignoredKinds
 
 -- a member with its row's number
-pub record Placed : Type 0 where
+pub record RowMember : Type 0 where
   pub row : ℕ
   pub member : Member
 
 module _ (settings : Settings) (t : Rows) where
   -- child c, a member, and those after it
-  unfoldable pub memberThen : ℕ → Said (List Placed) → Said (List Placed)
+  unfoldable pub memberThen : ℕ → Said (List RowMember) → Said (List RowMember)
   memberThen c rest = do
     m ← memberAt settings t c
     ms ← rest
     gives (record { row = c; member = m } ∷ ms)
 
   -- child c of the union with this key, and those after it
-  unfoldable pub childThen : ℕ → ℕ → Said (List Placed) → Said (List Placed)
+  unfoldable pub childThen : ℕ → ℕ → Said (List RowMember) → Said (List RowMember)
   childThen key c rest =
       cond (eqb (rowAt (t .rows) c .kind) tag.Member) (memberThen c rest) (cond (ignored (rowAt (t .rows) c .kind)) rest (refuse reason.Child key))
 
   -- children one after the other
-  unfoldable pub membersFrom : ℕ → List ℕ → Said (List Placed)
+  unfoldable pub membersFrom : ℕ → List ℕ → Said (List RowMember)
   membersFrom key [] = gives []
   membersFrom key (c ∷ cs) = childThen key c (membersFrom key cs)
 
   -- the walk is done before any child is looked at: 9 where it never ends
-  unfoldable pub membersBy : ℕ → Walk → Said (List Placed)
+  unfoldable pub membersBy : ℕ → Walk → Said (List RowMember)
   membersBy key (ends cs) = membersFrom key (nonNull (t .rows) cs)
   membersBy key endless = refuse reason.Link key
 
   -- the members of row i
-  unfoldable pub rowMembers : ℕ → Said (List Placed)
+  unfoldable pub rowMembers : ℕ → Said (List RowMember)
   rowMembers i = membersBy (rowAt (t .rows) i .key) (childWalk t i)
 
 -- with so many members: a ByteSize is needed, the name may be missing
@@ -94,7 +94,7 @@ unionAt settings t i = do
 -- ---- into lent room: 8 last, with the count
 
 -- the records of members, one after the other
-unfoldable pub membersWords : List Placed → List ℕ
+unfoldable pub membersWords : List RowMember → List ℕ
 membersWords [] = []
 membersWords (m ∷ ms) = memberWords (m .row) (m .member) ++ membersWords ms
 

@@ -7,7 +7,7 @@ use crate::taken::Record;
 use format::refusal::Reason;
 use format::settings::Producer;
 use format::settings::Settings;
-use links::children::Kids;
+use links::children::Gathered;
 use links::children::count_children;
 use numbers::Endian;
 use tables::row::row_at;
@@ -76,14 +76,14 @@ pub(crate) fn childless_fault(
 {
     let row = row_at(rows, i);
     match count_children(s, e, rows, attrs, n, i) {
-        Kids::Count(k) => {
+        Gathered::Count(k) => {
             if k == 0 {
                 Fault::Clear
             } else {
                 Fault::Refused(refused(Reason::Child, row.key))
             }
         }
-        Kids::Endless => Fault::Refused(refused(Reason::Link, row.key)),
+        Gathered::Endless => Fault::Refused(refused(Reason::Link, row.key)),
     }
 }
 

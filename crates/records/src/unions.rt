@@ -20,9 +20,9 @@ use format::attribute_kind::NAME;
 use format::refusal::Reason;
 use format::refusal::Refusal;
 use format::settings::Settings;
-use links::children::Kids;
+use links::children::Gathered;
 use links::children::count_children;
-use links::kids::child_from;
+use links::each_child::child_from;
 use links::link::next_row;
 use links::link::sibling_row;
 use tables::keyed::Keyed;
@@ -38,7 +38,7 @@ ghost use Rattle.records.specs.Inside.Unions.{saidUnionWhole};
 ghost use Rattle.records.specs.Unions.{processUnionTag};
 ghost use Rattle.records.specs.Inside.Counted.{saidCounted};
 ghost use Rattle.records.specs.Inside.Unions.{TakeAsked, TakesMember, EndsAt, MembersStored, UnionStored};
-ghost use Rattle.links.specs.Inside.Kids.{kidsOf};
+ghost use Rattle.links.specs.Inside.EachChild.{childrenAt};
 ghost use Rattle.tables.specs.Row.{rowAt};
 
 pub struct Union {
@@ -125,7 +125,7 @@ fn take_children(
     ensures { λ r. ⌜
         MembersStored (membersFrom settings (lentRows (settings .endian) (now (s .entry)) (now (rows .entry)) (now (attrs .entry)) n)
         (rowAt (now (rows .entry)) i .key)
-        (kidsOf (settings .endian) (now (s .entry)) (now (rows .entry)) (now (attrs .entry)) n i)) (saidCounted r) (now (room .entry))
+        (childrenAt (settings .endian) (now (s .entry)) (now (rows .entry)) (now (attrs .entry)) n i)) (saidCounted r) (now (room .entry))
         (now (room .exit))
         ⌝ }
 {
@@ -174,8 +174,8 @@ fn union_members(
     let e = settings.endian;
     let row = row_at(rows, i);
     match count_children(s, e, rows, attrs, n, i) {
-        Kids::Count(_) => take_children(s, settings, rows, attrs, n, i, room),
-        Kids::Endless => Counted::Refused(refused(Reason::Link, row.key)),
+        Gathered::Count(_) => take_children(s, settings, rows, attrs, n, i, room),
+        Gathered::Endless => Counted::Refused(refused(Reason::Link, row.key)),
     }
 }
 

@@ -3,7 +3,7 @@ pub mod Product
 pub mod Walking
 pub mod Prepare
 pub mod Ends
-pub mod Known
+pub mod Noted
 pub mod Kept
 pub mod Size
 pub mod Stay

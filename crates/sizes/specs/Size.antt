@@ -33,7 +33,7 @@ use Rattle.links.specs.Walk.{Walk, ends, endless}
 use Rattle.links.specs.Links.{childWalk, nonNull}
 use Rattle.records.specs.Scan.{runOf, attributeAt, faultsFrom}
 use Rattle.records.specs.Fields.{lastOf, wordOf}
-use Rattle.records.specs.Unions.{Placed, memberThen, unionAt}
+use Rattle.records.specs.Unions.{RowMember, memberThen, unionAt}
 use Rattle.records.specs.Enumeration.{enumerationAt}
 use Rattle.records.specs.PtrToMember.{ptrAt}
 use Rattle.records.specs.declared.scan.Run.{Run}
@@ -134,21 +134,21 @@ module _ (s attrs : List ℕ) (run : Run) where
 
 module _ (settings : Settings) (t : Rows) where
   -- child c and those after it: a Member row is read whole, any other is passed over (in a union some are 16)
-  unfoldable pub memberChildThen : ℕ → Said (List Placed) → Said (List Placed)
+  unfoldable pub memberChildThen : ℕ → Said (List RowMember) → Said (List RowMember)
   memberChildThen c rest = cond (eqb (rowAt (t .rows) c .kind) tag.Member) (memberThen settings t c rest) rest
 
   -- children one after the other: the first Member that is refused counts, where its record places it
-  unfoldable pub memberRowsFrom : List ℕ → Said (List Placed)
+  unfoldable pub memberRowsFrom : List ℕ → Said (List RowMember)
   memberRowsFrom [] = gives []
   memberRowsFrom (c ∷ cs) = memberChildThen c (memberRowsFrom cs)
 
   -- the walk is done before any child is looked at: 9 at the structure where it never ends; null entries are left out
-  unfoldable pub memberRowsBy : ℕ → Walk → Said (List Placed)
+  unfoldable pub memberRowsBy : ℕ → Walk → Said (List RowMember)
   memberRowsBy key (ends cs) = memberRowsFrom (nonNull (t .rows) cs)
   memberRowsBy key endless = refuse reason.Link key
 
   -- the members of row i, in walk order
-  unfoldable pub membersOf : ℕ → Said (List Placed)
+  unfoldable pub membersOf : ℕ → Said (List RowMember)
   membersOf i = memberRowsBy (rowAt (t .rows) i .key) (childWalk t i)
 
 -- a ByteSize of its own, else its type's size
@@ -157,7 +157,7 @@ sizeOr typeSize t (word.Is size) = gives size
 sizeOr typeSize t word.Nothing = typeSize t
 
 -- a member's size
-unfoldable pub memberSize : («Type» → Said ℕ) → Placed → Said ℕ
+unfoldable pub memberSize : («Type» → Said ℕ) → RowMember → Said ℕ
 memberSize typeSize m = sizeOr typeSize (m .member .of) (m .member .«byte_size»)
 
 -- the larger of two ends
@@ -172,7 +172,7 @@ withEnd key largest end = do
 
 module _ (rows : List ℕ) (typeSize : «Type» → Said ℕ) where
   -- member by member: its size, then its end, before the next one's size is taken; the largest end is the size, 0 without members
-  unfoldable pub endsFrom : ℕ → List Placed → Said ℕ
+  unfoldable pub endsFrom : ℕ → List RowMember → Said ℕ
   endsFrom largest [] = gives largest
   endsFrom largest (m ∷ ms) = do
     size ← memberSize typeSize m
@@ -180,7 +180,7 @@ module _ (rows : List ℕ) (typeSize : «Type» → Said ℕ) where
     endsFrom next ms
 
   -- ByteSize, or else the largest member end; with a ByteSize no member's size is taken
-  unfoldable pub sizeOrEnds : List Placed → Word → Said ℕ
+  unfoldable pub sizeOrEnds : List RowMember → Word → Said ℕ
   sizeOrEnds ms (word.Is size) = gives size
   sizeOrEnds ms word.Nothing = endsFrom 0 ms
 

@@ -1,6 +1,6 @@
-// What is kept of each row for calls that take many sizes, so that a row is read once. Three answers a row, in the words of known sizes: a member's offset, or why
+// What is kept of each row for calls that take many sizes, so that a row is read once. Three answers a row, in the words of noted sizes: a member's offset, or why
 // it is refused (of a structure: why its members are); a member's size, or the row of the entry that has it; the sibling's row. Nothing is kept where `kept` is empty.
-use crate::known::known_at;
+use crate::noted::noted_at;
 use crate::sized::Sized;
 use format::refusal::Refusal;
 use format::refusal::number_of;
@@ -34,15 +34,15 @@ pub(crate) fn with_size(offset: u32, size: Sized) -> Added
 }
 
 // A size as it is kept: 10 tells the row of the entry that has it.
-fn size_kept(known: &[u64], size: Sized) -> Sized
-    ensures { λ r. ⌜ saidSized r ≡ sizeKept (now (known .entry)) (saidSized size) ⌝ }
+fn size_kept(noted: &[u64], size: Sized) -> Sized
+    ensures { λ r. ⌜ saidSized r ≡ sizeKept (now (noted .entry)) (saidSized size) ⌝ }
 {
     match size {
         Sized::Is(size) => Sized::Is(size),
         Sized::Refused(why) => {
             let reason = why.reason;
             if number_of(reason) == 10 {
-                known_at(known, why.place as usize)
+                noted_at(noted, why.place as usize)
             } else {
                 Sized::Refused(why)
             }
@@ -51,12 +51,12 @@ fn size_kept(known: &[u64], size: Sized) -> Sized
 }
 
 // The member at row c, as it is kept.
-pub(crate) fn added_kept(known: &[u64], kept: &[u64], c: usize) -> Added
+pub(crate) fn added_kept(noted: &[u64], kept: &[u64], c: usize) -> Added
     requires { ⌜ SmallPlace c ⌝ }
-    ensures { λ r. ⌜ saidAdded r ≡ addedKept (now (known .entry)) (now (kept .entry)) c ⌝ }
+    ensures { λ r. ⌜ saidAdded r ≡ addedKept (now (noted .entry)) (now (kept .entry)) c ⌝ }
 {
-    match known_at(kept, c * KEPT) {
-        Sized::Is(offset) => with_size(offset, size_kept(known, known_at(kept, c * KEPT + 1))),
+    match noted_at(kept, c * KEPT) {
+        Sized::Is(offset) => with_size(offset, size_kept(noted, noted_at(kept, c * KEPT + 1))),
         Sized::Refused(why) => Added::Refused(why),
     }
 }
@@ -75,7 +75,7 @@ pub fn kept_sibling(
     ensures { λ r. ⌜ r ≡ siblingRow (lentRows e (now (s .entry)) (now (rows .entry)) (now (attrs .entry)) n) c ⌝ }
 {
     if kept.len() > 0 {
-        match known_at(kept, c * KEPT + 2) {
+        match noted_at(kept, c * KEPT + 2) {
             Sized::Is(row) => row as usize,
             Sized::Refused(_) => n,
         }

@@ -1,7 +1,7 @@
 // What an entry's size takes before any other size is asked for: the row's kind, an array's subscripts, a structure's members and every record are read whole.
 use crate::kept::KEPT;
 use crate::kept::kept_sibling;
-use crate::known::known_at;
+use crate::noted::noted_at;
 use crate::sized::Sized;
 use attributes::decode::block2;
 use blocks::subscripts::Counted;
@@ -12,9 +12,9 @@ use format::attribute_kind::SUBSCR_DATA;
 use format::refusal::Reason;
 use format::refusal::Refusal;
 use format::settings::Settings;
-use links::children::Kids;
+use links::children::Gathered;
 use links::children::count_children;
-use links::kids::child_from;
+use links::each_child::child_from;
 use links::link::next_row;
 use records::enumeration::EnumerationWhole;
 use records::enumeration::enumeration_at;
@@ -37,7 +37,7 @@ ghost use mathlib.Core.Path.{_≡_};
 ghost use Rattle.links.specs.Inside.Children.{Asked};
 ghost use Rattle.records.specs.Inside.Enumeration.{AskedShort};
 ghost use Rattle.sizes.specs.Size.{isStructure, shapeOf, subscriptBlock};
-ghost use Rattle.links.specs.Inside.Kids.{kidsOf};
+ghost use Rattle.links.specs.Inside.EachChild.{childrenAt};
 ghost use Rattle.records.specs.Inside.Scan.{saidFault};
 ghost use Rattle.records.specs.Inside.Unions.{EndsAt};
 ghost use Rattle.sizes.specs.Inside.Kept.{faultKept, FaultsKept, RowsKept, StructureAsked};
@@ -145,7 +145,7 @@ fn fault_kept(kept: &[u64], c: usize) -> Fault
     requires { ⌜ SmallPlace c ⌝ }
     ensures { λ r. ⌜ saidFault r ≡ faultKept (now (kept .entry)) c ⌝ }
 {
-    match known_at(kept, c * KEPT) {
+    match noted_at(kept, c * KEPT) {
         Sized::Is(_) => Fault::Clear,
         Sized::Refused(why) => Fault::Refused(why),
     }
@@ -190,7 +190,7 @@ fn members_fault(
     requires { ⌜ EndsAt (settings .endian) (now s) (now rows) (now attrs) n i × FaultsKept settings (now s) (now rows) (now attrs) n (now kept) ⌝ }
     ensures { λ r. ⌜
         saidFault r ≡ membersFault settings (now (s .entry)) (now (rows .entry)) (now (attrs .entry)) n
-        (kidsOf (settings .endian) (now (s .entry)) (now (rows .entry)) (now (attrs .entry)) n i)
+        (childrenAt (settings .endian) (now (s .entry)) (now (rows .entry)) (now (attrs .entry)) n i)
         ⌝ }
 {
     let e = settings.endian;
@@ -231,8 +231,8 @@ pub fn structure_fault(
     let e = settings.endian;
     let row = row_at(rows, i);
     match count_children(s, e, rows, attrs, n, i) {
-        Kids::Count(_) => members_fault(s, settings, rows, attrs, n, kept, i),
-        Kids::Endless => Fault::Refused(refused(Reason::Link, row.key)),
+        Gathered::Count(_) => members_fault(s, settings, rows, attrs, n, kept, i),
+        Gathered::Endless => Fault::Refused(refused(Reason::Link, row.key)),
     }
 }
 

@@ -1,10 +1,10 @@
-// The size of a type and of the entry it names: they call each other, and the levels that are left fall from an entry to those it names. `known` are sizes that are
-// known already, for calls that take many; it is empty for none, and then nothing but the levels bounds the calls.
+// The size of a type and of the entry it names: they call each other, and the levels that are left fall from an entry to those it names. `noted` are sizes that are
+// noted already, for calls that take many; it is empty for none, and then nothing but the levels bounds the calls.
 use crate::kept::Added;
 use crate::kept::added_kept;
 use crate::kept::kept_sibling;
 use crate::kept::with_size;
-use crate::known::known_at;
+use crate::noted::noted_at;
 use crate::prepare::Prepared;
 use crate::prepare::prepare_row;
 use crate::prepare::subscript_block;
@@ -16,7 +16,7 @@ use format::fund_type::order_of;
 use format::limits::DEPTH_LIMIT;
 use format::refusal::Reason;
 use format::settings::Settings;
-use links::kids::child_from;
+use links::each_child::child_from;
 use links::link::next_row;
 use records::fields::Word;
 use records::member::MemberRead;
@@ -31,7 +31,7 @@ use tables::tests::Tested;
 use tables::tests::test_table;
 ghost use mathlib.Core.Path.{_≡_};
 ghost use Rattle.tables.specs.Table.{table, lentRows};
-ghost use Rattle.links.specs.Inside.Kids.{kidsOf};
+ghost use Rattle.links.specs.Inside.EachChild.{childrenAt};
 ghost use Rattle.records.specs.Inside.Enumeration.{AskedShort};
 ghost use Rattle.sizes.specs.Size.{saidSized, fundamentalSize, rowSize, sizeOfKey, sizeOfType};
 ghost use Rattle.sizes.specs.Inside.Kept.{AllKept, MemberAsked};
@@ -92,15 +92,15 @@ pub(crate) fn type_size(
     rows: &[u32],
     attrs: &[u32],
     n: usize,
-    known: &[u64],
+    noted: &[u64],
     kept: &[u64],
     levels: usize,
     of: Type,
 ) -> Sized
-    requires { ⌜ TableReady (now s) (now rows) n × AllKept settings (now sizes) (now s) (now rows) (now attrs) n (now known) (now kept) ⌝ }
+    requires { ⌜ TableReady (now s) (now rows) n × AllKept settings (now sizes) (now s) (now rows) (now attrs) n (now noted) (now kept) ⌝ }
     ensures { λ r. ⌜
         saidSized r ≡ typeSizeFrom settings (now (sizes .entry)) (now (s .entry)) (now (rows .entry)) (now (attrs .entry)) n
-        (now (known .entry)) levels of
+        (now (noted .entry)) levels of
         ⌝ }
 {
     if of.pointer {
@@ -110,7 +110,7 @@ pub(crate) fn type_size(
     match kind {
         TypeKind::Fundamental(number) => fundamental_size(sizes, number),
         TypeKind::UserDefined(key) => {
-            entry_size(s, settings, sizes, rows, attrs, n, known, kept, levels, key)
+            entry_size(s, settings, sizes, rows, attrs, n, noted, kept, levels, key)
         }
     }
 }
@@ -123,21 +123,21 @@ pub(crate) fn entry_size(
     rows: &[u32],
     attrs: &[u32],
     n: usize,
-    known: &[u64],
+    noted: &[u64],
     kept: &[u64],
     levels: usize,
     key: u32,
 ) -> Sized
-    requires { ⌜ TableReady (now s) (now rows) n × AllKept settings (now sizes) (now s) (now rows) (now attrs) n (now known) (now kept) ⌝ }
+    requires { ⌜ TableReady (now s) (now rows) n × AllKept settings (now sizes) (now s) (now rows) (now attrs) n (now noted) (now kept) ⌝ }
     ensures { λ r. ⌜
         saidSized r ≡ entrySizeFrom settings (now (sizes .entry)) (now (s .entry)) (now (rows .entry)) (now (attrs .entry)) n
-        (now (known .entry)) levels key
+        (now (noted .entry)) levels key
         ⌝ }
 {
     match find_row(rows, n, key) {
         Found::At(i) => {
-            if known.len() > 0 {
-                return known_at(known, i);
+            if noted.len() > 0 {
+                return noted_at(noted, i);
             }
             if levels == 0 {
                 return Sized::Refused(refused(Reason::Depth, key));
@@ -149,7 +149,7 @@ pub(crate) fn entry_size(
                 rows,
                 attrs,
                 n,
-                known,
+                noted,
                 kept,
                 levels - 1,
                 i,
@@ -167,26 +167,26 @@ pub fn row_size(
     rows: &[u32],
     attrs: &[u32],
     n: usize,
-    known: &[u64],
+    noted: &[u64],
     kept: &[u64],
     levels: usize,
     i: usize,
 ) -> Sized
-    requires { ⌜ AskedShort (now s) (now rows) n i × AllKept settings (now sizes) (now s) (now rows) (now attrs) n (now known) (now kept) ⌝ }
+    requires { ⌜ AskedShort (now s) (now rows) n i × AllKept settings (now sizes) (now s) (now rows) (now attrs) n (now noted) (now kept) ⌝ }
     ensures { λ r. ⌜
         saidSized r ≡ rowSize settings (lentRows (settings .endian) (now (s .entry)) (now (rows .entry)) (now (attrs .entry)) n)
-        (typeSizeFrom settings (now (sizes .entry)) (now (s .entry)) (now (rows .entry)) (now (attrs .entry)) n (now (known .entry)) levels) i
+        (typeSizeFrom settings (now (sizes .entry)) (now (s .entry)) (now (rows .entry)) (now (attrs .entry)) n (now (noted .entry)) levels) i
         ⌝ }
 {
     match prepare_row(s, settings, rows, attrs, n, kept, i) {
         Prepared::Size(size) => Sized::Is(size),
         Prepared::Element { of, at } => {
-            match type_size(s, settings, sizes, rows, attrs, n, known, kept, levels, of) {
+            match type_size(s, settings, sizes, rows, attrs, n, noted, kept, levels, of) {
                 Sized::Is(size) => array_product(s, settings, rows, attrs, i, at, size),
                 Sized::Refused(why) => Sized::Refused(why),
             }
         }
-        Prepared::Ends => ends_size(s, settings, sizes, rows, attrs, n, known, kept, levels, i),
+        Prepared::Ends => ends_size(s, settings, sizes, rows, attrs, n, noted, kept, levels, i),
         Prepared::Refused(why) => Sized::Refused(why),
     }
 }
@@ -199,15 +199,15 @@ fn read_added(
     rows: &[u32],
     attrs: &[u32],
     n: usize,
-    known: &[u64],
+    noted: &[u64],
     kept: &[u64],
     levels: usize,
     c: usize,
 ) -> Added
-    requires { ⌜ MemberAsked settings (now sizes) (now s) (now rows) (now attrs) n (now known) (now kept) c ⌝ }
+    requires { ⌜ MemberAsked settings (now sizes) (now s) (now rows) (now attrs) n (now noted) (now kept) c ⌝ }
     ensures { λ r. ⌜
         saidAdded r ≡ memberAdded settings (now (s .entry)) (now (rows .entry)) (now (attrs .entry)) n
-        (typeSizeFrom settings (now (sizes .entry)) (now (s .entry)) (now (rows .entry)) (now (attrs .entry)) n (now (known .entry)) levels) c
+        (typeSizeFrom settings (now (sizes .entry)) (now (s .entry)) (now (rows .entry)) (now (attrs .entry)) n (now (noted .entry)) levels) c
         ⌝ }
 {
     match member_at(s, settings, rows, attrs, n, c) {
@@ -221,7 +221,7 @@ fn read_added(
                 },
                 Word::Nothing => with_size(
                     member.offset,
-                    type_size(s, settings, sizes, rows, attrs, n, known, kept, levels, of),
+                    type_size(s, settings, sizes, rows, attrs, n, noted, kept, levels, of),
                 ),
             }
         }
@@ -237,21 +237,21 @@ pub fn member_added(
     rows: &[u32],
     attrs: &[u32],
     n: usize,
-    known: &[u64],
+    noted: &[u64],
     kept: &[u64],
     levels: usize,
     c: usize,
 ) -> Added
-    requires { ⌜ MemberAsked settings (now sizes) (now s) (now rows) (now attrs) n (now known) (now kept) c ⌝ }
+    requires { ⌜ MemberAsked settings (now sizes) (now s) (now rows) (now attrs) n (now noted) (now kept) c ⌝ }
     ensures { λ r. ⌜
         saidAdded r ≡ memberAdded settings (now (s .entry)) (now (rows .entry)) (now (attrs .entry)) n
-        (typeSizeFrom settings (now (sizes .entry)) (now (s .entry)) (now (rows .entry)) (now (attrs .entry)) n (now (known .entry)) levels) c
+        (typeSizeFrom settings (now (sizes .entry)) (now (s .entry)) (now (rows .entry)) (now (attrs .entry)) n (now (noted .entry)) levels) c
         ⌝ }
 {
     if kept.len() > 0 {
-        return added_kept(known, kept, c);
+        return added_kept(noted, kept, c);
     }
-    read_added(s, settings, sizes, rows, attrs, n, known, kept, levels, c)
+    read_added(s, settings, sizes, rows, attrs, n, noted, kept, levels, c)
 }
 
 // The largest end so far with that of child c.
@@ -262,23 +262,23 @@ fn child_end(
     rows: &[u32],
     attrs: &[u32],
     n: usize,
-    known: &[u64],
+    noted: &[u64],
     kept: &[u64],
     levels: usize,
     c: usize,
     largest: u32,
 ) -> Sized
-    requires { ⌜ AskedShort (now s) (now rows) n c × AllKept settings (now sizes) (now s) (now rows) (now attrs) n (now known) (now kept) ⌝ }
+    requires { ⌜ AskedShort (now s) (now rows) n c × AllKept settings (now sizes) (now s) (now rows) (now attrs) n (now noted) (now kept) ⌝ }
     ensures { λ r. ⌜
         saidSized r ≡ childEnd settings (now (s .entry)) (now (rows .entry)) (now (attrs .entry)) n
-        (typeSizeFrom settings (now (sizes .entry)) (now (s .entry)) (now (rows .entry)) (now (attrs .entry)) n (now (known .entry)) levels) largest c
+        (typeSizeFrom settings (now (sizes .entry)) (now (s .entry)) (now (rows .entry)) (now (attrs .entry)) n (now (noted .entry)) levels) largest c
         ⌝ }
 {
     let row = row_at(rows, c);
     if row.kind != 0x0d {
         return Sized::Is(largest);
     }
-    match member_added(s, settings, sizes, rows, attrs, n, known, kept, levels, c) {
+    match member_added(s, settings, sizes, rows, attrs, n, noted, kept, levels, c) {
         Added::Is { offset, size } => grown(rows, c, largest, offset, size),
         Added::Refused(why) => Sized::Refused(why),
     }
@@ -292,18 +292,18 @@ fn ends_size(
     rows: &[u32],
     attrs: &[u32],
     n: usize,
-    known: &[u64],
+    noted: &[u64],
     kept: &[u64],
     levels: usize,
     i: usize,
 ) -> Sized
     requires { ⌜
-        EndsShort settings (now s) (now rows) (now attrs) n i × AllKept settings (now sizes) (now s) (now rows) (now attrs) n (now known) (now kept)
+        EndsShort settings (now s) (now rows) (now attrs) n i × AllKept settings (now sizes) (now s) (now rows) (now attrs) n (now noted) (now kept)
         ⌝ }
     ensures { λ r. ⌜
         saidSized r ≡ endsOver settings (now (s .entry)) (now (rows .entry)) (now (attrs .entry)) n
-        (typeSizeFrom settings (now (sizes .entry)) (now (s .entry)) (now (rows .entry)) (now (attrs .entry)) n (now (known .entry)) levels) 0
-        (kidsOf (settings .endian) (now (s .entry)) (now (rows .entry)) (now (attrs .entry)) n i)
+        (typeSizeFrom settings (now (sizes .entry)) (now (s .entry)) (now (rows .entry)) (now (attrs .entry)) n (now (noted .entry)) levels) 0
+        (childrenAt (settings .endian) (now (s .entry)) (now (rows .entry)) (now (attrs .entry)) n i)
         ⌝ }
 {
     let e = settings.endian;
@@ -318,7 +318,7 @@ fn ends_size(
             rows,
             attrs,
             n,
-            known,
+            noted,
             kept,
             levels,
             c,
@@ -360,7 +360,7 @@ pub fn size_of_key(
 {
     match test_table(s, settings, vendors, sizes, rows, attrs, counts) {
         Tested::Passed => {
-            let known = [0u64; 0];
+            let noted = [0u64; 0];
             entry_size(
                 s,
                 settings,
@@ -368,8 +368,8 @@ pub fn size_of_key(
                 rows,
                 attrs,
                 counts.rows,
-                &known,
-                &known,
+                &noted,
+                &noted,
                 DEPTH_LIMIT,
                 key,
             )
@@ -396,7 +396,7 @@ pub fn size_of_type(
 {
     match test_table(s, settings, vendors, sizes, rows, attrs, counts) {
         Tested::Passed => {
-            let known = [0u64; 0];
+            let noted = [0u64; 0];
             type_size(
                 s,
                 settings,
@@ -404,8 +404,8 @@ pub fn size_of_type(
                 rows,
                 attrs,
                 counts.rows,
-                &known,
-                &known,
+                &noted,
+                &noted,
                 DEPTH_LIMIT,
                 of,
             )

@@ -8,7 +8,7 @@ use mathlib.Core.List.{List}
 use lib.ListN.{length, getD}
 use lib.Dec.{eqb}
 use borrow.Author.Tests.{eqb-true, eqb-false}
-use Rattle.format.specs.Inside.Sixteen.{someIs}
+use Rattle.format.specs.Inside.Some.{someIs}
 use Rattle.attributes.specs.Text.{zeroFrom}
 use Rattle.attributes.proofs.Laws.Text.{zero-here, zero-next}
 use Rattle.attributes.specs.Inside.Eight.{hereOr, firstZero}

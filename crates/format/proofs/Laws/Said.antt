@@ -211,8 +211,8 @@ pub record Back {E A : Type 0} (said : E → Said A) : Type 0 where
   pub same : (r : E) → back (said r) ≡ r
 
 -- so two answers that say the same are the same
-pub one : {E A : Type 0} {said : E → Said A} (b : Back said) {z z′ : E} {d : Said A} → said z ≡ d → said z′ ≡ d → z ≡ z′
-one b {z} {z′} p q = sym (b .same z) ∙ ap (λ d. b .back d) (p ∙ sym q) ∙ b .same z′
+pub one-answer : {E A : Type 0} {said : E → Said A} (b : Back said) {z z′ : E} {d : Said A} → said z ≡ d → said z′ ≡ d → z ≡ z′
+one-answer b {z} {z′} p q = sym (b .same z) ∙ ap (λ d. b .back d) (p ∙ sym q) ∙ b .same z′
 
 -- a refusal by its number
 abbrev pub refusalOf : ℕ → ℕ → Refusal

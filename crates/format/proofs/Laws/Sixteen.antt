@@ -10,7 +10,7 @@ use lib.Seq.{drop-drop}
 use lib.Dec.{eqb}
 use Rattle.format.specs.Lookup.{isOn}
 use Rattle.format.proofs.Laws.Lookup.{member-step}
-use Rattle.format.specs.Inside.Sixteen.{someIs}
+use Rattle.format.specs.Inside.Some.{someIs}
 
 -- one by one, as the code has them
 pub some-of-sixteen : (xs : List ℕ) (x i : ℕ)

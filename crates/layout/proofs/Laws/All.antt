@@ -26,21 +26,21 @@ use Rattle.tables.specs.Row.{rowAt}
 use Rattle.tables.specs.declared.row.Row.{Row}
 use Rattle.links.specs.Walk.{Walk, ends, endless}
 use Rattle.links.specs.Links.{siblingRow, nextRow, childWalk, nonNull}
-use Rattle.links.specs.Inside.Kids.{rowsMet, walkOn, kidsFrom}
-use Rattle.links.proofs.Laws.Kids.{few-kids}
+use Rattle.links.specs.Inside.EachChild.{rowsMet, walkOn, childrenFrom}
+use Rattle.links.proofs.Laws.EachChild.{few-children}
 use Rattle.records.specs.Scan.{runOf}
 use Rattle.records.specs.Fields.{nameOf}
 use Rattle.records.specs.MemberWords.{namePlace, nameLength}
 use Rattle.records.specs.declared.scan.Run.{Run}
 use Rattle.records.specs.declared.fields.Name.{Name}
 use Rattle.records.specs.Member.{memberAt}
-use Rattle.records.specs.Unions.{Placed, memberThen}
+use Rattle.records.specs.Unions.{RowMember, memberThen}
 use Rattle.records.specs.declared.member.Member.{Member}
 use Rattle.sizes.specs.Size.{shapeOf, typeSize, memberSize, memberChildThen, memberRowsFrom, memberRowsBy, membersOf}
 use Rattle.sizes.specs.Inside.Size.{TableReady, typeSizeFrom}
-use Rattle.sizes.specs.Inside.Known.{knownWidth, knownAt, PutKnown}
-use Rattle.layout.specs.Inside.Levels.{deepest, sizeLeft, KnownUpTo}
-use Rattle.layout.proofs.Laws.Levels.{known-types}
+use Rattle.sizes.specs.Inside.Noted.{notedWidth, notedAt, PutNoted}
+use Rattle.layout.specs.Inside.Levels.{deepest, sizeLeft, NotedUpTo}
+use Rattle.layout.proofs.Laws.Levels.{noted-types}
 use Rattle.layout.specs.Layout.{Laid, Lay, lay, laidMember, endOr, laidFrom, hasByteSize, ownSize, rowLay, layoutOf, layoutAt, laidWords, laidWidth}
 use Rattle.sizes.specs.Size.{isStructure}
 use Rattle.layout.specs.Inside.Layout.{WholeLaid}
@@ -55,8 +55,8 @@ use Rattle.layout.specs.declared.all.AllLayouts.the-variants as all
 
 -- ---- how many members there are at most
 
-abbrev fewMembers : ℕ → Said (List Placed) → Type 0
-fewMembers k d = Of (λ (ms : List Placed). length ms ≤ k) d
+abbrev fewMembers : ℕ → Said (List RowMember) → Type 0
+fewMembers k d = Of (λ (ms : List RowMember). length ms ≤ k) d
 
 abbrev fewLaid : ℕ → Said Lay → Type 0
 fewLaid k d = Of (λ (l : Lay). length (l .members) ≤ k) d
@@ -66,18 +66,18 @@ few-weaker many (gives x) h l = omega (arith, h, l)
 few-weaker many (refuses number place counts) h l = tt
 
 module _ (settings : Settings) (s rows attrs : List ℕ) (n : ℕ) where
-  abbrev withMember : ℕ → Said (List Placed) → Member → Said (List Placed)
+  abbrev withMember : ℕ → Said (List RowMember) → Member → Said (List RowMember)
   withMember c rest m = rest >>= λ ms. gives (record { row = c; member = m } ∷ ms)
 
-  few-with : (k c : ℕ) (m : Member) (rest : Said (List Placed)) → fewMembers k rest → fewMembers (suc k) (withMember c rest m)
+  few-with : (k c : ℕ) (m : Member) (rest : Said (List RowMember)) → fewMembers k rest → fewMembers (suc k) (withMember c rest m)
   unfolding _>>=_
   few-with k c m (gives ms) h = omega (arith, h)
   few-with k c m (refuses number place counts) h = tt
 
-  few-then : (k c : ℕ) (rest : Said (List Placed)) → fewMembers k rest → fewMembers (suc k) (memberThen settings (lentRows (settings .endian) s rows attrs n) c rest)
+  few-then : (k c : ℕ) (rest : Said (List RowMember)) → fewMembers k rest → fewMembers (suc k) (memberThen settings (lentRows (settings .endian) s rows attrs n) c rest)
   unfolding memberThen
   few-then k c rest h =
-      of-next (λ (ms : List Placed). length ms ≤ suc k) (memberAt settings (lentRows (settings .endian) s rows attrs n) c) (withMember c rest) (λ m. few-with k c m rest h)
+      of-next (λ (ms : List RowMember). length ms ≤ suc k) (memberAt settings (lentRows (settings .endian) s rows attrs n) c) (withMember c rest) (λ m. few-with k c m rest h)
 
   few-from : (cs : List ℕ) → fewMembers (length cs) (memberRowsFrom settings (lentRows (settings .endian) s rows attrs n) cs)
   unfolding memberRowsFrom memberChildThen
@@ -93,10 +93,10 @@ module _ (settings : Settings) (s rows attrs : List ℕ) (n : ℕ) where
   few-by key endless h = tt
 
   few-of : (i : ℕ) → fewMembers n (membersOf settings (lentRows (settings .endian) s rows attrs n) i)
-  unfolding membersOf kidsFrom walkOn childWalk
+  unfolding membersOf childrenFrom walkOn childWalk
   few-of i =
       few-by (rowAt rows i .key) (childWalk (lentRows (settings .endian) s rows attrs n) i)
-      (few-kids (settings .endian) s rows attrs n (siblingRow (lentRows (settings .endian) s rows attrs n) i) (nextRow rows n i))
+      (few-children (settings .endian) s rows attrs n (siblingRow (lentRows (settings .endian) s rows attrs n) i) (nextRow rows n i))
 
 module _ (rows : List ℕ) (sizeOf : «Type» → Said ℕ) (sized : Bool) where
   abbrev withLaid : Laid → Said Lay → Said Lay
@@ -107,7 +107,7 @@ module _ (rows : List ℕ) (sizeOf : «Type» → Said ℕ) (sized : Bool) where
   few-one k x (gives l) h = omega (arith, h)
   few-one k x (refuses number place counts) h = tt
 
-  few-laid : (largest : ℕ) (ms : List Placed) → fewLaid (length ms) (laidFrom rows sizeOf sized largest ms)
+  few-laid : (largest : ℕ) (ms : List RowMember) → fewLaid (length ms) (laidFrom rows sizeOf sized largest ms)
   unfolding laidFrom
   few-laid largest [] = omega arith
   few-laid largest (m ∷ ms) =
@@ -117,7 +117,7 @@ module _ (rows : List ℕ) (sizeOf : «Type» → Said ℕ) (sized : Bool) where
       (λ next. withLaid (laidMember m size) (laidFrom rows sizeOf sized next ms))
       (λ next. few-one (length ms) (laidMember m size) (laidFrom rows sizeOf sized next ms) (few-laid next ms)))
 
-  few-all : (n : ℕ) (d : Said (List Placed)) → fewMembers n d → fewLaid n (d >>= laidFrom rows sizeOf sized 0)
+  few-all : (n : ℕ) (d : Said (List RowMember)) → fewMembers n d → fewLaid n (d >>= laidFrom rows sizeOf sized 0)
   unfolding _>>=_
   few-all n (gives ms) h = few-weaker (λ (l : Lay). length (l .members)) (laidFrom rows sizeOf sized 0 ms) h (few-laid 0 ms)
   few-all n (refuses number place counts) h = tt
@@ -271,7 +271,7 @@ module _ (settings : Settings) (s rows attrs : List ℕ) (n : ℕ) (sizeOf : «T
       -- what the layout tells is kept
       counted-told : {told : Said Layout} {size : Said ℕ} {table table′ : List ℕ} {r : LayoutCounts}
           → r ≡ countedWith counts (rowStructures settings s rows attrs n sizeOf i) → told ≡ layoutAt settings (lentRows (settings .endian) s rows attrs n) sizeOf i → size ≡ wholeTold told
-          → PutKnown i size table table′ → RowCounted settings s rows attrs n sizeOf i counts r table table′
+          → PutNoted i size table table′ → RowCounted settings s rows attrs n sizeOf i counts r table table′
       counted-told q a z g = record { counts-are = q; told-is = λ u. g .here ∙ z ∙ ap wholeTold a; others = g .others; same-long = g .same-long }
 
       put-one : (structures : List ℕ) {words structures′ : List ℕ} → words ≡ answerWords i (nameOf s attrs (runOf (settings .endian) rows i) attribute.Name) (counts .members) (layoutAt settings (lentRows (settings .endian) s rows attrs n) sizeOf i)
@@ -309,7 +309,7 @@ module _ (settings : Settings) (s rows attrs : List ℕ) (n : ℕ) (sizeOf : «T
         given-counted q = counted-one many-given q
 
         pub count-given : {told : Said Layout} {size : Said ℕ} {table table′ : List ℕ} {r : LayoutCounts} → told ≡ layoutAt settings (lentRows (settings .endian) s rows attrs n) sizeOf i
-            → size ≡ wholeTold told → PutKnown i size table table′ → r ≡ countedOn counts (x .members) → RowCounted settings s rows attrs n sizeOf i counts r table table′
+            → size ≡ wholeTold told → PutNoted i size table table′ → r ≡ countedOn counts (x .members) → RowCounted settings s rows attrs n sizeOf i counts r table table′
         count-given a z g q = counted-told (given-counted q) a z g
 
         pub puts-given : {run : Run} {name : Name} {r : LayoutCounts} {structures structures′ room part′ : List ℕ} {again : LayoutWhole}
@@ -340,7 +340,7 @@ module _ (settings : Settings) (s rows attrs : List ℕ) (n : ℕ) (sizeOf : «T
         refused-counted q = counted-one (ap length none-given) q
 
         pub count-refused : {told : Said Layout} {size : Said ℕ} {table table′ : List ℕ} {r : LayoutCounts} → told ≡ layoutAt settings (lentRows (settings .endian) s rows attrs n) sizeOf i
-            → size ≡ wholeTold told → PutKnown i size table table′ → r ≡ countedOn counts 0 → RowCounted settings s rows attrs n sizeOf i counts r table table′
+            → size ≡ wholeTold told → PutNoted i size table table′ → r ≡ countedOn counts 0 → RowCounted settings s rows attrs n sizeOf i counts r table table′
         count-refused a z g q = counted-told (refused-counted q) a z g
 
         pub puts-refused : {run : Run} {name : Name} {r : LayoutCounts} {structures structures′ room : List ℕ} {told : ℕ}
@@ -373,14 +373,14 @@ size-given p q = given-refused (p ∙ ap wholeTold (sym q))
 
 module _ {settings : Settings} {s rows attrs : List ℕ} {n : ℕ} {sizeOf : «Type» → Said ℕ} {table : List ℕ} (w : WholesTold settings s rows attrs n sizeOf n table)
     {i : ℕ} (l : i < n) {row : Row} {b : Bool} (at : row ≡ rowAt rows i) (is : b ≡ isStructure (shapeOf (row .kind))) (t : b ≡ true) where
-  layout-told : knownAt table i ≡ wholeTold (layoutAt settings (lentRows (settings .endian) s rows attrs n) sizeOf i)
+  layout-told : notedAt table i ≡ wholeTold (layoutAt settings (lentRows (settings .endian) s rows attrs n) sizeOf i)
   layout-told = w .each i l (structure-test rows i at is t)
 
-  pub layout-refused : {number place : ℕ} {counts : List ℕ} → refuses number place counts ≡ knownAt table i
+  pub layout-refused : {number place : ℕ} {counts : List ℕ} → refuses number place counts ≡ notedAt table i
       → refuses number place counts ≡ layoutAt settings (lentRows (settings .endian) s rows attrs n) sizeOf i
   layout-refused p = refusal-told (layoutAt settings (lentRows (settings .endian) s rows attrs n) sizeOf i) (p ∙ layout-told)
 
-  pub layout-given : {size number place : ℕ} {counts : List ℕ} → gives size ≡ knownAt table i
+  pub layout-given : {size number place : ℕ} {counts : List ℕ} → gives size ≡ notedAt table i
       → refuses number place counts ≡ layoutAt settings (lentRows (settings .endian) s rows attrs n) sizeOf i → ⊥
   layout-given p q = size-given (p ∙ layout-told) q
 
@@ -491,7 +491,7 @@ module _ {settings : Settings} {s rows attrs : List ℕ} {n : ℕ} {sizeOf : «T
 -- ---- what was told, row after row
 
 module _ (settings : Settings) (s rows attrs : List ℕ) (n : ℕ) (sizeOf : «Type» → Said ℕ) where
-  pub told-none : {told : List ℕ} → n * knownWidth ≤ length told → WholesTold settings s rows attrs n sizeOf 0 told
+  pub told-none : {told : List ℕ} → n * notedWidth ≤ length told → WholesTold settings s rows attrs n sizeOf 0 told
   told-none h = record { fits = h; each = λ i l t. absurd (omega (arith, l)) }
 
   pub told-more : {told told′ : List ℕ} {counts counts′ : LayoutCounts} {k : ℕ} → WholesTold settings s rows attrs n sizeOf k told
@@ -501,7 +501,7 @@ module _ (settings : Settings) (s rows attrs : List ℕ) (n : ℕ) (sizeOf : «T
         fits = omega (arith, w .fits, g .same-long);
         each = λ i l. elim (decLe k i) [
           | yes h ↦ let same : k ≡ i = omega arith in
-              subst (λ (j : ℕ). isStructure (shapeOf (rowAt rows j .kind)) ≡ true → knownAt told′ j ≡ wholeTold (layoutAt settings (lentRows (settings .endian) s rows attrs n) sizeOf j)) same (g .told-is)
+              subst (λ (j : ℕ). isStructure (shapeOf (rowAt rows j .kind)) ≡ true → notedAt told′ j ≡ wholeTold (layoutAt settings (lentRows (settings .endian) s rows attrs n) sizeOf j)) same (g .told-is)
           | no h ↦ λ t. g .others i (λ z. omega (arith, z)) ∙ w .each i (omega arith) t
         ];
       }
@@ -665,15 +665,15 @@ module _ (xs : List Structure) {needed : LayoutCounts} (is : needed ≡ countsOf
           ∙ ap₂ (outcomes (gives (countsOf xs))) (g .structures-are) (g .members-are)
           ∙ sym (rw (listed, test)))
 
--- ---- the sizes of all rows are known
+-- ---- the sizes of all rows are noted
 
-pub all-known : (settings : Settings) (sizes s rows attrs : List ℕ) (n : ℕ) → TableReady s rows n → (known : List ℕ)
-    → KnownUpTo (sizeLeft settings sizes s rows attrs n deepest) n n known → 0 < length known → (structures room : List ℕ) {structures′ room′ : List ℕ} {r : Said LayoutCounts}
-    → BothGiven (layoutsInto structures room (structuresFrom settings (lentRows (settings .endian) s rows attrs n) (typeSizeFrom settings sizes s rows attrs n known 0) 0 n)) r structures′ room′
+pub all-noted : (settings : Settings) (sizes s rows attrs : List ℕ) (n : ℕ) → TableReady s rows n → (noted : List ℕ)
+    → NotedUpTo (sizeLeft settings sizes s rows attrs n deepest) n n noted → 0 < length noted → (structures room : List ℕ) {structures′ room′ : List ℕ} {r : Said LayoutCounts}
+    → BothGiven (layoutsInto structures room (structuresFrom settings (lentRows (settings .endian) s rows attrs n) (typeSizeFrom settings sizes s rows attrs n noted 0) 0 n)) r structures′ room′
     → BothGiven (layoutsInto structures room (structuresFrom settings (lentRows (settings .endian) s rows attrs n) (typeSize settings sizes (lentRows (settings .endian) s rows attrs n) deepest) 0 n)) r structures′ room′
-all-known settings sizes s rows attrs n ready known w some structures room {structures′} {room′} {r} g =
+all-noted settings sizes s rows attrs n ready noted w some structures room {structures′} {room′} {r} g =
     subst (λ (sizeOf : «Type» → Said ℕ). BothGiven (layoutsInto structures room (structuresFrom settings (lentRows (settings .endian) s rows attrs n) sizeOf 0 n)) r structures′ room′)
-    (known-types settings sizes s rows attrs n ready deepest w some 0) g
+    (noted-types settings sizes s rows attrs n ready deepest w some 0) g
 
 -- ---- the words of a structure
 

@@ -63,7 +63,7 @@ module _ {xs : List Structure} {many : LayoutCounts} {structures structures′ r
       words-in room′ (memberCount xs * laidWidth) (allMemberWords before) (laidWords (x .members)) (allMemberWords after)
       (f .members-filled .front ∙ ap allMemberWords these ∙ member-append before (x ∷ after)) (memberCount before * laidWidth) (member-long before) j (omega arith)
 
--- ---- what is known where a call with two rooms gave an answer
+-- ---- what is noted where a call with two rooms gave an answer
 
 rooms-given : {A B E F : Type 0} (first : List E) (second : List F) (d : Said A) (next : A → Outcomes (Said B) E F) {y : B} {one : List E} {two : List F}
     → BothGiven (inRooms first second d next) (gives y) one two → (x : A) × (d ≡ gives x) × BothGiven (next x) (gives y) one two

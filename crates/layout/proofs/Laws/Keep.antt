@@ -35,7 +35,7 @@ use Rattle.records.specs.declared.member.Member.{Member}
 use Rattle.records.specs.declared.member.MemberRead.{MemberRead}
 use Rattle.records.specs.declared.member.MemberRead.the-variants as read
 use Rattle.sizes.specs.Size.{saidSized, typeSizeBy, sizeOr, shapes, shapeOf}
-use Rattle.sizes.specs.Inside.Known.{knownAt, PutKnown}
+use Rattle.sizes.specs.Inside.Noted.{notedAt, PutNoted}
 use Rattle.sizes.specs.Inside.Prepare.{structureFault}
 use Rattle.sizes.specs.Size.{isStructure}
 use Rattle.sizes.specs.Inside.Kept.{keptWidth, rowNamed, sizeNamed, firstOf, secondOf, faultSize, SecondKept, MembersKept, PartsKept, PutTwo, PutRow, PutFault, KeepAsked}
@@ -89,7 +89,7 @@ sibling-within e s rows attrs n c l = named-within rows n c l (referenceOf e s r
 
 -- ---- two answers
 
-pub two-put : (c : ℕ) {first second : Said ℕ} {kept kept₁ kept₂ : List ℕ} → PutKnown (c * 3) first kept kept₁ → PutKnown (c * 3 + 1) second kept₁ kept₂
+pub two-put : (c : ℕ) {first second : Said ℕ} {kept kept₁ kept₂ : List ℕ} → PutNoted (c * 3) first kept kept₁ → PutNoted (c * 3 + 1) second kept₁ kept₂
     → PutTwo c first second kept kept₂
 two-put c a b =
     record {
@@ -118,14 +118,14 @@ module _ (sizes rows : List ℕ) (n c : ℕ) {kept kept′ : List ℕ} where
 -- ---- a row
 
 -- there is room for it
-pub row-fits : {rows kept kept′ : List ℕ} {n c i : ℕ} {size : Said ℕ} → Asked rows n c → KeepAsked rows n kept → PutKnown i size kept kept′
+pub row-fits : {rows kept kept′ : List ℕ} {n c i : ℕ} {size : Said ℕ} → Asked rows n c → KeepAsked rows n kept → PutNoted i size kept kept′
     → c * keptWidth + keptWidth ≤ length kept′
 row-fits a w g = omega (arith, a .there, w .fits, g .same-long)
 
 module _ (settings : Settings) (sizes s rows attrs : List ℕ) (n c : ℕ) (asked : Asked rows n c) {kept kept₁ : List ℕ} {sibling : ℕ}
-    (is : sibling ≡ siblingRow (lentRows (settings .endian) s rows attrs n) c) (g : PutKnown (c * 3 + 2) (saidSized (Is (sibling % 4294967296))) kept kept₁) where
+    (is : sibling ≡ siblingRow (lentRows (settings .endian) s rows attrs n) c) (g : PutNoted (c * 3 + 2) (saidSized (Is (sibling % 4294967296))) kept kept₁) where
   -- a row's number fits a word
-  sibling-kept : knownAt kept₁ (c * 3 + 2) ≡ gives (siblingRow (lentRows (settings .endian) s rows attrs n) c)
+  sibling-kept : notedAt kept₁ (c * 3 + 2) ≡ gives (siblingRow (lentRows (settings .endian) s rows attrs n) c)
   unfolding saidSized
   sibling-kept =
       let within : siblingRow (lentRows (settings .endian) s rows attrs n) c ≤ n = sibling-within (settings .endian) s rows attrs n c (asked .there) in
@@ -161,8 +161,8 @@ each-on P k here before c l = elim (decLe k c) [ yes h ↦ let same : k ≡ c = 
 
 pub record Keeping (settings : Settings) (sizes s rows attrs : List ℕ) (n : ℕ) (kept : List ℕ) (k : ℕ) : Type 0 where
   pub asked : KeepAsked rows n kept
-  pub siblings : (c : ℕ) → c < k → knownAt kept (c * 3 + 2) ≡ gives (siblingRow (lentRows (settings .endian) s rows attrs n) c)
-  pub first : (c : ℕ) → c < k → rowAt rows c .kind ≡ tag.Member → knownAt kept (c * 3) ≡ firstOf (memberAt settings (lentRows (settings .endian) s rows attrs n) c)
+  pub siblings : (c : ℕ) → c < k → notedAt kept (c * 3 + 2) ≡ gives (siblingRow (lentRows (settings .endian) s rows attrs n) c)
+  pub first : (c : ℕ) → c < k → rowAt rows c .kind ≡ tag.Member → notedAt kept (c * 3) ≡ firstOf (memberAt settings (lentRows (settings .endian) s rows attrs n) c)
   pub second : SecondKept settings sizes s rows attrs n kept k
 
 module _ (settings : Settings) (sizes s rows attrs : List ℕ) (n : ℕ) where
@@ -180,11 +180,11 @@ module _ (settings : Settings) (sizes s rows attrs : List ℕ) (n : ℕ) where
   keeping-on {kept} {kept′} {k} w g =
       record {
         asked = record { table = w .asked .table; fits = omega (arith, w .asked .fits, g .same-long) };
-        siblings = each-on (λ c. knownAt kept′ (c * 3 + 2) ≡ gives (siblingRow (lentRows (settings .endian) s rows attrs n) c)) k (g .sibling-is)
+        siblings = each-on (λ c. notedAt kept′ (c * 3 + 2) ≡ gives (siblingRow (lentRows (settings .endian) s rows attrs n) c)) k (g .sibling-is)
             (λ c l. g .before (c * 3 + 2) (omega arith) ∙ w .siblings c l);
-        first = each-on (λ c. rowAt rows c .kind ≡ tag.Member → knownAt kept′ (c * 3) ≡ firstOf (memberAt settings (lentRows (settings .endian) s rows attrs n) c)) k (g .first-is)
+        first = each-on (λ c. rowAt rows c .kind ≡ tag.Member → notedAt kept′ (c * 3) ≡ firstOf (memberAt settings (lentRows (settings .endian) s rows attrs n) c)) k (g .first-is)
             (λ c l t. g .before (c * 3) (omega arith) ∙ w .first c l t);
-        second = λ c l some. each-on (λ c. rowAt rows c .kind ≡ tag.Member → knownAt kept′ (c * 3 + 1) ≡ secondOf sizes rows n (memberAt settings (lentRows (settings .endian) s rows attrs n) c)) k
+        second = λ c l some. each-on (λ c. rowAt rows c .kind ≡ tag.Member → notedAt kept′ (c * 3 + 1) ≡ secondOf sizes rows n (memberAt settings (lentRows (settings .endian) s rows attrs n) c)) k
             (g .second-is) (λ c l t. g .before (c * 3 + 1) (omega arith) ∙ w .second c l (omega (arith, some, g .same-long)) t) c l;
       }
 
@@ -199,7 +199,7 @@ module _ (settings : Settings) (sizes s rows attrs : List ℕ) (n : ℕ) where
 
 module _ (settings : Settings) (s rows attrs : List ℕ) (n i : ℕ) {row : Row} (at : row ≡ rowAt rows i) {b : Bool} (is : b ≡ isStructure (shapeOf (row .kind))) where
   pub fault-put : b ≡ true → {told : Said Unit} {size : Said ℕ} → told ≡ structureFault settings s rows attrs n i → size ≡ faultSize told → {kept kept′ : List ℕ}
-      → PutKnown (i * 3) size kept kept′ → PutFault settings s rows attrs n i kept kept′
+      → PutNoted (i * 3) size kept kept′ → PutFault settings s rows attrs n i kept kept′
   fault-put t p q g =
       record {
         fault-is = λ u. g .here ∙ q ∙ ap faultSize p;
@@ -219,7 +219,7 @@ member-shape p = ap (λ (k : ℕ). isStructure (shapeOf k)) p
 pub record Faulting (settings : Settings) (sizes s rows attrs : List ℕ) (n : ℕ) (kept : List ℕ) (k : ℕ) : Type 0 where
   pub asked : KeepAsked rows n kept
   pub members : MembersKept settings sizes s rows attrs n kept
-  pub structures : (i : ℕ) → i < k → isStructure (shapeOf (rowAt rows i .kind)) ≡ true → knownAt kept (i * 3) ≡ faultSize (structureFault settings s rows attrs n i)
+  pub structures : (i : ℕ) → i < k → isStructure (shapeOf (rowAt rows i .kind)) ≡ true → notedAt kept (i * 3) ≡ faultSize (structureFault settings s rows attrs n i)
 
 module _ (settings : Settings) (sizes s rows attrs : List ℕ) (n : ℕ) where
   -- what is kept of members stays
@@ -234,10 +234,10 @@ module _ (settings : Settings) (sizes s rows attrs : List ℕ) (n : ℕ) where
         second = λ c l h t. g .others (c * 3 + 1) (λ z. omega (arith, z)) ∙ w .second c l (omega (arith, h, g .same-long)) t;
       }
     where
-      first-stays : (c : ℕ) → rowAt rows c .kind ≡ tag.Member → knownAt kept′ (c * 3) ≡ knownAt kept (c * 3)
+      first-stays : (c : ℕ) → rowAt rows c .kind ≡ tag.Member → notedAt kept′ (c * 3) ≡ notedAt kept (c * 3)
       first-stays c t =
           elim (ℕ-discrete c i) [
-            | yes e ↦ ap (λ (u : List ℕ). knownAt u (c * 3)) (g .none (member-shape (ap (λ (j : ℕ). rowAt rows j .kind) (sym e) ∙ t)))
+            | yes e ↦ ap (λ (u : List ℕ). notedAt u (c * 3)) (g .none (member-shape (ap (λ (j : ℕ). rowAt rows j .kind) (sym e) ∙ t)))
             | no d ↦ g .others (c * 3) (λ z. omega (arith, z, d))
           ]
 
@@ -251,7 +251,7 @@ module _ (settings : Settings) (sizes s rows attrs : List ℕ) (n : ℕ) where
         asked = record { table = w .asked .table; fits = omega (arith, w .asked .fits, g .same-long) };
         members = members-stay g (w .members);
         structures = each-on
-            (λ i. isStructure (shapeOf (rowAt rows i .kind)) ≡ true → knownAt kept′ (i * 3) ≡ faultSize (structureFault settings s rows attrs n i)) k (g .fault-is)
+            (λ i. isStructure (shapeOf (rowAt rows i .kind)) ≡ true → notedAt kept′ (i * 3) ≡ faultSize (structureFault settings s rows attrs n i)) k (g .fault-is)
             (λ i l t. g .others (i * 3) (λ z. omega (arith, z, l)) ∙ w .structures i l t);
       }
 

@@ -28,8 +28,8 @@ use Rattle.tables.specs.Inside.Keyed.{refusedAt, saidKeyed}
 use Rattle.tables.specs.declared.row.Row.{Row}
 use Rattle.tables.specs.declared.row.Counts.{Counts}
 use Rattle.links.specs.Links.{siblingRow, nextRow, childWalk}
-use Rattle.links.specs.Inside.Kids.{walkOn, kidsFrom, kidsOf, firstOr, isEnding}
-use Rattle.links.proofs.Laws.Kids.{few-kids, kids-more}
+use Rattle.links.specs.Inside.EachChild.{walkOn, childrenFrom, childrenAt, firstOr, isEnding}
+use Rattle.links.proofs.Laws.EachChild.{few-children, children-more}
 use Rattle.tables.specs.Keyed.{rowOf}
 use Rattle.tables.specs.declared.keyed.Keyed.{Keyed}
 use Rattle.tables.specs.declared.keyed.Keyed.the-variants as keyed
@@ -41,7 +41,7 @@ use Rattle.records.specs.Fields.{nameOf, typeOf, offsetField, wordOf}
 use Rattle.records.specs.Front.{frontOf}
 use Rattle.records.specs.Member.{bitsBy, memberFields, memberAt}
 use Rattle.records.specs.MemberWords.{namePlace, nameLength}
-use Rattle.records.specs.Unions.{Placed, memberThen}
+use Rattle.records.specs.Unions.{RowMember, memberThen}
 use Rattle.records.specs.declared.taken.Record.the-variants as record′
 use Rattle.records.specs.declared.scan.Run.{Run}
 use Rattle.records.specs.declared.scan.Fault.{Fault}
@@ -74,7 +74,7 @@ abbrev progress : ℕ → ℕ → Progress
 progress count largest = record { count = count; largest = largest }
 
 -- a member at a row
-abbrev placed : ℕ → Member → Placed
+abbrev placed : ℕ → Member → RowMember
 placed c m = record { row = c; member = m }
 
 -- ---- a member's end
@@ -137,7 +137,7 @@ module _ {d : Said Lay} {k : ℕ} {room room′ : List ℕ} where
   unfolding saidLaying layingOf _>>=_
   lays-unlaid p q = record { answer-is = ap (layingOf k) p; room-is = λ m e. absurd (given-refused (sym (p ∙ e))); same-room = q }
 
--- ---- a member whose size is known
+-- ---- a member whose size is noted
 
 module _ (e : Endian) (s rows attrs : List ℕ) (bounded : Bool) (largest c offset size : ℕ) where
   abbrev ending : ℕ → Lay
@@ -222,7 +222,7 @@ module _ (settings : Settings) (s rows attrs : List ℕ) (n : ℕ) (sizeOf : «T
 abbrev fewLaid : Lay → Type 0
 fewLaid l = length (l .members) ≤ 1
 
-few-from : (rows : List ℕ) (sizeOf : «Type» → Said ℕ) (bounded : Bool) (largest : ℕ) (m : Placed) → Of fewLaid (laidFrom rows sizeOf bounded largest (m ∷ []))
+few-from : (rows : List ℕ) (sizeOf : «Type» → Said ℕ) (bounded : Bool) (largest : ℕ) (m : RowMember) → Of fewLaid (laidFrom rows sizeOf bounded largest (m ∷ []))
 unfolding laidFrom _>>=_
 few-from rows sizeOf bounded largest m =
     of-next fewLaid (memberSize sizeOf m) (λ size. endOr bounded (rowAt rows (m .row) .key) largest (m .member .offset + size) >>= λ next. gives (lay (laidMember m size ∷ []) next))
@@ -292,16 +292,16 @@ module _ {k : ℕ} {room room′ : List ℕ} (next : ℕ → Said Lay) where
 pub record Laying′ (settings : Settings) (s rows attrs : List ℕ) (n end : ℕ) (sizeOf : «Type» → Said ℕ) (bounded : Bool) (all : Said Lay) (room₀ room : List ℕ)
     (c k most : ℕ) : Type 0 where
   pub walking : Walking (settings .endian) s rows attrs n end (λ (cs : List ℕ). filled k room (childrenLaid settings s rows attrs n sizeOf bounded most cs)) (filled 0 room₀ all) c
-  pub counted : k + length (kidsFrom (settings .endian) s rows attrs n end c) ≤ n
+  pub counted : k + length (childrenFrom (settings .endian) s rows attrs n end c) ≤ n
   pub same-room : length room ≡ length room₀
   pub short : length s < sectionLimit
 
 pub laying-begins : (settings : Settings) (s rows attrs : List ℕ) (n : ℕ) (sizeOf : «Type» → Said ℕ) (bounded : Bool) (i : ℕ) (room : List ℕ) {end from c : ℕ}
     → end ≡ siblingRow (lentRows (settings .endian) s rows attrs n) i → from ≡ nextRow rows n i → EndsShort settings s rows attrs n i
-    → c ≡ firstOr n (kidsFrom (settings .endian) s rows attrs n end from)
-    → Laying′ settings s rows attrs n end sizeOf bounded (childrenLaid settings s rows attrs n sizeOf bounded 0 (kidsOf (settings .endian) s rows attrs n i)) room room c 0 0
+    → c ≡ firstOr n (childrenFrom (settings .endian) s rows attrs n end from)
+    → Laying′ settings s rows attrs n end sizeOf bounded (childrenLaid settings s rows attrs n sizeOf bounded 0 (childrenAt (settings .endian) s rows attrs n i)) room room c 0 0
 laying-begins settings s rows attrs n sizeOf bounded i room {end} {from} {c} p q w is =
-    let few : length (kidsFrom (settings .endian) s rows attrs n end c) ≤ n = few-kids (settings .endian) s rows attrs n end c in
+    let few : length (childrenFrom (settings .endian) s rows attrs n end c) ≤ n = few-children (settings .endian) s rows attrs n end c in
     record {
       walking =
           walking-begins (settings .endian) s rows attrs n i (λ (cs : List ℕ). filled 0 room (childrenLaid settings s rows attrs n sizeOf bounded 0 cs)) p q (w .ends-at) is;
@@ -326,25 +326,25 @@ module _ {settings : Settings} {s rows attrs : List ℕ} {n end : ℕ} {sizeOf :
   module _ (l : c < n) where
     pub laying-asked : LayAsked s rows n c k
     laying-asked =
-        let some : length (kidsFrom (settings .endian) s rows attrs n end c) ≡ suc (length (kidsFrom (settings .endian) s rows attrs n end (siblingRow (lentRows (settings .endian) s rows attrs n) c))) =
-        ap length (kids-more (settings .endian) s rows attrs n end (w .walking .on) (w .walking .first) l) in
-        let most′ : k + length (kidsFrom (settings .endian) s rows attrs n end c) ≤ n = w .counted in
+        let some : length (childrenFrom (settings .endian) s rows attrs n end c) ≡ suc (length (childrenFrom (settings .endian) s rows attrs n end (siblingRow (lentRows (settings .endian) s rows attrs n) c))) =
+        ap length (children-more (settings .endian) s rows attrs n end (w .walking .on) (w .walking .first) l) in
+        let most′ : k + length (childrenFrom (settings .endian) s rows attrs n end c) ≤ n = w .counted in
         let few : n ≤ entryLimit = w .walking .on .table .few in
         record { asked = record { asked = walking-asked (w .walking) l; short = w .short }; count-small = omega arith }
 
     module _ {told : Laying} {room′ : List ℕ} (g : Lays (childLaid settings s rows attrs n sizeOf bounded most c) k told room room′) where
       module _ {count largest : ℕ} (q : told ≡ laying.Is count largest) {d c′ : ℕ} (p : d ≡ siblingRow (lentRows (settings .endian) s rows attrs n) c)
-          (is : c′ ≡ firstOr n (kidsFrom (settings .endian) s rows attrs n end d)) where
+          (is : c′ ≡ firstOr n (childrenFrom (settings .endian) s rows attrs n end d)) where
         pub laying-on : Laying′ settings s rows attrs n end sizeOf bounded all room₀ room′ c′ count largest
         unfolding childrenLaid
         laying-on =
             let child : Lays (childLaid settings s rows attrs n sizeOf bounded most c) k (laying.Is count largest) room room′ =
             subst (λ (x : Laying). Lays (childLaid settings s rows attrs n sizeOf bounded most c) k x room room′) q g in
-            let less : length (kidsFrom (settings .endian) s rows attrs n end c′) < length (kidsFrom (settings .endian) s rows attrs n end c) =
+            let less : length (childrenFrom (settings .endian) s rows attrs n end c′) < length (childrenFrom (settings .endian) s rows attrs n end c) =
             walking-less (w .walking) l p is in
             let one : count ≤ k + 1 =
             one-more k count largest (childLaid settings s rows attrs n sizeOf bounded most c) (few-child settings s rows attrs n sizeOf bounded most c) (child .answer-is) in
-            let many : k + length (kidsFrom (settings .endian) s rows attrs n end c) ≤ n = w .counted in
+            let many : k + length (childrenFrom (settings .endian) s rows attrs n end c) ≤ n = w .counted in
             record {
               walking =
                   walking-on (w .walking) l p is
@@ -396,22 +396,22 @@ module _ (f g : ℕ → Said Lay) (same : (x : ℕ) → f x ≡ g x) where
   sized-then x e (refuses number place counts) = refl
 
 module _ (rows : List ℕ) (sizeOf : «Type» → Said ℕ) (bounded : Bool) (c largest : ℕ) (f : ℕ → Said Lay) where
-  from-then : (m : Placed) (ms : List Placed) → ((x : ℕ) → f x ≡ laidFrom rows sizeOf bounded x ms)
+  from-then : (m : RowMember) (ms : List RowMember) → ((x : ℕ) → f x ≡ laidFrom rows sizeOf bounded x ms)
       → layOn f (laidFrom rows sizeOf bounded largest (m ∷ [])) ≡ laidFrom rows sizeOf bounded largest (m ∷ ms)
   unfolding laidFrom _>>=_
   from-then m ms same =
       sized-then f (λ x. laidFrom rows sizeOf bounded x ms) same (laidMember m) (λ size. endOr bounded (rowAt rows (m .row) .key) largest (m .member .offset + size))
       (memberSize sizeOf m)
 
-  module _ (all : Said (List Placed)) (ms : List Placed) (same : (xs : List Placed) → all ≡ gives xs → (x : ℕ) → f x ≡ laidFrom rows sizeOf bounded x xs) where
-    abbrev before : Member → Said (List Placed)
+  module _ (all : Said (List RowMember)) (ms : List RowMember) (same : (xs : List RowMember) → all ≡ gives xs → (x : ℕ) → f x ≡ laidFrom rows sizeOf bounded x xs) where
+    abbrev before : Member → Said (List RowMember)
     before m = all >>= λ xs. gives (placed c m ∷ xs)
 
     read-then : (d : Said Member) → (d >>= before) ≡ gives ms → layOn f (readLaid rows sizeOf bounded largest c d) ≡ laidFrom rows sizeOf bounded largest ms
     unfolding readLaid _>>=_
     read-then d p =
         let one : (m : Member) × (d ≡ gives m) × (before m ≡ gives ms) = step-gave d before p in
-        let others : (xs : List Placed) × (all ≡ gives xs) × (gives (placed c (one .0) ∷ xs) ≡ gives ms) = step-gave all (λ xs. gives (placed c (one .0) ∷ xs)) (one .2) in
+        let others : (xs : List RowMember) × (all ≡ gives xs) × (gives (placed c (one .0) ∷ xs) ≡ gives ms) = step-gave all (λ xs. gives (placed c (one .0) ∷ xs)) (one .2) in
         ap (λ (x : Said Member). layOn f (readLaid rows sizeOf bounded largest c x)) (one .1)
         ∙ from-then (placed c (one .0)) (others .0) (same (others .0) (others .1))
         ∙ ap (laidFrom rows sizeOf bounded largest) (given-is (others .2))
@@ -424,7 +424,7 @@ module _ (rows : List ℕ) (sizeOf : «Type» → Said ℕ) (bounded : Bool) (c 
     child-then false d p = before-none (f largest) ∙ same ms p largest
 
 module _ (settings : Settings) (s rows attrs : List ℕ) (n : ℕ) (sizeOf : «Type» → Said ℕ) (bounded : Bool) where
-  laid-members : (largest : ℕ) (cs : List ℕ) {ms : List Placed} → memberRowsFrom settings (lentRows (settings .endian) s rows attrs n) cs ≡ gives ms
+  laid-members : (largest : ℕ) (cs : List ℕ) {ms : List RowMember} → memberRowsFrom settings (lentRows (settings .endian) s rows attrs n) cs ≡ gives ms
       → childrenLaid settings s rows attrs n sizeOf bounded largest cs ≡ laidFrom rows sizeOf bounded largest ms
   unfolding memberRowsFrom memberChildThen memberThen childrenLaid childLaid laidFrom
   laid-members largest [] p = ap (laidFrom rows sizeOf bounded largest) (given-is p)
@@ -440,12 +440,12 @@ module _ (settings : Settings) (s rows attrs : List ℕ) (n i : ℕ) where
   clear-ending p = walk-ending settings s rows attrs n i (childWalk (lentRows (settings .endian) s rows attrs n) i) p
 
   clear-members : structureFault settings s rows attrs n i ≡ gives tt
-      → memberRowsFrom settings (lentRows (settings .endian) s rows attrs n) (kidsOf (settings .endian) s rows attrs n i) ≡ membersOf settings (lentRows (settings .endian) s rows attrs n) i
-  unfolding kidsOf kidsFrom walkOn childWalk membersOf
+      → memberRowsFrom settings (lentRows (settings .endian) s rows attrs n) (childrenAt (settings .endian) s rows attrs n i) ≡ membersOf settings (lentRows (settings .endian) s rows attrs n) i
+  unfolding childrenAt childrenFrom walkOn childWalk membersOf
   clear-members p = walk-members settings s rows attrs n i (rowAt rows i .key) (childWalk (lentRows (settings .endian) s rows attrs n) i) (clear-ending p)
 
   abbrev children : («Type» → Said ℕ) → Bool → Said Lay
-  children sizeOf bounded = childrenLaid settings s rows attrs n sizeOf bounded 0 (kidsOf (settings .endian) s rows attrs n i)
+  children sizeOf bounded = childrenLaid settings s rows attrs n sizeOf bounded 0 (childrenAt (settings .endian) s rows attrs n i)
 
   module _ {told : Fault} (is : saidFault told ≡ structureFault settings s rows attrs n i) where
     pub clear-asked : told ≡ fault.Clear → AskedShort s rows n i → EndsShort settings s rows attrs n i
@@ -467,8 +467,8 @@ module _ (settings : Settings) (s rows attrs : List ℕ) (n i : ℕ) where
       structure-faulty p = lays-unlaid (goes-past saidFault is p (children sizeOf bounded) refl) refl
 
   -- a structure or class of a table that was tested
-  pub layout-asked : {sizes known kept : List ℕ} {row : Row} {b : Bool} → AskedShort s rows n i → AllKept settings sizes s rows attrs n known kept → row ≡ rowAt rows i
-      → b ≡ isStructure (shapeOf (row .kind)) → b ≡ true → LayoutAsked settings sizes s rows attrs n known kept i
+  pub layout-asked : {sizes noted kept : List ℕ} {row : Row} {b : Bool} → AskedShort s rows n i → AllKept settings sizes s rows attrs n noted kept → row ≡ rowAt rows i
+      → b ≡ isStructure (shapeOf (row .kind)) → b ≡ true → LayoutAsked settings sizes s rows attrs n noted kept i
   layout-asked w k at is t =
       record { asked = w; is-structure = ap (λ (r : Row). isStructure (shapeOf (r .kind))) (sym at) ∙ sym is ∙ t; all-kept = k }
 
@@ -477,7 +477,7 @@ module _ (settings : Settings) (s rows attrs : List ℕ) (n i : ℕ) where
     abbrev own : Word
     own = ownSize settings s rows attrs i
 
-    abbrev laidMembers : List Placed → Said Lay
+    abbrev laidMembers : List RowMember → Said Lay
     laidMembers ms = laidFrom rows sizeOf (hasByteSize own) 0 ms
 
     fault-laid : (d : Said Unit) → structureFault settings s rows attrs n i ≡ d
@@ -485,9 +485,9 @@ module _ (settings : Settings) (s rows attrs : List ℕ) (n i : ℕ) where
     unfolding _>>_ _>>=_
     fault-laid (gives x) p =
         let all : AllRead (membersOf settings (lentRows (settings .endian) s rows attrs n) i) = fault-members settings s rows attrs n i p in
-        laid-members settings s rows attrs n sizeOf (hasByteSize own) 0 (kidsOf (settings .endian) s rows attrs n i) (clear-members p ∙ all .are)
-        ∙ ap (λ (d : Said (List Placed)). d >>= laidMembers) (sym (all .are))
-    fault-laid (refuses number place counts) p = ap (λ (d : Said (List Placed)). d >>= laidMembers) (sym (refused-members settings s rows attrs n i p))
+        laid-members settings s rows attrs n sizeOf (hasByteSize own) 0 (childrenAt (settings .endian) s rows attrs n i) (clear-members p ∙ all .are)
+        ∙ ap (λ (d : Said (List RowMember)). d >>= laidMembers) (sym (all .are))
+    fault-laid (refuses number place counts) p = ap (λ (d : Said (List RowMember)). d >>= laidMembers) (sym (refused-members settings s rows attrs n i p))
 
     -- what was laid, as a layout
     abbrev asLayout : Progress → Layout
@@ -626,7 +626,7 @@ module _ (settings : Settings) (s rows attrs : List ℕ) (n : ℕ) (sizeOf : «T
       unfolding layoutInto layoutAt saidLayoutWhole saidLayoutRead
       give-unlaid p = refused-in (rowLay settings (lentRows (settings .endian) s rows attrs n) sizeOf i) (case-said saidLayoutWhole is p)
 
--- no sizes are known
+-- no sizes are noted
 pub layout-there : (settings : Settings) (vendors sizes s rows attrs : List ℕ) (counts : Counts) (key : ℕ) (room : List ℕ) {told : Keyed}
     → saidKeyed told ≡ rowOf (table s settings vendors sizes rows attrs counts) key → {i : ℕ} {z : Said Layout} {room′ : List ℕ} → told ≡ keyed.Row i
     → Given (layoutInto settings (lentRows (settings .endian) s rows attrs (counts .rows)) (typeSizeFrom settings sizes s rows attrs (counts .rows) [] (depthLimit - 1)) room i) z room′

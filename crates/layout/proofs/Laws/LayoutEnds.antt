@@ -19,7 +19,7 @@ use Rattle.format.specs.declared.refusal.Reason.the-variants as reason
 use Rattle.blocks.specs.declared.types.Type.{«Type»}
 use Rattle.tables.specs.Row.{rowAt}
 use Rattle.tables.specs.declared.row.Counts.{Counts}
-use Rattle.records.specs.Unions.{Placed}
+use Rattle.records.specs.Unions.{RowMember}
 use Rattle.records.specs.declared.fields.Word.{Word}
 use Rattle.records.specs.declared.fields.Word.the-variants as word
 use Rattle.sizes.specs.Size.{innerSize, sizeLimit, membersOf, memberSize, larger, withEnd, shapeOf, isStructure}
@@ -65,7 +65,7 @@ unfolding endOr withEnd
 end-inside P key largest end next h = end-by P key (larger largest end) (leb end sizeLimit) next h
 
 module _ (rows : List ℕ) (sizeOf : «Type» → Said ℕ) where
-  from-inside : (largest : ℕ) (ms : List Placed) → Of (Inside largest) (laidFrom rows sizeOf false largest ms)
+  from-inside : (largest : ℕ) (ms : List RowMember) → Of (Inside largest) (laidFrom rows sizeOf false largest ms)
   unfolding laidFrom laidMember EndInside
   from-inside largest [] = (le-refl largest, tt)
   from-inside largest (m ∷ ms) =

@@ -21,7 +21,7 @@ use Rattle.tables.specs.Keyed.{foundRow, rowOf}
 use Rattle.tables.specs.declared.row.Counts.{Counts}
 use Rattle.tables.specs.declared.find.Found.{Found}
 use Rattle.tables.specs.declared.find.Found.the-variants as found
-use Rattle.records.specs.Unions.{Placed}
+use Rattle.records.specs.Unions.{RowMember}
 use Rattle.records.specs.declared.fields.Word.{Word}
 use Rattle.records.specs.declared.fields.Word.the-variants as word
 use Rattle.sizes.specs.Size.{innerSize, membersOf, memberSize, withEnd, endsFrom, sizeOrEnds, shapeOf, isStructure, shapeSize, rowSize, sizeOfKey}
@@ -64,7 +64,7 @@ unlaid-end (gives l) p = absurd (given-refused p)
 unlaid-end (refuses number place counts) p = retold p
 
 module _ (rows : List ℕ) (sizeOf : «Type» → Said ℕ) where
-  ends-same : (largest : ℕ) (ms : List Placed) → endIn (laidFrom rows sizeOf false largest ms) ≡ endsFrom rows sizeOf largest ms
+  ends-same : (largest : ℕ) (ms : List RowMember) → endIn (laidFrom rows sizeOf false largest ms) ≡ endsFrom rows sizeOf largest ms
   unfolding laidFrom endsFrom endOr _>>=_
   ends-same largest [] = refl
   ends-same largest (m ∷ ms) =
@@ -76,20 +76,20 @@ module _ (rows : List ℕ) (sizeOf : «Type» → Said ℕ) where
       (λ next. and-end (laidMember m size) (laidFrom rows sizeOf false next ms) ∙ ends-same next ms))
 
   -- with a ByteSize or without one
-  laid-sized : (w : Word) (ms : List Placed) {l : Lay} → laidFrom rows sizeOf (hasByteSize w) 0 ms ≡ gives l
+  laid-sized : (w : Word) (ms : List RowMember) {l : Lay} → laidFrom rows sizeOf (hasByteSize w) 0 ms ≡ gives l
       → sizeOrEnds rows sizeOf ms w ≡ gives (sizeOrLargest (l .largest) w)
   unfolding hasByteSize sizeOrEnds sizeOrLargest _>>=_
   laid-sized (word.Is size) ms p = refl
   laid-sized word.Nothing ms p = sym (ends-same 0 ms) ∙ ap endIn p
 
   module _ {number place : ℕ} {counts : List ℕ} where
-    sized-unlaid : (w : Word) (ms : List Placed) → sizeOrEnds rows sizeOf ms w ≡ refuses number place counts
+    sized-unlaid : (w : Word) (ms : List RowMember) → sizeOrEnds rows sizeOf ms w ≡ refuses number place counts
         → laidFrom rows sizeOf (hasByteSize w) 0 ms ≡ refuses number place counts
     unfolding hasByteSize sizeOrEnds
     sized-unlaid (word.Is size) ms p = absurd (given-refused p)
     sized-unlaid word.Nothing ms p = unlaid-end (laidFrom rows sizeOf false 0 ms) (ends-same 0 ms ∙ p)
 
-    unlaid-sized : (w : Word) (ms : List Placed) → hasByteSize w ≡ false → laidFrom rows sizeOf (hasByteSize w) 0 ms ≡ refuses number place counts
+    unlaid-sized : (w : Word) (ms : List RowMember) → hasByteSize w ≡ false → laidFrom rows sizeOf (hasByteSize w) 0 ms ≡ refuses number place counts
         → sizeOrEnds rows sizeOf ms w ≡ refuses number place counts
     unfolding hasByteSize sizeOrEnds _>>=_
     unlaid-sized (word.Is size) ms t p = absurd (true≢false t)
@@ -111,13 +111,13 @@ module _ (settings : Settings) (s rows attrs : List ℕ) (n : ℕ) (sizeOf : «T
   abbrev own : Word
   own = ownSize settings s rows attrs i
 
-  abbrev all : Said (List Placed)
+  abbrev all : Said (List RowMember)
   all = membersOf settings (lentRows (settings .endian) s rows attrs n) i
 
-  abbrev laidAll : List Placed → Said Lay
+  abbrev laidAll : List RowMember → Said Lay
   laidAll ms = laidFrom rows sizeOf (hasByteSize own) 0 ms
 
-  abbrev sizeAll : List Placed → Said ℕ
+  abbrev sizeAll : List RowMember → Said ℕ
   sizeAll ms = sizeOrEnds rows sizeOf ms own
 
   size-is : isStructure (shapeOf (rowAt rows i .kind)) ≡ true → rowSize settings (lentRows (settings .endian) s rows attrs n) sizeOf i ≡ (all >>= sizeAll)
@@ -131,8 +131,8 @@ module _ (settings : Settings) (s rows attrs : List ℕ) (n : ℕ) (sizeOf : «T
       let kind : (isStructure (shapeOf (rowAt rows i .kind)) ≡ true) × ((all >>= laidAll) ≡ gives l) =
       must-gave (isStructure (shapeOf (rowAt rows i .kind))) reason.Kind (rowAt rows i .key) (all >>= laidAll) p
       in
-      let each : (ms : List Placed) × (all ≡ gives ms) × (laidAll ms ≡ gives l) = step-gave all laidAll (kind .1) in
-      size-is (kind .0) ∙ ap (λ (d : Said (List Placed)). d >>= sizeAll) (each .1) ∙ laid-sized rows sizeOf own (each .0) (each .2)
+      let each : (ms : List RowMember) × (all ≡ gives ms) × (laidAll ms ≡ gives l) = step-gave all laidAll (kind .1) in
+      size-is (kind .0) ∙ ap (λ (d : Said (List RowMember)). d >>= sizeAll) (each .1) ∙ laid-sized rows sizeOf own (each .0) (each .2)
 
   module _ (structure : isStructure (shapeOf (rowAt rows i .kind)) ≡ true) where
     lay-is : rowLay settings (lentRows (settings .endian) s rows attrs n) sizeOf i ≡ (all >>= laidAll)
@@ -140,7 +140,7 @@ module _ (settings : Settings) (s rows attrs : List ℕ) (n : ℕ) (sizeOf : «T
     lay-is = sym (must-passed {b = true} (sym structure) reason.Kind (rowAt rows i .key) (all >>= laidAll) refl refl)
 
     module _ {number place : ℕ} {counts : List ℕ} where
-      members-sizeless : (d : Said (List Placed)) → (d >>= sizeAll) ≡ refuses number place counts → (d >>= laidAll) ≡ refuses number place counts
+      members-sizeless : (d : Said (List RowMember)) → (d >>= sizeAll) ≡ refuses number place counts → (d >>= laidAll) ≡ refuses number place counts
       unfolding _>>=_
       members-sizeless (gives ms) p = sized-unlaid rows sizeOf own ms p
       members-sizeless (refuses other elsewhere more) p = retold p
@@ -149,7 +149,7 @@ module _ (settings : Settings) (s rows attrs : List ℕ) (n : ℕ) (sizeOf : «T
       pub row-size-refused : rowSize settings (lentRows (settings .endian) s rows attrs n) sizeOf i ≡ refuses number place counts → rowLay settings (lentRows (settings .endian) s rows attrs n) sizeOf i ≡ refuses number place counts
       row-size-refused p = lay-is ∙ members-sizeless all (sym (size-is structure) ∙ p)
 
-      members-unlaid : hasByteSize own ≡ false → (d : Said (List Placed)) → (d >>= laidAll) ≡ refuses number place counts → (d >>= sizeAll) ≡ refuses number place counts
+      members-unlaid : hasByteSize own ≡ false → (d : Said (List RowMember)) → (d >>= laidAll) ≡ refuses number place counts → (d >>= sizeAll) ≡ refuses number place counts
       unfolding _>>=_
       members-unlaid t (gives ms) p = unlaid-sized rows sizeOf own ms t p
       members-unlaid t (refuses other elsewhere more) p = retold p

@@ -16,7 +16,7 @@ use Rattle.records.specs.MemberWords.{namePlace, nameLength}
 use Rattle.records.specs.declared.fields.Name.{Name}
 use Rattle.sizes.specs.Size.{shapeOf}
 use Rattle.sizes.specs.Inside.Size.{TableReady}
-use Rattle.sizes.specs.Inside.Known.{knownWidth, knownAt}
+use Rattle.sizes.specs.Inside.Noted.{notedWidth, notedAt}
 use Rattle.layout.specs.Layout.{layoutAt, laidWidth}
 use Rattle.sizes.specs.Size.{isStructure}
 use Rattle.layout.specs.All.{Structure, alsoIf, structureAt, structuresFrom, countsOf, structureWords, structureWidth, allMemberWords, memberCount}
@@ -58,14 +58,14 @@ wholeTold d = do
 module _ (settings : Settings) (s rows attrs : List ℕ) (n : ℕ) (sizeOf : «Type» → Said ℕ) where
   -- the structures among the first k of n rows have told
   pub record WholesTold (k : ℕ) (told : List ℕ) : Type 0 where
-    pub fits : n * knownWidth ≤ length told
-    pub each : (i : ℕ) → i < k → isStructure (shapeOf (rowAt rows i .kind)) ≡ true → knownAt told i ≡ wholeTold (layoutAt settings (lentRows (settings .endian) s rows attrs n) sizeOf i)
+    pub fits : n * notedWidth ≤ length told
+    pub each : (i : ℕ) → i < k → isStructure (shapeOf (rowAt rows i .kind)) ≡ true → notedAt told i ≡ wholeTold (layoutAt settings (lentRows (settings .endian) s rows attrs n) sizeOf i)
 
   -- row i is counted and has told, what others told is as before
   pub record RowCounted (i : ℕ) (counts counts′ : LayoutCounts) (told told′ : List ℕ) : Type 0 where
     pub counts-are : counts′ ≡ countedWith counts (rowStructures settings s rows attrs n sizeOf i)
-    pub told-is : isStructure (shapeOf (rowAt rows i .kind)) ≡ true → knownAt told′ i ≡ wholeTold (layoutAt settings (lentRows (settings .endian) s rows attrs n) sizeOf i)
-    pub others : (j : ℕ) → (j ≡ i → ⊥) → knownAt told′ j ≡ knownAt told j
+    pub told-is : isStructure (shapeOf (rowAt rows i .kind)) ≡ true → notedAt told′ i ≡ wholeTold (layoutAt settings (lentRows (settings .endian) s rows attrs n) sizeOf i)
+    pub others : (j : ℕ) → (j ≡ i → ⊥) → notedAt told′ j ≡ notedAt told j
     pub same-long : length told′ ≡ length told
 
   pub record AllCounted (counts : LayoutCounts) (told : List ℕ) : Type 0 where

@@ -14,7 +14,7 @@ use Rattle.format.specs.declared.settings.Settings.{Settings}
 use Rattle.blocks.specs.declared.types.Type.{«Type»}
 use Rattle.tables.specs.Table.{lentRows}
 use Rattle.tables.specs.Row.{rowAt}
-use Rattle.links.specs.Inside.Kids.{kidsOf}
+use Rattle.links.specs.Inside.EachChild.{childrenAt}
 use Rattle.records.specs.Inside.Enumeration.{AskedShort}
 use Rattle.records.specs.Member.{memberAt}
 use Rattle.records.specs.Scan.{runOf}
@@ -41,7 +41,7 @@ laidAt e s rows attrs c offset size =
     }
 
 module _ (e : Endian) (s rows attrs : List ℕ) (sized : Bool) (largest c : ℕ) where
-  -- a member whose size is known
+  -- a member whose size is noted
   unfoldable pub sizedLaid : ℕ → ℕ → Said Lay
   sizedLaid offset size = do
     next ← endOr sized (rowAt rows c .key) largest (offset + size)
@@ -90,7 +90,7 @@ module _ (settings : Settings) (s rows attrs : List ℕ) (n : ℕ) (sizeOf : «T
   unfoldable pub structureLaid : ℕ → Said Lay
   structureLaid i = do
     structureFault settings s rows attrs n i
-    childrenLaid 0 (kidsOf (settings .endian) s rows attrs n i)
+    childrenLaid 0 (childrenAt (settings .endian) s rows attrs n i)
 
 -- ---- what the code answers, after k others
 

@@ -35,8 +35,8 @@ use Rattle.links.specs.Inside.Links.{RowsHold}
 use Rattle.links.specs.Children.{saidChildRows, childrenMet, childRowsOf, childrenOfKey}
 use Rattle.links.specs.declared.children.ChildRows.the-variants.{Listed, Refused, Room}
 use Rattle.links.specs.Inside.Children.{gatheredInto, Gathers, TakesChild, Small, listedInto}
-use Rattle.links.specs.declared.children.Kids.{Kids}
-use Rattle.links.specs.declared.children.Kids.the-variants.{Count, Endless}
+use Rattle.links.specs.declared.children.Gathered.{Gathered}
+use Rattle.links.specs.declared.children.Gathered.the-variants.{Count, Endless}
 
 -- ---- one turn of the walk
 
@@ -102,7 +102,7 @@ pub record Walking (rows : List ℕ) (n : ℕ) (next : ℕ → ℕ) (end from : 
 pub walking-begins : (rows : List ℕ) (n : ℕ) (next : ℕ → ℕ) (end from : ℕ) (room : List ℕ) → Walking rows n next end from room room from 0 0
 walking-begins rows n next end from room = record { in-time = omega arith; counted = omega arith; same-room = refl; left = rw sub-zero }
 
-abbrev pub isEndless : Kids → Type 0
+abbrev pub isEndless : Gathered → Type 0
 isEndless (Count k) = ⊥
 isEndless Endless = Unit
 
@@ -120,8 +120,8 @@ module _ {rows : List ℕ} {n : ℕ} {next : ℕ → ℕ} {end from : ℕ} {room
       ap (gatheredInto rows k room) (sym (stopped n next end c h (n - turns))) ∙ w .left
       in
       record {
-        answer-is = ap Count (sym (add-zero k)) ∙ ap (λ (o : Outcome Kids ℕ). o .answer) rest;
-        room-is = λ m p. ap (λ (o : Outcome Kids ℕ). o .room) rest;
+        answer-is = ap Count (sym (add-zero k)) ∙ ap (λ (o : Outcome Gathered ℕ). o .answer) rest;
+        room-is = λ m p. ap (λ (o : Outcome Gathered ℕ). o .room) rest;
       }
 
   pub gathered-end : c ≡ end → Gathers (gatheredInto rows 0 room₀ (walkFrom n next end n from)) (Count k) room
@@ -138,7 +138,7 @@ module _ {rows : List ℕ} {n : ℕ} {next : ℕ → ℕ} {end from : ℕ} {room
       let rest : gatheredInto rows k room endless ≡ gatheredInto rows 0 room₀ (walkFrom n next end n from) =
       ap (gatheredInto rows k room) (sym (ap (λ (f : ℕ). walkFrom n next end f c) none ∙ unended n next end c (goes n next end c h l))) ∙ w .left
       in
-      record { answer-is = ap (λ (o : Outcome Kids ℕ). o .answer) rest; room-is = λ m p. absurd (subst isEndless p tt) }
+      record { answer-is = ap (λ (o : Outcome Gathered ℕ). o .answer) rest; room-is = λ m p. absurd (subst isEndless p tt) }
 
   pub walking-on : (c ≡ end → ⊥) → c < n → turns < n → {r c′ : ℕ} {room′ : List ℕ} → TakesChild rows c k r room room′ → c′ ≡ next c
       → Walking rows n next end from room₀ room′ c′ r (turns + 1)
@@ -182,7 +182,7 @@ takes-row rows c k room p h q =
 -- ---- the child walk of a row, and the calls around it
 
 module _ (e : Endian) (s rows attrs : List ℕ) (n i : ℕ) where
-  pub gathers-children : (room : List ℕ) {end from : ℕ} {room′ : List ℕ} {r : Kids} → end ≡ siblingRow (lentRows e s rows attrs n) i → from ≡ nextRow rows n i
+  pub gathers-children : (room : List ℕ) {end from : ℕ} {room′ : List ℕ} {r : Gathered} → end ≡ siblingRow (lentRows e s rows attrs n) i → from ≡ nextRow rows n i
       → Gathers (gatheredInto rows 0 room (walkFrom n (λ c. siblingRow (lentRows e s rows attrs n) c) end n from)) r room′
       → Gathers (gatheredInto rows 0 room (childWalk (lentRows e s rows attrs n) i)) r room′
   unfolding childWalk
@@ -190,12 +190,12 @@ module _ (e : Endian) (s rows attrs : List ℕ) (n i : ℕ) where
       subst (λ (x : ℕ). Gathers (gatheredInto rows 0 room (walkFrom n (λ c. siblingRow (lentRows e s rows attrs n) c) x n (nextRow rows n i))) r room′) p
       (subst (λ (x : ℕ). Gathers (gatheredInto rows 0 room (walkFrom n (λ c. siblingRow (lentRows e s rows attrs n) c) end n x)) r room′) q g)
 
-abbrev pub isCount : ℕ → Kids → Type 0
+abbrev pub isCount : ℕ → Gathered → Type 0
 isCount k (Count m) = k ≡ m
 isCount k Endless = ⊥
 
 module _ (rows : List ℕ) (key : ℕ) (room : List ℕ) where
-  listed-by : (w : Walk) (told : Kids) → told ≡ gatheredInto rows 0 [] w .answer → (k : ℕ) → told ≡ Count k → k ≤ length room → {r : Kids} {room′ : List ℕ}
+  listed-by : (w : Walk) (told : Gathered) → told ≡ gatheredInto rows 0 [] w .answer → (k : ℕ) → told ≡ Count k → k ≤ length room → {r : Gathered} {room′ : List ℕ}
       → Gathers (gatheredInto rows 0 room w) r room′ → Given (listedInto rows key room w) (saidChildRows (Listed k)) room′
   unfolding gatheredInto listedInto childrenMet inRoom fillsRoom saidChildRows
   listed-by (ends cs) told p k q h {r} g =
@@ -205,7 +205,7 @@ module _ (rows : List ℕ) (key : ℕ) (room : List ℕ) where
       record { answer-is = rw (fit, many); room-is = rw fit (g .room-is (0 + length (nonNull rows cs)) (g .answer-is)) }
   listed-by endless told p k q h g = absurd (subst (isCount k) (sym q ∙ p) refl)
 
-  unfit-by : (w : Walk) (told : Kids) → told ≡ gatheredInto rows 0 [] w .answer → (k : ℕ) → told ≡ Count k → length room < k
+  unfit-by : (w : Walk) (told : Gathered) → told ≡ gatheredInto rows 0 [] w .answer → (k : ℕ) → told ≡ Count k → length room < k
       → Given (listedInto rows key room w) (saidChildRows (Room k)) room
   unfolding gatheredInto listedInto childrenMet inRoom fillsRoom saidChildRows
   unfit-by (ends cs) told p k q h =
@@ -215,14 +215,14 @@ module _ (rows : List ℕ) (key : ℕ) (room : List ℕ) where
       record { answer-is = rw (fit, many); room-is = rw fit }
   unfit-by endless told p k q h = absurd (subst (isCount k) (sym q ∙ p) refl)
 
-  never-by : (w : Walk) (told : Kids) → told ≡ gatheredInto rows 0 [] w .answer → told ≡ Endless
+  never-by : (w : Walk) (told : Gathered) → told ≡ gatheredInto rows 0 [] w .answer → told ≡ Endless
       → Given (listedInto rows key room w) (saidChildRows (Refused (refusedAt key reason.Link))) room
   unfolding gatheredInto listedInto childrenMet inRoom saidChildRows
   never-by (ends cs) told p q = absurd (subst isEndless (sym q ∙ p) tt)
   never-by endless told p q = record { answer-is = refl; room-is = refl }
 
-  module _ (w : Walk) {told : Kids} (p : told ≡ gatheredInto rows 0 [] w .answer) where
-    pub given-listed : {k : ℕ} → told ≡ Count k → k ≤ length room → {r : Kids} {room′ : List ℕ} → Gathers (gatheredInto rows 0 room w) r room′
+  module _ (w : Walk) {told : Gathered} (p : told ≡ gatheredInto rows 0 [] w .answer) where
+    pub given-listed : {k : ℕ} → told ≡ Count k → k ≤ length room → {r : Gathered} {room′ : List ℕ} → Gathers (gatheredInto rows 0 room w) r room′
         → Given (listedInto rows key room w) (saidChildRows (Listed k)) room′
     given-listed {k} q h g = listed-by w told p k q h g
 

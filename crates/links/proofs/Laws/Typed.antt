@@ -28,15 +28,15 @@ use Rattle.tables.proofs.Laws.Keyed.{keyed-held, keyed-there}
 use Rattle.links.specs.Attribute.{attributeOf}
 use Rattle.links.specs.Inside.Children.{Asked}
 use Rattle.links.specs.Inside.Links.{AtRow}
-use Rattle.links.specs.Inside.Typed.{saidPlaced}
+use Rattle.links.specs.Inside.Typed.{saidSpotted}
 use Rattle.links.specs.Maybe.{Maybe, some}
 use Rattle.links.specs.Typed.{saidLooked, attrFound, blockForm, spotFound, spotAt, spotIn, placeOfKey, wordAt, partAs, partOf, toldWords, Handed}
 use Rattle.links.specs.declared.lookup.Wanted.{Wanted}
 use Rattle.links.specs.declared.lookup.Wanted.the-variants as wanted
 use Rattle.links.specs.declared.typed.Looked.the-variants as looked
 use Rattle.links.specs.declared.typed.Spot.{Spot}
-use Rattle.links.specs.declared.typed.Placed.{Placed}
-use Rattle.links.specs.declared.typed.Placed.the-variants as placed
+use Rattle.links.specs.declared.typed.Spotted.{Spotted}
+use Rattle.links.specs.declared.typed.Spotted.the-variants as placed
 
 -- ---- in the row of a key
 
@@ -74,13 +74,13 @@ module _ (e : Endian) (rows attrs : List ℕ) (number i : ℕ) {found : Found} (
   spot-found p = ap (λ (f : Found). gives (spotFound (endsOf e rows i) attrs f)) (sym p ∙ is)
 
   pub spot-there : {k : ℕ} {a : Attr} {ends : Endians} → found ≡ At k → a ≡ attrAt attrs k → ends ≡ endsOf e rows i
-      → saidPlaced (placed.At (record { at = a .value; ends = ends })) ≡ gives (spotAt e rows attrs number i)
-  unfolding saidPlaced spotFound
+      → saidSpotted (placed.At (record { at = a .value; ends = ends })) ≡ gives (spotAt e rows attrs number i)
+  unfolding saidSpotted spotFound
   spot-there {k} {ends = ends} p q h =
       ap (λ (x : Attr). gives (some (spot (x .value) ends))) q ∙ ap (λ (x : Endians). gives (some (spot (attrAt attrs k .value) x))) h ∙ spot-found p
 
-  pub spot-none : found ≡ Nothing → saidPlaced placed.Nothing ≡ gives (spotAt e rows attrs number i)
-  unfolding saidPlaced spotFound
+  pub spot-none : found ≡ Nothing → saidSpotted placed.Nothing ≡ gives (spotAt e rows attrs number i)
+  unfolding saidSpotted spotFound
   spot-none p = spot-found p
 
 module _ (e : Endian) (rows attrs : List ℕ) (number : ℕ) (form : FormKind) (i : ℕ) {b : Bool} (is : b ≡ isForm form number) where
@@ -88,8 +88,8 @@ module _ (e : Endian) (rows attrs : List ℕ) (number : ℕ) (form : FormKind) (
   unfolding spotIn
   spot-formed t h = let test : isForm form number ≡ true = sym is ∙ t in h ∙ rw test
 
-  pub spot-other : b ≡ false → saidPlaced placed.Nothing ≡ gives (spotIn e rows attrs number form i)
-  unfolding saidPlaced spotIn
+  pub spot-other : b ≡ false → saidSpotted placed.Nothing ≡ gives (spotIn e rows attrs number form i)
+  unfolding saidSpotted spotIn
   spot-other t = let test : isForm form number ≡ false = sym is ∙ t in rw test
 
 module _ (number : ℕ) {b : Bool} (is : b ≡ isForm Block2 number) where
@@ -114,10 +114,10 @@ pub handed : (form : FormKind) (s : List ℕ) {told place : Said (Maybe Spot)} {
     → words ≡ toldWords told → Handed form s place part words
 handed form s is p q = record { part-is = p ∙ ap (partOf form s) is; told-is = q ∙ ap toldWords is }
 
-pub told-refused : {told : Placed} (why : Refusal) {n : ℕ} → n ≡ numberOf (why .reason) → told ≡ placed.Refused why
-    → 2 ∷ n ∷ why .place ∷ [] ≡ toldWords (saidPlaced told)
-unfolding toldWords saidPlaced
-told-refused why h p = ap (λ (x : ℕ). 2 ∷ x ∷ why .place ∷ []) h ∙ ap (λ (x : Placed). toldWords (saidPlaced x)) (sym p)
+pub told-refused : {told : Spotted} (why : Refusal) {n : ℕ} → n ≡ numberOf (why .reason) → told ≡ placed.Refused why
+    → 2 ∷ n ∷ why .place ∷ [] ≡ toldWords (saidSpotted told)
+unfolding toldWords saidSpotted
+told-refused why h p = ap (λ (x : ℕ). 2 ∷ x ∷ why .place ∷ []) h ∙ ap (λ (x : Spotted). toldWords (saidSpotted x)) (sym p)
 
 pub handed-block : (settings : Settings) (vendors sizes s rows attrs : List ℕ) (counts : Counts) (key number : ℕ) {form : FormKind} {part words : List ℕ}
     → form ≡ blockForm number → Handed form s (placeOfKey (table s settings vendors sizes rows attrs counts) key number form) part words

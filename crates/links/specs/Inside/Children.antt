@@ -12,16 +12,16 @@ use Rattle.links.specs.Walk.{Walk, ends, endless}
 use Rattle.links.specs.Links.{nullRow, nonNull}
 use Rattle.links.specs.Children.{childrenMet}
 use Rattle.links.specs.Inside.Links.{RowsHold}
-use Rattle.links.specs.declared.children.Kids.{Kids}
-use Rattle.links.specs.declared.children.Kids.the-variants.{Count, Endless}
+use Rattle.links.specs.declared.children.Gathered.{Gathered}
+use Rattle.links.specs.declared.children.Gathered.the-variants.{Count, Endless}
 
 -- of an endless walk there is nothing to count
-unfoldable pub gatheredInto : List ℕ → ℕ → List ℕ → Walk → Outcome Kids ℕ
+unfoldable pub gatheredInto : List ℕ → ℕ → List ℕ → Walk → Outcome Gathered ℕ
 gatheredInto rows k room (ends cs) = record { answer = Count (k + length (nonNull rows cs)); room = sets room k (nonNull rows cs) }
 gatheredInto rows k room endless = record { answer = Endless; room = [] }
 
 -- what gathering answers; of an endless walk's room nothing is said, since that walk is only made on room of no words
-pub record Gathers (o : Outcome Kids ℕ) (r : Kids) (room : List ℕ) : Type 0 where
+pub record Gathers (o : Outcome Gathered ℕ) (r : Gathered) (room : List ℕ) : Type 0 where
   pub answer-is : r ≡ o .answer
   pub room-is : (k : ℕ) → r ≡ Count k → room ≡ o .room
 

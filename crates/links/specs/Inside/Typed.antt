@@ -2,11 +2,11 @@
 use Rattle.format.specs.Said.{Said, gives, refusal}
 use Rattle.links.specs.Maybe.{Maybe, none, some}
 use Rattle.links.specs.declared.typed.Spot.{Spot}
-use Rattle.links.specs.declared.typed.Placed.{Placed}
-use Rattle.links.specs.declared.typed.Placed.the-variants as placed
+use Rattle.links.specs.declared.typed.Spotted.{Spotted}
+use Rattle.links.specs.declared.typed.Spotted.the-variants as placed
 
 -- what an answer says
-unfoldable pub saidPlaced : Placed → Said (Maybe Spot)
-saidPlaced (placed.At spot) = gives (some spot)
-saidPlaced placed.Nothing = gives none
-saidPlaced (placed.Refused why) = refusal why
+unfoldable pub saidSpotted : Spotted → Said (Maybe Spot)
+saidSpotted (placed.At spot) = gives (some spot)
+saidSpotted placed.Nothing = gives none
+saidSpotted (placed.Refused why) = refusal why

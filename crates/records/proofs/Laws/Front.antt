@@ -16,11 +16,11 @@ use Rattle.tables.specs.Row.{rowAt}
 use Rattle.tables.specs.Inside.Keyed.{refusedAt}
 use Rattle.tables.specs.declared.row.Row.{Row}
 use Rattle.links.specs.Links.{childWalk, nonNull}
-use Rattle.links.specs.Inside.Kids.{rowsMet}
+use Rattle.links.specs.Inside.EachChild.{rowsMet}
 use Rattle.links.specs.Inside.Children.{gatheredInto}
-use Rattle.links.proofs.Laws.Kids.{walk-kids, counted-walk, counted-kids, endless-walk}
-use Rattle.links.specs.declared.children.Kids.{Kids}
-use Rattle.links.specs.declared.children.Kids.the-variants.{Count, Endless}
+use Rattle.links.proofs.Laws.EachChild.{walk-children, counted-walk, counted-children, endless-walk}
+use Rattle.links.specs.declared.children.Gathered.{Gathered}
+use Rattle.links.specs.declared.children.Gathered.the-variants.{Count, Endless}
 use Rattle.records.proofs.Laws.Taken.{by-case, test-passed, test-failed}
 use Rattle.format.specs.Said.{Said, gives, refusal, must, _>>_}
 use Rattle.format.proofs.Laws.Said.{goes-past}
@@ -71,10 +71,10 @@ module _ (settings : Settings) (s rows attrs : List ℕ) (which : Record) (i : �
 
 -- ---- no children
 
-module _ (e : Endian) (s rows attrs : List ℕ) (n i : ℕ) {told : Kids} (is : told ≡ gatheredInto rows 0 [] (childWalk (lentRows e s rows attrs n) i) .answer) where
+module _ (e : Endian) (s rows attrs : List ℕ) (n i : ℕ) {told : Gathered} (is : told ≡ gatheredInto rows 0 [] (childWalk (lentRows e s rows attrs n) i) .answer) where
   module _ {k : ℕ} (p : told ≡ Count k) where
     count-met : k ≡ length (nonNull rows (rowsMet (childWalk (lentRows e s rows attrs n) i)))
-    count-met = counted-kids e s rows attrs n i is p ∙ ap length (walk-kids e s rows attrs n i (counted-walk e s rows attrs n i is p))
+    count-met = counted-children e s rows attrs n i is p ∙ ap length (walk-children e s rows attrs n i (counted-walk e s rows attrs n i is p))
 
     pub childless : k ≡ 0 → gives tt ≡ childlessFault rows i (childWalk (lentRows e s rows attrs n) i)
     unfolding childlessFault must

@@ -42,7 +42,7 @@ use Rattle.records.specs.Fields.{isSought, lastOf, lastFrom, textOf, nam
 use Rattle.records.proofs.Laws.Fields.{by-told}
 use Rattle.records.specs.Front.{kindFault, childlessFault}
 use Rattle.records.proofs.Laws.Record.{fields-said}
-use Rattle.records.specs.Typedef.{Held, holds, Known, unknown, nameFilled, typeFilled, filledIn, overwritten, typeNeeded, specifiedBy, specified, typedefEnd, attributesFrom, typedefRun, saidTypedefRead}
+use Rattle.records.specs.Typedef.{Held, holds, SoFar, nothingYet, nameFilled, typeFilled, filledIn, overwritten, typeNeeded, specifiedBy, specified, typedefEnd, attributesFrom, typedefRun, saidTypedefRead}
 use Rattle.records.specs.Inside.Typedef.{saidSpecified, Reached, meets, over, saidPause, firstFilling, typedefName, typedefType, knownAt, knownOf, typedefWith, typedefFields, pauseAt, pauseFrom}
 use Rattle.records.specs.declared.taken.Record.the-variants as record′
 use Rattle.records.specs.declared.scan.Run.{Run}
@@ -211,11 +211,11 @@ module _ (s attrs : List ℕ) (run : Run) where
   abbrev lastType : ℕ → Found
   lastType j = lastFrom sought.Type attrs (run .first) j
 
-  abbrev both : Name → Held → Known
+  abbrev both : Name → Held → SoFar
   both x y = record { name = x; of = y }
 
-  known-none : unknown ≡ knownAt s attrs run 0 filling.Nothing
-  unfolding unknown knownAt lastFrom nameBy typedefName typedefType
+  known-none : nothingYet ≡ knownAt s attrs run 0 filling.Nothing
+  unfolding nothingYet knownAt lastFrom nameBy typedefName typedefType
   known-none = refl
 
   fills-name : (own : Name) (f : Filling) (t : Typedef) → nameFilled (typedefName own f) (t .name) ≡ typedefName own (firstFilling f t)
@@ -239,7 +239,7 @@ module _ (s attrs : List ℕ) (run : Run) where
       (sym (cond-map (λ (x : Found). typedefType s attrs run x f) (isType (attributeAt attrs (run .first + j) .number)) (found.At (run .first + j)) (lastType j)))
 
   -- a specification is neither a name nor a type
-  leaves : (a : Attribute) (known : Known) → special record′.Typedef (a .number) ≡ true → overwritten s run a known ≡ known
+  leaves : (a : Attribute) (known : SoFar) → special record′.Typedef (a .number) ≡ true → overwritten s run a known ≡ known
   unfolding overwritten special isType
   leaves a known t =
       ap (λ (x : ℕ). both (cond (eqb x attribute.Name) (name.Is (textOf s (a .value))) (known .name))
@@ -286,7 +286,7 @@ module _ (settings : Settings) (s rows attrs : List ℕ) (n levels : ℕ) where
       (read-all _ _ (run .ends .section) 4 s (attributeAt attrs (run .first + j) .value) Good (λ t. good-row _ (rowOfKey rows n _) refl) (λ t. tt))
 
 module _ (settings : Settings) (s rows attrs : List ℕ) (n : ℕ) (below : ℕ → Said Typedef) (levels i : ℕ) (run : Run) where
-  abbrev from : ℕ → ℕ → Known → Said Typedef
+  abbrev from : ℕ → ℕ → SoFar → Said Typedef
   from j m known = attributesFrom settings (lentRows (settings .endian) s rows attrs n) below levels i run j m known
 
   -- with what is known after j attributes
@@ -300,18 +300,18 @@ module _ (settings : Settings) (s rows attrs : List ℕ) (n : ℕ) (below : ℕ 
   judged j = faultAt (settings .roles) record′.Typedef run s attrs j
 
   -- attribute j, by whether it is a specification, what that says, and what is wrong with it
-  abbrev turn : ℕ → ℕ → Known → Bool → Said ℕ → Said Unit → Said Typedef
+  abbrev turn : ℕ → ℕ → SoFar → Bool → Said ℕ → Said Unit → Said Typedef
   turn j m known b what x =
       elim b [
         | true ↦ what >>= λ r. below r >>= λ t. from (suc j) m (filledIn known t)
         | false ↦ x >> from (suc j) m (overwritten s run (attributeAt attrs (run .first + j)) known)
       ]
 
-  left-turn : (j m : ℕ) (known : Known) → from j (suc m) known ≡ turn j m known (isOwn j) (specified settings (lentRows (settings .endian) s rows attrs n) run levels j) (judged j)
+  left-turn : (j m : ℕ) (known : SoFar) → from j (suc m) known ≡ turn j m known (isOwn j) (specified settings (lentRows (settings .endian) s rows attrs n) run levels j) (judged j)
   unfolding attributesFrom
   left-turn j m known = refl
 
-  by-own : (j m : ℕ) (known : Known) {b : Bool} → isOwn j ≡ b
+  by-own : (j m : ℕ) (known : SoFar) {b : Bool} → isOwn j ≡ b
       → from j (suc m) known ≡ turn j m known b (specified settings (lentRows (settings .endian) s rows attrs n) run levels j) (judged j)
   by-own j m known t = left-turn j m known ∙ ap (λ (b : Bool). turn j m known b (specified settings (lentRows (settings .endian) s rows attrs n) run levels j) (judged j)) t
 
@@ -320,7 +320,7 @@ module _ (settings : Settings) (s rows attrs : List ℕ) (n : ℕ) (below : ℕ 
   left-plain j m f {x} t p =
       by-own j m (knownAt s attrs run j f) t
       ∙ ap (λ (y : Said Unit). y >> from (suc j) m (overwritten s run (attributeAt attrs (run .first + j)) (knownAt s attrs run j f))) p
-      ∙ ap (λ (k : Known). x >> from (suc j) m k) (overwrites s attrs run j f)
+      ∙ ap (λ (k : SoFar). x >> from (suc j) m k) (overwrites s attrs run j f)
 
   -- a specification is read
   left-special : (j m : ℕ) (f : Filling) {what : Said ℕ} → isOwn j ≡ true → specified settings (lentRows (settings .endian) s rows attrs n) run levels j ≡ what
@@ -430,10 +430,10 @@ module _ (settings : Settings) (s rows attrs : List ℕ) (n levels i : ℕ) (run
   below-less (suc l) r h = let before : l ≡ suc l - 1 = omega arith in ap (λ (x : ℕ). typedefRun settings (lentRows (settings .endian) s rows attrs n) x r) before
 
   whole : (l : ℕ) (x : Run) → x ≡ runOf (settings .endian) rows i
-      → attributesFrom settings (lentRows (settings .endian) s rows attrs n) (belowOf l) l i x 0 (x .count) unknown ≡ typedefRun settings (lentRows (settings .endian) s rows attrs n) l i
+      → attributesFrom settings (lentRows (settings .endian) s rows attrs n) (belowOf l) l i x 0 (x .count) nothingYet ≡ typedefRun settings (lentRows (settings .endian) s rows attrs n) l i
   unfolding typedefRun
-  whole zero x p = ap (λ (y : Run). attributesFrom settings (lentRows (settings .endian) s rows attrs n) (belowOf zero) zero i y 0 (y .count) unknown) p
-  whole (suc l) x p = ap (λ (y : Run). attributesFrom settings (lentRows (settings .endian) s rows attrs n) (belowOf (suc l)) (suc l) i y 0 (y .count) unknown) p
+  whole zero x p = ap (λ (y : Run). attributesFrom settings (lentRows (settings .endian) s rows attrs n) (belowOf zero) zero i y 0 (y .count) nothingYet) p
+  whole (suc l) x p = ap (λ (y : Run). attributesFrom settings (lentRows (settings .endian) s rows attrs n) (belowOf (suc l)) (suc l) i y 0 (y .count) nothingYet) p
 
   -- the attributes from j on, f being filled
   abbrev rest-from : ℕ → ℕ → Filling → Said Typedef

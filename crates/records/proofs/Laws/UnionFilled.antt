@@ -21,12 +21,12 @@ use Rattle.tables.proofs.Laws.Keyed.{keyed-there, keyed-key}
 use Rattle.tables.specs.declared.keyed.Keyed.the-variants as keyed
 use Rattle.records.specs.MemberWords.{memberWidth, memberWords}
 use Rattle.records.proofs.Laws.MemberWords.{words-wide}
-use Rattle.records.specs.Unions.{Placed, rowMembers, unionAt, membersWords, unionInto, processUnionTag}
+use Rattle.records.specs.Unions.{RowMember, rowMembers, unionAt, membersWords, unionInto, processUnionTag}
 use Rattle.records.proofs.Laws.Unions.{AsMany, union-counts}
 use Rattle.records.specs.declared.unions.Union.{Union}
 use Rattle.records.specs.UnionFilled.{UnionFilled}
 
-words-long : (ms : List Placed) → length (membersWords ms) ≡ length ms * memberWidth
+words-long : (ms : List RowMember) → length (membersWords ms) ≡ length ms * memberWidth
 unfolding membersWords
 words-long [] = refl
 words-long (m ∷ ms) =
@@ -46,7 +46,7 @@ module _ (settings : Settings) (vendors sizes s rows attrs : List ℕ) (counts :
   abbrev union : ℕ → Said Union
   union i = unionAt settings (lentRows (settings .endian) s rows attrs (counts .rows)) i
 
-  abbrev members : ℕ → Said (List Placed)
+  abbrev members : ℕ → Said (List RowMember)
   members i = rowMembers settings (lentRows (settings .endian) s rows attrs (counts .rows)) i
 
   abbrev into : ℕ → Outcome (Said Union) ℕ
@@ -55,13 +55,13 @@ module _ (settings : Settings) (vendors sizes s rows attrs : List ℕ) (counts :
   abbrev fitting : Union → Bool
   fitting v = leb (v .members) (length room / memberWidth)
 
-  abbrev filling : Union → List Placed → Outcome (Said Union) ℕ
+  abbrev filling : Union → List RowMember → Outcome (Said Union) ℕ
   filling v ms = fillsRoom (fitting v) v (v .members ∷ []) (membersWords ms) room
 
   -- a row's union was read whole, and its members fit
   record Fits (i : ℕ) (u : Union) (room′ : List ℕ) : Type 0 where
     read : union i ≡ gives u
-    list : List Placed
+    list : List RowMember
     are : members i ≡ gives list
     room-enough : u .members ≤ length room / memberWidth
     after : room′ ≡ sets room 0 (membersWords list)
@@ -73,7 +73,7 @@ module _ (settings : Settings) (vendors sizes s rows attrs : List ℕ) (counts :
       room-given room (union i) (λ v. inRoom room (members i) (filling v)) g
       in
       let v : Union = whole .0 in
-      let all : (ms : List Placed) × (members i ≡ gives ms) × Given (filling v ms) (gives u) room′ = room-given room (members i) (filling v) (whole .2) in
+      let all : (ms : List RowMember) × (members i ≡ gives ms) × Given (filling v ms) (gives u) room′ = room-given room (members i) (filling v) (whole .2) in
       let full : (fitting v ≡ true) × (u ≡ v) × (room′ ≡ sets room 0 (membersWords (all .0))) =
       fill-given (fitting v) v (v .members ∷ []) (membersWords (all .0)) room (all .2)
       in

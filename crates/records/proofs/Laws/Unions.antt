@@ -27,11 +27,11 @@ use Rattle.tables.specs.declared.row.Row.{Row}
 use Rattle.links.specs.Walk.{ends}
 use Rattle.links.specs.Links.{siblingRow, nextRow, childWalk}
 use Rattle.links.specs.Inside.Links.{AtRow}
-use Rattle.links.specs.Inside.Kids.{rowsMet, kidsFrom, kidsOf, Ends, firstOr}
-use Rattle.links.proofs.Laws.Kids.{few-kids, kids-more, ends-more, kids-none, kids-same, ends-same, first-same, kids-at, ends-at, counted-ends, counted-walk, walk-kids, endless-walk}
+use Rattle.links.specs.Inside.EachChild.{rowsMet, childrenFrom, childrenAt, Ends, firstOr}
+use Rattle.links.proofs.Laws.EachChild.{few-children, children-more, ends-more, children-none, children-same, ends-same, first-same, children-at, ends-at, counted-ends, counted-walk, walk-children, endless-walk}
 use Rattle.links.specs.Inside.Children.{gatheredInto, Asked}
-use Rattle.links.specs.declared.children.Kids.{Kids}
-use Rattle.links.specs.declared.children.Kids.the-variants as kids
+use Rattle.links.specs.declared.children.Gathered.{Gathered}
+use Rattle.links.specs.declared.children.Gathered.the-variants as gathered
 use Rattle.records.proofs.Laws.Taken.{test-passed, test-failed}
 use Rattle.records.specs.Scan.{runOf}
 use Rattle.records.specs.Inside.Scan.{saidFault}
@@ -40,7 +40,7 @@ use Rattle.records.specs.Front.{headOf}
 use Rattle.records.specs.Member.{saidMemberRead, memberAt}
 use Rattle.records.specs.MemberWords.{memberWidth, memberWords}
 use Rattle.records.proofs.Laws.MemberWords.{words-wide}
-use Rattle.records.specs.Unions.{saidUnionRead, ignored, Placed, memberThen, childThen, membersFrom, membersBy, rowMembers, unionSized, unionAt, membersWords, unionInto}
+use Rattle.records.specs.Unions.{saidUnionRead, ignored, RowMember, memberThen, childThen, membersFrom, membersBy, rowMembers, unionSized, unionAt, membersWords, unionInto}
 use Rattle.records.specs.Inside.Unions.{saidUnionWhole, TakeAsked, EndsAt, countOf, membersStored, storedOn, TakesMember, MembersStored, UnionStored}
 use Rattle.records.specs.Inside.Counted.{saidCounted}
 use Rattle.records.specs.declared.taken.Record.the-variants as record′
@@ -63,17 +63,17 @@ use Rattle.records.specs.declared.unions.UnionRead.the-variants.{Is, Roo
 abbrev storage : Said ℕ → List ℕ → Outcome (Said ℕ) ℕ
 storage answer room = outcome answer room
 
-count-of : (room : List ℕ) (all : Said (List Placed)) → membersStored 0 room all .answer ≡ countOf all
+count-of : (room : List ℕ) (all : Said (List RowMember)) → membersStored 0 room all .answer ≡ countOf all
 unfolding membersStored countOf inRoom _>>=_
 count-of room (gives ms) = ap gives (zero-add (length ms))
 count-of room (refuses number place counts) = refl
 
 -- a member that was read, and those after it
-abbrev withMember : ℕ → Said (List Placed) → Member → Said (List Placed)
+abbrev withMember : ℕ → Said (List RowMember) → Member → Said (List RowMember)
 withMember c rest m = rest >>= λ ms. gives (record { row = c; member = m } ∷ ms)
 
 -- its record, and theirs
-stored-more : (k : ℕ) (room : List ℕ) (c : ℕ) (m : Member) {room′ : List ℕ} → room′ ≡ sets room (k * memberWidth) (memberWords c m) → (rest : Said (List Placed))
+stored-more : (k : ℕ) (room : List ℕ) (c : ℕ) (m : Member) {room′ : List ℕ} → room′ ≡ sets room (k * memberWidth) (memberWords c m) → (rest : Said (List RowMember))
     → membersStored k room (withMember c rest m) ≡ membersStored (k + 1) room′ rest
 unfolding membersStored membersWords inRoom _>>=_
 stored-more k room c m {room′} p (gives ms) =
@@ -94,7 +94,7 @@ refused-most more p = absurd (given-refused (sym p))
 
 module _ (settings : Settings) (s rows attrs : List ℕ) (n key c k : ℕ) (room : List ℕ) {row : Row} (at : row ≡ rowAt rows c) where
   module _ (h : row .kind ≡ tag.Member) {told : MemberRead} (is : saidMemberRead told ≡ memberAt settings (lentRows (settings .endian) s rows attrs n) c) where
-    child-read : {x : MemberRead} → told ≡ x → (rest : Said (List Placed))
+    child-read : {x : MemberRead} → told ≡ x → (rest : Said (List RowMember))
         → childThen settings (lentRows (settings .endian) s rows attrs n) key c rest ≡ (saidMemberRead x >>= withMember c rest)
     unfolding childThen memberThen
     child-read p rest =
@@ -119,7 +119,7 @@ module _ (settings : Settings) (s rows attrs : List ℕ) (n key c k : ℕ) (room
     ignored-is : b ≡ ignored (rowAt rows c .kind)
     ignored-is = is ∙ ap (λ (r : Row). ignored (r .kind)) at
 
-    child-other : (rest : Said (List Placed))
+    child-other : (rest : Said (List RowMember))
         → childThen settings (lentRows (settings .endian) s rows attrs n) key c rest ≡ cond (ignored (rowAt rows c .kind)) rest (refuse reason.Child key)
     unfolding childThen
     child-other rest =
@@ -147,40 +147,40 @@ module _ (settings : Settings) (s rows attrs : List ℕ) (n key c k : ℕ) (room
 
 -- ---- the loop: what is left comes to the whole
 
-pub record Taking (settings : Settings) (s rows attrs : List ℕ) (n key end : ℕ) (all : Said (List Placed)) (room₀ room : List ℕ) (c k : ℕ) : Type 0 where
+pub record Taking (settings : Settings) (s rows attrs : List ℕ) (n key end : ℕ) (all : Said (List RowMember)) (room₀ room : List ℕ) (c k : ℕ) : Type 0 where
   pub on : Ends (settings .endian) s rows attrs n end c
-  pub first : c ≡ firstOr n (kidsFrom (settings .endian) s rows attrs n end c)
-  pub counted : k + length (kidsFrom (settings .endian) s rows attrs n end c) ≤ n
+  pub first : c ≡ firstOr n (childrenFrom (settings .endian) s rows attrs n end c)
+  pub counted : k + length (childrenFrom (settings .endian) s rows attrs n end c) ≤ n
   pub same-room : length room ≡ length room₀
-  pub left : membersStored k room (membersFrom settings (lentRows (settings .endian) s rows attrs n) key (kidsFrom (settings .endian) s rows attrs n end c)) ≡ membersStored 0 room₀ all
+  pub left : membersStored k room (membersFrom settings (lentRows (settings .endian) s rows attrs n) key (childrenFrom (settings .endian) s rows attrs n end c)) ≡ membersStored 0 room₀ all
 
 module _ (settings : Settings) (s rows attrs : List ℕ) (n : ℕ) where
   pub taking-begins : (i : ℕ) (room : List ℕ) {row : Row} {end from c : ℕ} → row ≡ rowAt rows i → end ≡ siblingRow (lentRows (settings .endian) s rows attrs n) i
-      → from ≡ nextRow rows n i → EndsAt (settings .endian) s rows attrs n i → c ≡ firstOr n (kidsFrom (settings .endian) s rows attrs n end from)
-      → Taking settings s rows attrs n (row .key) end (membersFrom settings (lentRows (settings .endian) s rows attrs n) (rowAt rows i .key) (kidsOf (settings .endian) s rows attrs n i)) room room c 0
+      → from ≡ nextRow rows n i → EndsAt (settings .endian) s rows attrs n i → c ≡ firstOr n (childrenFrom (settings .endian) s rows attrs n end from)
+      → Taking settings s rows attrs n (row .key) end (membersFrom settings (lentRows (settings .endian) s rows attrs n) (rowAt rows i .key) (childrenAt (settings .endian) s rows attrs n i)) room room c 0
   taking-begins i room {row} {end} {from} {c} at p q w is =
       let begun : Ends (settings .endian) s rows attrs n end from = ends-at (settings .endian) s rows attrs n i p q (w .ending) in
-      let few : length (kidsFrom (settings .endian) s rows attrs n end c) ≤ n = few-kids (settings .endian) s rows attrs n end c in
+      let few : length (childrenFrom (settings .endian) s rows attrs n end c) ≤ n = few-children (settings .endian) s rows attrs n end c in
       record {
         on = ends-same (settings .endian) s rows attrs n end begun is;
         first = first-same (settings .endian) s rows attrs n end begun is;
         counted = omega arith;
         same-room = refl;
         left =
-            ap (λ (r : Row). membersStored 0 room (membersFrom settings (lentRows (settings .endian) s rows attrs n) (r .key) (kidsFrom (settings .endian) s rows attrs n end c))) at
+            ap (λ (r : Row). membersStored 0 room (membersFrom settings (lentRows (settings .endian) s rows attrs n) (r .key) (childrenFrom (settings .endian) s rows attrs n end c))) at
             ∙ ap (λ (cs : List ℕ). membersStored 0 room (membersFrom settings (lentRows (settings .endian) s rows attrs n) (rowAt rows i .key) cs))
-            (kids-same (settings .endian) s rows attrs n end begun is ∙ kids-at (settings .endian) s rows attrs n i p q);
+            (children-same (settings .endian) s rows attrs n end begun is ∙ children-at (settings .endian) s rows attrs n i p q);
       }
 
-module _ {settings : Settings} {s rows attrs : List ℕ} {n key end : ℕ} {all : Said (List Placed)} {room₀ room : List ℕ} {c k : ℕ}
+module _ {settings : Settings} {s rows attrs : List ℕ} {n key end : ℕ} {all : Said (List RowMember)} {room₀ room : List ℕ} {c k : ℕ}
     (w : Taking settings s rows attrs n key end all room₀ room c k) where
-  abbrev kidsAt : ℕ → List ℕ
-  kidsAt x = kidsFrom (settings .endian) s rows attrs n end x
+  abbrev childrenNow : ℕ → List ℕ
+  childrenNow x = childrenFrom (settings .endian) s rows attrs n end x
 
   abbrev after : ℕ → ℕ
   after x = siblingRow (lentRows (settings .endian) s rows attrs n) x
 
-  abbrev found : List ℕ → Said (List Placed)
+  abbrev found : List ℕ → Said (List RowMember)
   found cs = membersFrom settings (lentRows (settings .endian) s rows attrs n) key cs
 
   -- no child is left
@@ -188,7 +188,7 @@ module _ {settings : Settings} {s rows attrs : List ℕ} {n key end : ℕ} {all 
   unfolding saidCounted membersFrom membersStored membersWords inRoom
   taking-ends l =
       let done : membersStored k room (gives []) ≡ membersStored 0 room₀ all =
-      sym (ap (λ (cs : List ℕ). membersStored k room (found cs)) (kids-none (settings .endian) s rows attrs n end (w .on) (w .first) l)) ∙ w .left
+      sym (ap (λ (cs : List ℕ). membersStored k room (found cs)) (children-none (settings .endian) s rows attrs n end (w .on) (w .first) l)) ∙ w .left
       in
       record {
         answer-is = ap gives (sym (add-zero k)) ∙ ap (λ (o : Outcome (Said ℕ) ℕ). o .answer) done ∙ count-of room₀ all;
@@ -196,13 +196,13 @@ module _ {settings : Settings} {s rows attrs : List ℕ} {n key end : ℕ} {all 
       }
 
   module _ (l : c < n) where
-    here : kidsAt c ≡ c ∷ kidsAt (after c)
-    here = kids-more (settings .endian) s rows attrs n end (w .on) (w .first) l
+    here : childrenNow c ≡ c ∷ childrenNow (after c)
+    here = children-more (settings .endian) s rows attrs n end (w .on) (w .first) l
 
     pub taking-asked : TakeAsked rows n c k
     taking-asked =
-        let some : length (kidsAt c) ≡ suc (length (kidsAt (after c))) = ap length here in
-        let most : k + length (kidsAt c) ≤ n = w .counted in
+        let some : length (childrenNow c) ≡ suc (length (childrenNow (after c))) = ap length here in
+        let most : k + length (childrenNow c) ≤ n = w .counted in
         let few : n ≤ entryLimit = w .on .table .few in
         record { asked = record { table = w .on .table; there = l }; count-small = omega arith }
 
@@ -212,24 +212,24 @@ module _ {settings : Settings} {s rows attrs : List ℕ} {n key end : ℕ} {all 
     pub taking-ending : {d : ℕ} → d ≡ after c → Ends (settings .endian) s rows attrs n end d
     taking-ending p = subst (Ends (settings .endian) s rows attrs n end) (sym p) (ends-more (settings .endian) s rows attrs n end (w .on) (w .first) l)
 
-    module _ {d c′ : ℕ} (p : d ≡ after c) (is : c′ ≡ firstOr n (kidsAt d)) where
-      rest-is : kidsAt c ≡ c ∷ kidsAt c′
+    module _ {d c′ : ℕ} (p : d ≡ after c) (is : c′ ≡ firstOr n (childrenNow d)) where
+      rest-is : childrenNow c ≡ c ∷ childrenNow c′
       rest-is =
-          here ∙ ap (λ (x : ℕ). c ∷ kidsAt x) (sym p)
-          ∙ ap (λ (cs : List ℕ). c ∷ cs) (sym (kids-same (settings .endian) s rows attrs n end (taking-ending p) is))
+          here ∙ ap (λ (x : ℕ). c ∷ childrenNow x) (sym p)
+          ∙ ap (λ (cs : List ℕ). c ∷ cs) (sym (children-same (settings .endian) s rows attrs n end (taking-ending p) is))
 
       -- fewer children are left
-      pub taking-less : length (kidsAt c′) < length (kidsAt c)
+      pub taking-less : length (childrenNow c′) < length (childrenNow c)
       taking-less =
-          let some : length (kidsAt c) ≡ suc (length (kidsAt c′)) = ap length rest-is in
+          let some : length (childrenNow c) ≡ suc (length (childrenNow c′)) = ap length rest-is in
           omega arith
 
       pub taking-on : {told : Counted} {room′ : List ℕ} {more : ℕ} → TakesMember settings s rows attrs n key c k (saidCounted told) room room′ → told ≡ counted.Count more
           → Taking settings s rows attrs n key end all room₀ room′ c′ more
       unfolding saidCounted membersFrom storedOn inRoom
       taking-on {told} {room′} {more} t q =
-          let some : length (kidsAt c) ≡ suc (length (kidsAt c′)) = ap length rest-is in
-          let most : k + length (kidsAt c) ≤ n = w .counted in
+          let some : length (childrenNow c) ≡ suc (length (childrenNow c′)) = ap length rest-is in
+          let most : k + length (childrenNow c) ≤ n = w .counted in
           let one : more ≤ k + 1 = t .one-more more (ap saidCounted q) in
           record {
             on = ends-same (settings .endian) s rows attrs n end (taking-ending p) is;
@@ -237,8 +237,8 @@ module _ {settings : Settings} {s rows attrs : List ℕ} {n key end : ℕ} {all 
             counted = omega arith;
             same-room = t .same-room ∙ w .same-room;
             left =
-                sym (t .turn (found (kidsAt c′))
-                ∙ ap (λ (x : Counted). storedOn (saidCounted x) room′ (found (kidsAt c′))) q)
+                sym (t .turn (found (childrenNow c′))
+                ∙ ap (λ (x : Counted). storedOn (saidCounted x) room′ (found (childrenNow c′))) q)
                 ∙ ap (λ (cs : List ℕ). membersStored k room (found cs)) (sym rest-is)
                 ∙ w .left;
           }
@@ -248,7 +248,7 @@ module _ {settings : Settings} {s rows attrs : List ℕ} {n key end : ℕ} {all 
         → MembersStored all (saidCounted (counted.Refused why)) room₀ room′
     unfolding saidCounted membersFrom membersStored storedOn inRoom
     taking-refused {told} {room′} {why} t q =
-        let rest : Said (List Placed) = found (kidsAt (after c)) in
+        let rest : Said (List RowMember) = found (childrenNow (after c)) in
         let done : storage (refusal why) [] ≡ membersStored 0 room₀ all =
         sym (t .turn rest ∙ ap (λ (x : Counted). storedOn (saidCounted x) room′ rest) q)
         ∙ ap (λ (cs : List ℕ). membersStored k room (found cs)) (sym here) ∙ w .left
@@ -260,23 +260,23 @@ module _ {settings : Settings} {s rows attrs : List ℕ} {n key end : ℕ} {all 
 
 -- ---- all children of a row
 
-pub members-ending : (e : Endian) (s rows attrs : List ℕ) (n i : ℕ) {told : Kids} {k : ℕ} → told ≡ gatheredInto rows 0 [] (childWalk (lentRows e s rows attrs n) i) .answer
-    → Asked rows n i → told ≡ kids.Count k → EndsAt e s rows attrs n i
+pub members-ending : (e : Endian) (s rows attrs : List ℕ) (n i : ℕ) {told : Gathered} {k : ℕ} → told ≡ gatheredInto rows 0 [] (childWalk (lentRows e s rows attrs n) i) .answer
+    → Asked rows n i → told ≡ gathered.Count k → EndsAt e s rows attrs n i
 members-ending e s rows attrs n i is a p = record { asked = a; ending = counted-ends e s rows attrs n i is (a .table) p }
 
-module _ (settings : Settings) (s rows attrs : List ℕ) (n i : ℕ) {told : Kids} (is : told ≡ gatheredInto rows 0 [] (childWalk (lentRows (settings .endian) s rows attrs n) i) .answer) where
-  pub members-walked : {k : ℕ} {r : Said ℕ} {room room′ : List ℕ} → told ≡ kids.Count k
-      → MembersStored (membersFrom settings (lentRows (settings .endian) s rows attrs n) (rowAt rows i .key) (kidsOf (settings .endian) s rows attrs n i)) r room room′
+module _ (settings : Settings) (s rows attrs : List ℕ) (n i : ℕ) {told : Gathered} (is : told ≡ gatheredInto rows 0 [] (childWalk (lentRows (settings .endian) s rows attrs n) i) .answer) where
+  pub members-walked : {k : ℕ} {r : Said ℕ} {room room′ : List ℕ} → told ≡ gathered.Count k
+      → MembersStored (membersFrom settings (lentRows (settings .endian) s rows attrs n) (rowAt rows i .key) (childrenAt (settings .endian) s rows attrs n i)) r room room′
       → MembersStored (rowMembers settings (lentRows (settings .endian) s rows attrs n) i) r room room′
   unfolding rowMembers membersBy
   members-walked {r = r} {room = room} {room′ = room′} p g =
       let walk : childWalk (lentRows (settings .endian) s rows attrs n) i ≡ ends (rowsMet (childWalk (lentRows (settings .endian) s rows attrs n) i)) = counted-walk (settings .endian) s rows attrs n i is p in
-      subst (λ (all : Said (List Placed)). MembersStored all r room room′)
-      (ap (membersFrom settings (lentRows (settings .endian) s rows attrs n) (rowAt rows i .key)) (walk-kids (settings .endian) s rows attrs n i walk)
+      subst (λ (all : Said (List RowMember)). MembersStored all r room room′)
+      (ap (membersFrom settings (lentRows (settings .endian) s rows attrs n) (rowAt rows i .key)) (walk-children (settings .endian) s rows attrs n i walk)
       ∙ sym (ap (membersBy settings (lentRows (settings .endian) s rows attrs n) (rowAt rows i .key)) walk))
       g
 
-  pub members-endless : (room : List ℕ) {row : Row} {why : Refusal} → told ≡ kids.Endless → row ≡ rowAt rows i → why ≡ refusedAt (row .key) reason.Link
+  pub members-endless : (room : List ℕ) {row : Row} {why : Refusal} → told ≡ gathered.Endless → row ≡ rowAt rows i → why ≡ refusedAt (row .key) reason.Link
       → MembersStored (rowMembers settings (lentRows (settings .endian) s rows attrs n) i) (saidCounted (counted.Refused why)) room room
   unfolding saidCounted rowMembers membersBy countOf _>>=_
   members-endless room {why = why} p at q =
@@ -298,7 +298,7 @@ unfolding saidUnionWhole
 union-whole s attrs run many size p = ap (λ (x : Name). gives (union many size x)) p
 
 -- what follows with the members' number
-counted-on : {B : Type 0} (all : Said (List Placed)) (next : ℕ → Said B) → (countOf all >>= next) ≡ (all >>= λ ms. next (length ms))
+counted-on : {B : Type 0} (all : Said (List RowMember)) (next : ℕ → Said B) → (countOf all >>= next) ≡ (all >>= λ ms. next (length ms))
 unfolding countOf _>>=_
 counted-on (gives ms) next = refl
 counted-on (refuses number place counts) next = refl
@@ -335,8 +335,8 @@ module _ (settings : Settings) (s rows attrs : List ℕ) (n i : ℕ) {told : Fau
       record { answer-is = wrong; room-is = λ u e ms f. absurd (given-refused (sym (wrong ∙ e))) }
 
 -- the members that a union counts
-pub record AsMany (all : Said (List Placed)) (u : Union) : Type 0 where
-  pub list : List Placed
+pub record AsMany (all : Said (List RowMember)) (u : Union) : Type 0 where
+  pub list : List RowMember
   pub are : all ≡ gives list
   pub many : length list ≡ u .members
 
@@ -351,7 +351,7 @@ pub union-counts : (settings : Settings) (s rows attrs : List ℕ) (n i : ℕ) {
 unfolding unionAt
 union-counts settings s rows attrs n i {u} p =
     let run : Run = runOf (settings .endian) rows i in
-    let all : (ms : List Placed) × (rowMembers settings (lentRows (settings .endian) s rows attrs n) i ≡ gives ms) × (unionSized s attrs run (length ms) ≡ gives u) =
+    let all : (ms : List RowMember) × (rowMembers settings (lentRows (settings .endian) s rows attrs n) i ≡ gives ms) × (unionSized s attrs run (length ms) ≡ gives u) =
     step-gave (rowMembers settings (lentRows (settings .endian) s rows attrs n) i) (λ ms. unionSized s attrs run (length ms)) (past-gave (headOf settings s rows attrs record′.Union i) _ p)
     in
     record { list = all .0; are = all .1; many = sized-counts s attrs run (length (all .0)) (all .2) }
@@ -367,13 +367,13 @@ module _ (settings : Settings) (s rows attrs : List ℕ) (n i : ℕ) (room : Lis
   these : AsMany (rowMembers settings (lentRows (settings .endian) s rows attrs n) i) u
   these = union-counts settings s rows attrs n i read-is
 
-  abbrev filling : List Placed → Outcome (Said Union) ℕ
+  abbrev filling : List RowMember → Outcome (Said Union) ℕ
   filling ms = fillsRoom (leb (u .members) (length room / memberWidth)) u (u .members ∷ []) (membersWords ms) room
 
   -- the union and its members are there: they fit, or not
   give-in : {z : Said Union} {room′ : List ℕ} → Given (filling (these .list)) z room′ → Given (unionInto settings (lentRows (settings .endian) s rows attrs n) room i) z room′
   unfolding unionInto saidUnionWhole inRoom
-  give-in g = goes-in saidUnionWhole is p room _ (goes-in (λ (d : Said (List Placed)). d) refl (these .are) room filling g)
+  give-in g = goes-in saidUnionWhole is p room _ (goes-in (λ (d : Said (List RowMember)). d) refl (these .are) room filling g)
 
   pub give-filled : {z : Said Union} {room′ : List ℕ} → u .members ≤ length room / memberWidth
       → UnionStored (unionAt settings (lentRows (settings .endian) s rows attrs n) i) (rowMembers settings (lentRows (settings .endian) s rows attrs n) i) z room room′

@@ -12,7 +12,7 @@ use Rattle.tables.specs.declared.find.Found.{Found}
 use Rattle.tables.specs.declared.find.Found.the-variants as found
 use Rattle.records.specs.Inside.Scan.{scanFrom}
 use Rattle.records.specs.Fields.{lastFrom, nameBy, nameNeeded, typeBy}
-use Rattle.records.specs.Typedef.{Held, nothing, holds, Known, typeNeeded, specified}
+use Rattle.records.specs.Typedef.{Held, nothing, holds, SoFar, typeNeeded, specified}
 use Rattle.records.specs.declared.taken.Record.the-variants as record′
 use Rattle.records.specs.declared.scan.Run.{Run}
 use Rattle.records.specs.declared.fields.Sought.the-variants as sought
@@ -66,7 +66,7 @@ module _ (s attrs : List ℕ) (run : Run) where
   typedefType found.Nothing filling.Nothing = nothing
 
   -- what is known after j attributes: the last of a kind among them, or what the first specification fills
-  unfoldable pub knownAt : ℕ → Filling → Known
+  unfoldable pub knownAt : ℕ → Filling → SoFar
   knownAt j f =
       record {
         name = typedefName (nameBy s attrs (lastFrom (sought.Number attribute.Name) attrs (run .first) j)) f;
@@ -74,17 +74,17 @@ module _ (s attrs : List ℕ) (run : Run) where
       }
 
   -- and after all
-  abbrev pub knownOf : Filling → Known
+  abbrev pub knownOf : Filling → SoFar
   knownOf f = knownAt (run .count) f
 
 -- with its name
-unfoldable pub typedefWith : ℕ → Known → Text → Said Typedef
+unfoldable pub typedefWith : ℕ → SoFar → Text → Said Typedef
 typedefWith key known text = do
   of ← typeNeeded key (known .of)
   gives (record { name = text; of = of })
 
 -- name first, then type
-unfoldable pub typedefFields : ℕ → Known → Said Typedef
+unfoldable pub typedefFields : ℕ → SoFar → Said Typedef
 typedefFields key known = do
   text ← nameNeeded key (known .name)
   typedefWith key known text

@@ -10,10 +10,10 @@ use Rattle.numbers.specs.declared.Endian.{Endian}
 use Rattle.format.specs.Said.{Said, gives, _>>=_, inRoom, refusal}
 use Rattle.format.specs.declared.settings.Settings.{Settings}
 use Rattle.links.specs.Links.{siblingRow, nextRow}
-use Rattle.links.specs.Inside.Kids.{Ends}
+use Rattle.links.specs.Inside.EachChild.{Ends}
 use Rattle.links.specs.Inside.Children.{Asked}
 use Rattle.records.specs.MemberWords.{memberWidth}
-use Rattle.records.specs.Unions.{Placed, childThen, membersWords}
+use Rattle.records.specs.Unions.{RowMember, childThen, membersWords}
 use Rattle.records.specs.declared.unions.Union.{Union}
 use Rattle.records.specs.declared.unions.UnionWhole.{UnionWhole}
 use Rattle.records.specs.declared.unions.UnionWhole.the-variants as whole
@@ -34,31 +34,31 @@ pub record EndsAt (e : Endian) (s rows attrs : List ℕ) (n i : ℕ) : Type 0 wh
   pub ending : Ends e s rows attrs n (siblingRow (lentRows e s rows attrs n) i) (nextRow rows n i)
 
 -- how many there are
-unfoldable pub countOf : Said (List Placed) → Said ℕ
+unfoldable pub countOf : Said (List RowMember) → Said ℕ
 countOf all = do
   ms ← all
   gives (length ms)
 
 -- members after k others, `memberWidth` words each; of the room after a refusal nothing is said
-unfoldable pub membersStored : ℕ → List ℕ → Said (List Placed) → Outcome (Said ℕ) ℕ
+unfoldable pub membersStored : ℕ → List ℕ → Said (List RowMember) → Outcome (Said ℕ) ℕ
 membersStored k room all = inRoom [] all (λ ms. outcome (gives (k + length ms)) (sets room (k * memberWidth) (membersWords ms)))
 
 -- the same from what a child has left: a count to go on with, or a refusal, which ends it
-unfoldable pub storedOn : Said ℕ → List ℕ → Said (List Placed) → Outcome (Said ℕ) ℕ
+unfoldable pub storedOn : Said ℕ → List ℕ → Said (List RowMember) → Outcome (Said ℕ) ℕ
 storedOn counted room rest = inRoom [] counted (λ k. membersStored k room rest)
 
 -- one child, whatever comes after it
 pub record TakesMember (settings : Settings) (s rows attrs : List ℕ) (n key c k : ℕ) (r : Said ℕ) (room room′ : List ℕ) : Type 0 where
-  pub turn : (rest : Said (List Placed)) → membersStored k room (childThen settings (lentRows (settings .endian) s rows attrs n) key c rest) ≡ storedOn r room′ rest
+  pub turn : (rest : Said (List RowMember)) → membersStored k room (childThen settings (lentRows (settings .endian) s rows attrs n) key c rest) ≡ storedOn r room′ rest
   pub one-more : (more : ℕ) → r ≡ gives more → more ≤ k + 1
   pub same-room : length room′ ≡ length room
 
 -- all children
-pub record MembersStored (all : Said (List Placed)) (r : Said ℕ) (room room′ : List ℕ) : Type 0 where
+pub record MembersStored (all : Said (List RowMember)) (r : Said ℕ) (room room′ : List ℕ) : Type 0 where
   pub answer-is : r ≡ countOf all
-  pub room-is : (ms : List Placed) → all ≡ gives ms → room′ ≡ sets room 0 (membersWords ms)
+  pub room-is : (ms : List RowMember) → all ≡ gives ms → room′ ≡ sets room 0 (membersWords ms)
 
 -- the whole union
-pub record UnionStored (answer : Said Union) (all : Said (List Placed)) (r : Said Union) (room room′ : List ℕ) : Type 0 where
+pub record UnionStored (answer : Said Union) (all : Said (List RowMember)) (r : Said Union) (room room′ : List ℕ) : Type 0 where
   pub answer-is : r ≡ answer
-  pub room-is : (u : Union) → answer ≡ gives u → (ms : List Placed) → all ≡ gives ms → room′ ≡ sets room 0 (membersWords ms)
+  pub room-is : (u : Union) → answer ≡ gives u → (ms : List RowMember) → all ≡ gives ms → room′ ≡ sets room 0 (membersWords ms)

@@ -12,7 +12,7 @@ use Rattle.blocks.specs.declared.types.Type.{«Type»}
 use Rattle.tables.specs.Table.{lentRows}
 use Rattle.tables.specs.Row.{rowAt}
 use Rattle.records.specs.Member.{memberAt}
-use Rattle.records.specs.Unions.{Placed, memberThen}
+use Rattle.records.specs.Unions.{RowMember, memberThen}
 use Rattle.records.specs.declared.member.Member.{Member}
 use Rattle.sizes.specs.Size.{memberChildThen, memberRowsFrom, sizeOr, memberSize, withEnd, endsFrom}
 use Rattle.sizes.specs.Inside.Size.{Extent, withSize, grown, memberAdded, childEnd, endsOver}
@@ -32,15 +32,15 @@ module _ (f g : ℕ → Said ℕ) (same : (x : ℕ) → f x ≡ g x) where
   sized-then rows c largest offset (refuses number place counts) = refl
 
 module _ (settings : Settings) (s rows attrs : List ℕ) (n : ℕ) (typeSize : «Type» → Said ℕ) where
-  module _ (c largest : ℕ) (f : ℕ → Said ℕ) (rest : Said (List Placed)) (ms : List Placed)
-      (same : (xs : List Placed) → rest ≡ gives xs → (x : ℕ) → f x ≡ endsFrom rows typeSize x xs) where
+  module _ (c largest : ℕ) (f : ℕ → Said ℕ) (rest : Said (List RowMember)) (ms : List RowMember)
+      (same : (xs : List RowMember) → rest ≡ gives xs → (x : ℕ) → f x ≡ endsFrom rows typeSize x xs) where
     -- what a member adds, then what goes on from its end
     abbrev from : Said Member → Said ℕ
     from d =
         (d >>= λ (m : Member). withSize (m .offset) (sizeOr typeSize (m .of) (m .«byte_size»))) >>= (λ (x : Extent). grown rows c largest (x .offset) (x .size)) >>= f
 
     -- a member that was read, and those after it
-    read-then : (m : Member) (xs : List Placed) → rest ≡ gives xs → gives (record { row = c; member = m } ∷ xs) ≡ gives ms → from (gives m) ≡ endsFrom rows typeSize largest ms
+    read-then : (m : Member) (xs : List RowMember) → rest ≡ gives xs → gives (record { row = c; member = m } ∷ xs) ≡ gives ms → from (gives m) ≡ endsFrom rows typeSize largest ms
     unfolding endsFrom memberSize _>>=_
     read-then m xs q r =
         sized-then f (λ x. endsFrom rows typeSize x xs) (same xs q) rows c largest (m .offset) (sizeOr typeSize (m .of) (m .«byte_size»))
@@ -61,7 +61,7 @@ module _ (settings : Settings) (s rows attrs : List ℕ) (n : ℕ) (typeSize : �
     child-then true p = member-then p
     child-then false p = same ms p largest
 
-  pub ends-members : (largest : ℕ) (cs : List ℕ) {ms : List Placed} → memberRowsFrom settings (lentRows (settings .endian) s rows attrs n) cs ≡ gives ms
+  pub ends-members : (largest : ℕ) (cs : List ℕ) {ms : List RowMember} → memberRowsFrom settings (lentRows (settings .endian) s rows attrs n) cs ≡ gives ms
       → endsOver settings s rows attrs n typeSize largest cs ≡ endsFrom rows typeSize largest ms
   unfolding memberRowsFrom memberChildThen endsOver childEnd endsFrom
   ends-members largest [] p = ap (endsFrom rows typeSize largest) (given-is p)

@@ -34,9 +34,9 @@ use Rattle.records.specs.declared.fields.Word.{Word}
 use Rattle.records.specs.declared.fields.Word.the-variants as word
 use Rattle.records.specs.declared.member.Member.{Member}
 use Rattle.sizes.specs.Size.{saidSized, fundamentalSize, kindSize, typeSizeBy, sizeOr, shapeOf, isStructure}
-use Rattle.sizes.specs.Inside.Known.{knownAt}
+use Rattle.sizes.specs.Inside.Noted.{notedAt}
 use Rattle.sizes.specs.Inside.Prepare.{memberFault, structureFault}
-use Rattle.sizes.specs.Inside.Size.{Extent, withSize, memberAdded, knownFound, entrySizeFrom, typeSizeFrom}
+use Rattle.sizes.specs.Inside.Size.{Extent, withSize, memberAdded, notedFound, entrySizeFrom, typeSizeFrom}
 use Rattle.sizes.specs.Inside.Kept.{rowNamed, sizeNamed, firstOf, secondOf, sizeKept, addedBy, addedKept, faultSize, sizeFault, faultKept, SiblingsKept, FaultsKept, AllKept, MemberAsked, StructureAsked}
 use Rattle.sizes.specs.declared.prepare.Shape.{Shape}
 use Rattle.sizes.specs.declared.prepare.Shape.the-variants as shape
@@ -45,32 +45,32 @@ use Rattle.sizes.specs.declared.sized.Sized.the-variants.{Is, Refused}
 
 -- ---- a size, an offset with it
 
-module _ (known : List ℕ) {told : Sized} where
-  size-as : {x : Sized} {z : Said ℕ} → told ≡ x → z ≡ sizeKept known (saidSized x) → z ≡ sizeKept known (saidSized told)
-  size-as p h = by-case (λ (x : Sized). sizeKept known (saidSized x)) p h
+module _ (noted : List ℕ) {told : Sized} where
+  size-as : {x : Sized} {z : Said ℕ} → told ≡ x → z ≡ sizeKept noted (saidSized x) → z ≡ sizeKept noted (saidSized told)
+  size-as p h = by-case (λ (x : Sized). sizeKept noted (saidSized x)) p h
 
-  pub size-given : {size : ℕ} → told ≡ Is size → saidSized (Is size) ≡ sizeKept known (saidSized told)
+  pub size-given : {size : ℕ} → told ≡ Is size → saidSized (Is size) ≡ sizeKept noted (saidSized told)
   unfolding sizeKept saidSized
   size-given p = size-as p refl
 
   module _ {why : Refusal} (p : told ≡ Refused why) {number : ℕ} (is : number ≡ numberOf (why .reason)) where
-    pub size-known : number ≡ 10 → {z : Said ℕ} → z ≡ knownAt known (why .place) → z ≡ sizeKept known (saidSized told)
+    pub size-noted : number ≡ 10 → {z : Said ℕ} → z ≡ notedAt noted (why .place) → z ≡ sizeKept noted (saidSized told)
     unfolding sizeKept saidSized
-    size-known h q = size-as p (test-passed (ap (λ (k : ℕ). eqb k 10) is) _ (eq-eqb number 10 h) q)
+    size-noted h q = size-as p (test-passed (ap (λ (k : ℕ). eqb k 10) is) _ (eq-eqb number 10 h) q)
 
-    pub size-refused : (number ≡ 10 → ⊥) → saidSized (Refused why) ≡ sizeKept known (saidSized told)
+    pub size-refused : (number ≡ 10 → ⊥) → saidSized (Refused why) ≡ sizeKept noted (saidSized told)
     unfolding sizeKept saidSized
     size-refused h = size-as p (test-failed (ap (λ (k : ℕ). eqb k 10) is) _ (ne-eqb number 10 h) refl)
 
-pub kept-offset : (known kept : List ℕ) (c : ℕ) {told : Sized} → saidSized told ≡ knownAt kept (c * 3) → {offset : ℕ} {second size : Said ℕ} {z : Said Extent}
-    → told ≡ Is offset → second ≡ knownAt kept (c * 3 + 1) → size ≡ sizeKept known second → z ≡ withSize offset size → z ≡ addedKept known kept c
+pub kept-offset : (noted kept : List ℕ) (c : ℕ) {told : Sized} → saidSized told ≡ notedAt kept (c * 3) → {offset : ℕ} {second size : Said ℕ} {z : Said Extent}
+    → told ≡ Is offset → second ≡ notedAt kept (c * 3 + 1) → size ≡ sizeKept noted second → z ≡ withSize offset size → z ≡ addedKept noted kept c
 unfolding addedKept addedBy saidSized _>>=_
-kept-offset known kept c at {offset} p q h k = goes-on saidSized at p _ (k ∙ ap (withSize offset) (h ∙ ap (sizeKept known) q))
+kept-offset noted kept c at {offset} p q h k = goes-on saidSized at p _ (k ∙ ap (withSize offset) (h ∙ ap (sizeKept noted) q))
 
 -- ---- siblings
 
 module _ {e : Endian} {s rows attrs : List ℕ} {n : ℕ} {kept : List ℕ} (w : SiblingsKept e s rows attrs n kept) (c : ℕ) (l : c < n) (h : 0 < length kept)
-    {told : Sized} (at : saidSized told ≡ knownAt kept (c * 3 + 2)) where
+    {told : Sized} (at : saidSized told ≡ notedAt kept (c * 3 + 2)) where
   pub sibling-kept : {r : ℕ} → told ≡ Is r → r ≡ siblingRow (lentRows e s rows attrs n) c
   unfolding saidSized
   sibling-kept p = given-is (case-said saidSized at p ∙ w .sibling c l h)
@@ -81,35 +81,35 @@ module _ {e : Endian} {s rows attrs : List ℕ} {n : ℕ} {kept : List ℕ} (w :
 
 -- ---- members
 
-module _ (sizes rows : List ℕ) (n : ℕ) (known : List ℕ) where
-  abbrev entryKnown : ℕ → Said ℕ
-  entryKnown key = knownFound known key (rowOfKey rows n key)
+module _ (sizes rows : List ℕ) (n : ℕ) (noted : List ℕ) where
+  abbrev entryNoted : ℕ → Said ℕ
+  entryNoted key = notedFound noted key (rowOfKey rows n key)
 
-  found-kept : (key : ℕ) (f : Found) → sizeKept known (foundRow key f >>= λ i. refuse reason.Depth i) ≡ knownFound known key f
-  unfolding sizeKept foundRow knownFound numberOf _>>=_
+  found-kept : (key : ℕ) (f : Found) → sizeKept noted (foundRow key f >>= λ i. refuse reason.Depth i) ≡ notedFound noted key f
+  unfolding sizeKept foundRow notedFound numberOf _>>=_
   found-kept key (found.At i) = refl
   found-kept key found.Nothing = refl
 
-  line-kept : (b : Bool) (size : ℕ) → sizeKept known (must b reason.Number 0 >> gives size) ≡ (must b reason.Number 0 >> gives size)
+  line-kept : (b : Bool) (size : ℕ) → sizeKept noted (must b reason.Number 0 >> gives size) ≡ (must b reason.Number 0 >> gives size)
   unfolding sizeKept numberOf must _>>_
   line-kept true size = refl
   line-kept false size = refl
 
-  fundamental-kept : (number : ℕ) → sizeKept known (fundamentalSize sizes number) ≡ fundamentalSize sizes number
+  fundamental-kept : (number : ℕ) → sizeKept noted (fundamentalSize sizes number) ≡ fundamentalSize sizes number
   unfolding fundamentalSize
   fundamental-kept number = line-kept (ltb (indexOf number fundTypes) (length sizes)) (getD sizes (indexOf number fundTypes) 0)
 
-  kind-kept : (k : TypeKind) → sizeKept known (kindSize sizes (rowNamed rows n) k) ≡ kindSize sizes entryKnown k
+  kind-kept : (k : TypeKind) → sizeKept noted (kindSize sizes (rowNamed rows n) k) ≡ kindSize sizes entryNoted k
   unfolding kindSize rowNamed
   kind-kept (kind.Fundamental number) = fundamental-kept number
   kind-kept (kind.UserDefined key) = found-kept key (rowOfKey rows n key)
 
-  pointer-kept : (b : Bool) (k : TypeKind) → sizeKept known (cond b (gives 4) (kindSize sizes (rowNamed rows n) k)) ≡ cond b (gives 4) (kindSize sizes entryKnown k)
+  pointer-kept : (b : Bool) (k : TypeKind) → sizeKept noted (cond b (gives 4) (kindSize sizes (rowNamed rows n) k)) ≡ cond b (gives 4) (kindSize sizes entryNoted k)
   unfolding sizeKept
   pointer-kept true k = refl
   pointer-kept false k = kind-kept k
 
-  or-kept : (t : «Type») (w : Word) → sizeKept known (sizeOr (typeSizeBy sizes (rowNamed rows n)) t w) ≡ sizeOr (typeSizeBy sizes entryKnown) t w
+  or-kept : (t : «Type») (w : Word) → sizeKept noted (sizeOr (typeSizeBy sizes (rowNamed rows n)) t w) ≡ sizeOr (typeSizeBy sizes entryNoted) t w
   unfolding sizeOr typeSizeBy sizeKept
   or-kept t (word.Is size) = refl
   or-kept t word.Nothing = pointer-kept (t .pointer) (t .kind)
@@ -118,33 +118,33 @@ module _ (sizes rows : List ℕ) (n : ℕ) (known : List ℕ) where
   abbrev addedOf : (ℕ → Said ℕ) → Member → Said Extent
   addedOf entry m = withSize (m .offset) (sizeOr (typeSizeBy sizes entry) (m .of) (m .«byte_size»))
 
-  read-kept : (d : Said Member) → addedBy known (firstOf d) (secondOf sizes rows n d) ≡ (d >>= addedOf entryKnown)
+  read-kept : (d : Said Member) → addedBy noted (firstOf d) (secondOf sizes rows n d) ≡ (d >>= addedOf entryNoted)
   unfolding addedBy firstOf secondOf sizeNamed _>>=_
   read-kept (gives m) = ap (withSize (m .offset)) (or-kept (m .of) (m .«byte_size»))
   read-kept (refuses number place counts) = refl
 
-module _ {settings : Settings} {sizes s rows attrs : List ℕ} {n : ℕ} {known kept : List ℕ} {c : ℕ} (w : MemberAsked settings sizes s rows attrs n known kept c)
+module _ {settings : Settings} {sizes s rows attrs : List ℕ} {n : ℕ} {noted kept : List ℕ} {c : ℕ} (w : MemberAsked settings sizes s rows attrs n noted kept c)
     (h : 0 < length kept) where
-  known-there : 0 < length known
-  known-there = w .all-kept .paired c (w .asked .asked .there) h
+  noted-there : 0 < length noted
+  noted-there = w .all-kept .paired c (w .asked .asked .there) h
 
-  entry-known : (levels : ℕ) → entryKnown sizes rows n known ≡ entrySizeFrom settings sizes s rows attrs n known levels
+  entry-noted : (levels : ℕ) → entryNoted sizes rows n noted ≡ entrySizeFrom settings sizes s rows attrs n noted levels
   unfolding entrySizeFrom
-  entry-known levels =
-      let some : 0 < length known = known-there in
-      let test : eqb (length known) 0 ≡ false = ne-eqb (length known) 0 (λ z. omega (arith, z)) in
+  entry-noted levels =
+      let some : 0 < length noted = noted-there in
+      let test : eqb (length noted) 0 ≡ false = ne-eqb (length noted) 0 (λ z. omega (arith, z)) in
       fun-ext (λ key. sym (rw test))
 
   -- the member that is kept is the member at row c
-  pub member-kept : (levels : ℕ) {z : Said Extent} → z ≡ addedKept known kept c
-      → z ≡ memberAdded settings s rows attrs n (typeSizeFrom settings sizes s rows attrs n known levels) c
+  pub member-kept : (levels : ℕ) {z : Said Extent} → z ≡ addedKept noted kept c
+      → z ≡ memberAdded settings s rows attrs n (typeSizeFrom settings sizes s rows attrs n noted levels) c
   unfolding addedKept memberAdded typeSizeFrom
   member-kept levels p =
       p
-      ∙ ap (λ (x : Said ℕ). addedBy known x (knownAt kept (c * 3 + 1))) (w .all-kept .parts .rows-kept .faults .first c (w .asked .asked .there) h (w .is-member))
-      ∙ ap (addedBy known (firstOf (memberAt settings (lentRows (settings .endian) s rows attrs n) c))) (w .all-kept .parts .second c (w .asked .asked .there) h (w .is-member))
-      ∙ read-kept sizes rows n known (memberAt settings (lentRows (settings .endian) s rows attrs n) c)
-      ∙ ap (λ (entry : ℕ → Said ℕ). memberAt settings (lentRows (settings .endian) s rows attrs n) c >>= addedOf sizes rows n known entry) (entry-known levels)
+      ∙ ap (λ (x : Said ℕ). addedBy noted x (notedAt kept (c * 3 + 1))) (w .all-kept .parts .rows-kept .faults .first c (w .asked .asked .there) h (w .is-member))
+      ∙ ap (addedBy noted (firstOf (memberAt settings (lentRows (settings .endian) s rows attrs n) c))) (w .all-kept .parts .second c (w .asked .asked .there) h (w .is-member))
+      ∙ read-kept sizes rows n noted (memberAt settings (lentRows (settings .endian) s rows attrs n) c)
+      ∙ ap (λ (entry : ℕ → Said ℕ). memberAt settings (lentRows (settings .endian) s rows attrs n) c >>= addedOf sizes rows n noted entry) (entry-noted levels)
 
 -- ---- faults
 
@@ -185,8 +185,8 @@ shape-structure rows i at is p = ap isStructure (ap (λ (r : Row). shapeOf (r .k
 
 -- ---- nothing is kept
 
-pub none-kept : (settings : Settings) (sizes s rows attrs : List ℕ) (n : ℕ) (known : List ℕ) → AllKept settings sizes s rows attrs n known []
-none-kept settings sizes s rows attrs n known =
+pub none-kept : (settings : Settings) (sizes s rows attrs : List ℕ) (n : ℕ) (noted : List ℕ) → AllKept settings sizes s rows attrs n noted []
+none-kept settings sizes s rows attrs n noted =
     record {
       parts = record {
         rows-kept = record {

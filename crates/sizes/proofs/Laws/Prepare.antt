@@ -27,18 +27,18 @@ use Rattle.tables.specs.declared.find.Found.{Found}
 use Rattle.tables.specs.declared.find.Found.the-variants as found
 use Rattle.links.specs.Walk.{Walk, ends, endless}
 use Rattle.links.specs.Links.{childWalk, nonNull}
-use Rattle.links.specs.Inside.Kids.{kidsOf}
-use Rattle.links.proofs.Laws.Kids.{walk-kids, counted-walk, endless-walk}
+use Rattle.links.specs.Inside.EachChild.{childrenAt}
+use Rattle.links.proofs.Laws.EachChild.{walk-children, counted-walk, endless-walk}
 use Rattle.links.specs.Inside.Children.{gatheredInto}
-use Rattle.links.specs.declared.children.Kids.{Kids}
-use Rattle.links.specs.declared.children.Kids.the-variants as kids
+use Rattle.links.specs.declared.children.Gathered.{Gathered}
+use Rattle.links.specs.declared.children.Gathered.the-variants as gathered
 use Rattle.records.proofs.Laws.Taken.{by-case, test-passed, test-failed}
 use Rattle.records.proofs.Laws.Fields.{by-told}
 use Rattle.records.specs.Scan.{attributeAt, runOf, faultsFrom}
 use Rattle.records.specs.Inside.Scan.{saidFault}
 use Rattle.records.specs.Fields.{isSought, lastFrom, lastOf, wordOf}
 use Rattle.records.specs.Member.{saidMemberRead, memberAt}
-use Rattle.records.specs.Unions.{Placed, memberThen, unionAt}
+use Rattle.records.specs.Unions.{RowMember, memberThen, unionAt}
 use Rattle.records.specs.Enumeration.{enumerationAt}
 use Rattle.records.specs.PtrToMember.{ptrAt}
 use Rattle.records.specs.declared.scan.Run.{Run}
@@ -222,15 +222,15 @@ module _ (settings : Settings) (s rows attrs : List ℕ) (n : ℕ) where
     unfolding membersFault saidFault _>>_
     members-refused p cs = goes-past saidFault is p (membersFault settings s rows attrs n cs) refl
 
-  module _ (i : ℕ) {told : Kids} (is : told ≡ gatheredInto rows 0 [] (childWalk (lentRows (settings .endian) s rows attrs n) i) .answer) where
-    pub structure-walked : {k : ℕ} {z : Said Unit} → told ≡ kids.Count k → z ≡ membersFault settings s rows attrs n (kidsOf (settings .endian) s rows attrs n i)
+  module _ (i : ℕ) {told : Gathered} (is : told ≡ gatheredInto rows 0 [] (childWalk (lentRows (settings .endian) s rows attrs n) i) .answer) where
+    pub structure-walked : {k : ℕ} {z : Said Unit} → told ≡ gathered.Count k → z ≡ membersFault settings s rows attrs n (childrenAt (settings .endian) s rows attrs n i)
         → z ≡ structureFault settings s rows attrs n i
     unfolding structureFault walkFault
     structure-walked p h =
         by-case (walkFault settings s rows attrs n i) (counted-walk (settings .endian) s rows attrs n i is p)
-        (h ∙ ap (membersFault settings s rows attrs n) (walk-kids (settings .endian) s rows attrs n i (counted-walk (settings .endian) s rows attrs n i is p)))
+        (h ∙ ap (membersFault settings s rows attrs n) (walk-children (settings .endian) s rows attrs n i (counted-walk (settings .endian) s rows attrs n i is p)))
 
-    pub structure-endless : {row : Row} {why : Refusal} → told ≡ kids.Endless → row ≡ rowAt rows i → why ≡ refusedAt (row .key) reason.Link
+    pub structure-endless : {row : Row} {why : Refusal} → told ≡ gathered.Endless → row ≡ rowAt rows i → why ≡ refusedAt (row .key) reason.Link
         → refusal why ≡ structureFault settings s rows attrs n i
     unfolding structureFault walkFault
     structure-endless p at q =
@@ -280,32 +280,32 @@ abbrev faultIn : {A : Type 0} → Said A → Said Unit
 faultIn d = d >> gives tt
 
 -- all members were read
-pub record AllRead (all : Said (List Placed)) : Type 0 where
-  pub list : List Placed
+pub record AllRead (all : Said (List RowMember)) : Type 0 where
+  pub list : List RowMember
   pub are : all ≡ gives list
 
 -- a member that was read, and those after it
-abbrev withMember : ℕ → Said (List Placed) → Member → Said (List Placed)
+abbrev withMember : ℕ → Said (List RowMember) → Member → Said (List RowMember)
 withMember c rest m = rest >>= λ ms. gives (record { row = c; member = m } ∷ ms)
 
-read-fault : (c : ℕ) (m : Said Member) (rest : Said (List Placed)) → (faultIn m >> faultIn rest) ≡ faultIn (m >>= withMember c rest)
+read-fault : (c : ℕ) (m : Said Member) (rest : Said (List RowMember)) → (faultIn m >> faultIn rest) ≡ faultIn (m >>= withMember c rest)
 unfolding _>>=_ _>>_
 read-fault c (gives m) (gives ms) = refl
 read-fault c (gives m) (refuses number place counts) = refl
 read-fault c (refuses number place counts) rest = refl
 
-child-fault : (b : Bool) (c : ℕ) (m : Said Member) (rest : Said (List Placed))
+child-fault : (b : Bool) (c : ℕ) (m : Said Member) (rest : Said (List RowMember))
     → (cond b (faultIn m) (gives tt) >> faultIn rest) ≡ faultIn (cond b (m >>= withMember c rest) rest)
 unfolding _>>_
 child-fault true c m rest = read-fault c m rest
 child-fault false c m rest = refl
 
-clear-read : (all : Said (List Placed)) → faultIn all ≡ gives tt → AllRead all
+clear-read : (all : Said (List RowMember)) → faultIn all ≡ gives tt → AllRead all
 unfolding _>>_
 clear-read (gives ms) p = record { list = ms; are = refl }
 clear-read (refuses number place counts) p = absurd (given-refused (sym p))
 
-fault-refused : (all : Said (List Placed)) {number place : ℕ} {counts : List ℕ} → faultIn all ≡ refuses number place counts
+fault-refused : (all : Said (List RowMember)) {number place : ℕ} {counts : List ℕ} → faultIn all ≡ refuses number place counts
     → all ≡ refuses number place counts
 unfolding _>>_
 fault-refused (gives ms) p = absurd (given-refused p)
@@ -364,11 +364,11 @@ module _ (settings : Settings) (s rows attrs : List ℕ) (n : ℕ) (typeSize : �
       let last : Found = lastOf (sought.Number attribute.SubscrData) attrs run in
       past-bind faults (lastPrepared s attrs run last) finish ∙ ap (λ (d : Said ℕ). faults >> d) (last-finished last)
 
-  members-finished : (all : Said (List Placed)) (w : Word) → membersOf settings (lentRows (settings .endian) s rows attrs n) i ≡ all
+  members-finished : (all : Said (List RowMember)) (w : Word) → membersOf settings (lentRows (settings .endian) s rows attrs n) i ≡ all
       → ((faultIn all >> gives (sizePrepared settings s rows attrs n w)) >>= finish) ≡ (all >>= λ ms. sizeOrEnds rows typeSize ms w)
   unfolding finished sizePrepared sizeOrEnds _>>=_ _>>_
   members-finished (gives ms) (word.Is x) p = refl
-  members-finished (gives ms) word.Nothing p = ap (λ (d : Said (List Placed)). d >>= endsFrom rows typeSize 0) p
+  members-finished (gives ms) word.Nothing p = ap (λ (d : Said (List RowMember)). d >>= endsFrom rows typeSize 0) p
   members-finished (refuses number place counts) w p = refl
 
   structure-finished : (preparedStructure settings s rows attrs n i >>= finish)

@@ -36,14 +36,14 @@ use Rattle.tables.specs.declared.tests.Tested.the-variants as tests
 use Rattle.tables.specs.declared.find.Found.{Found}
 use Rattle.tables.specs.declared.find.Found.the-variants as found
 use Rattle.links.specs.Links.{childWalk, nonNull}
-use Rattle.links.specs.Inside.Kids.{rowsMet, isEnding, walkOn, kidsFrom, kidsOf}
+use Rattle.links.specs.Inside.EachChild.{rowsMet, isEnding, walkOn, childrenFrom, childrenAt}
 use Rattle.links.specs.Walk.{Walk, ends, endless}
 use Rattle.records.proofs.Laws.Taken.{by-case, test-passed, test-failed}
 use Rattle.records.specs.Scan.{runOf, faultsFrom}
 use Rattle.records.specs.Member.{saidMemberRead, memberAt}
 use Rattle.records.specs.Inside.Enumeration.{AskedShort}
 use Rattle.records.specs.Fields.{lastOf}
-use Rattle.records.specs.Unions.{Placed, unionAt}
+use Rattle.records.specs.Unions.{RowMember, unionAt}
 use Rattle.records.specs.Enumeration.{enumerationAt}
 use Rattle.records.specs.PtrToMember.{ptrAt}
 use Rattle.records.specs.declared.scan.Run.{Run}
@@ -57,8 +57,8 @@ use Rattle.sizes.specs.Inside.Prepare.{Ready, sized, elementOf, endsWant
 use Rattle.sizes.proofs.Laws.Prepare.{AllRead, fault-members, prepared-size}
 use Rattle.sizes.proofs.Laws.Ends.{ends-members}
 use Rattle.sizes.specs.Size.{saidSized, sizeLimit, shapeOf, neededAt, subscriptsAt, subscriptFault, memberRowsFrom, memberRowsBy, membersOf, sizeOr, typeSizeBy, kindSize, fundamentalSize, productOf, subscriptBlock, larger, withEnd, endsFrom, rowSize, entrySize, typeSize}
-use Rattle.sizes.specs.Inside.Known.{knownAt}
-use Rattle.sizes.specs.Inside.Size.{TableReady, EndsShort, Extent, saidAdded, withSize, grown, memberAdded, childEnd, endsOver, arrayProduct, knownFound, entrySizeFrom, typeSizeFrom}
+use Rattle.sizes.specs.Inside.Noted.{notedAt}
+use Rattle.sizes.specs.Inside.Size.{TableReady, EndsShort, Extent, saidAdded, withSize, grown, memberAdded, childEnd, endsOver, arrayProduct, notedFound, entrySizeFrom, typeSizeFrom}
 use Rattle.sizes.specs.declared.prepare.Shape.{Shape}
 use Rattle.sizes.specs.declared.prepare.Shape.the-variants as shape
 use Rattle.sizes.specs.declared.prepare.Prepared.{Prepared}
@@ -197,8 +197,8 @@ module _ (settings : Settings) (s rows attrs : List ℕ) (n i : ℕ) where
       unfolding structureFault
       row-ending = walk-ending (childWalk (lentRows (settings .endian) s rows attrs n) i) row-clear
 
-      row-members : memberRowsFrom settings (lentRows (settings .endian) s rows attrs n) (kidsOf (settings .endian) s rows attrs n i) ≡ membersOf settings (lentRows (settings .endian) s rows attrs n) i
-      unfolding kidsOf kidsFrom walkOn childWalk membersOf
+      row-members : memberRowsFrom settings (lentRows (settings .endian) s rows attrs n) (childrenAt (settings .endian) s rows attrs n i) ≡ membersOf settings (lentRows (settings .endian) s rows attrs n) i
+      unfolding childrenAt childrenFrom walkOn childWalk membersOf
       row-members = walk-members (rowAt rows i .key) (childWalk (lentRows (settings .endian) s rows attrs n) i) row-ending
 
       pub ends-asked : AskedShort s rows n i → EndsShort settings s rows attrs n i
@@ -216,14 +216,14 @@ module _ (settings : Settings) (s rows attrs : List ℕ) (n i : ℕ) where
       unfolding finished saidPrepared arrayProduct runOf endsOf _>>=_
       row-element {t} {k} q p u v = row-is q (goes-on saidSized p u (arrayProduct settings s rows attrs i k) v)
 
-      pub row-ends : {z : Said ℕ} → told ≡ prepared.Ends → z ≡ endsOver settings s rows attrs n sizeOf 0 (kidsOf (settings .endian) s rows attrs n i)
+      pub row-ends : {z : Said ℕ} → told ≡ prepared.Ends → z ≡ endsOver settings s rows attrs n sizeOf 0 (childrenAt (settings .endian) s rows attrs n i)
           → z ≡ rowSize settings (lentRows (settings .endian) s rows attrs n) sizeOf i
       unfolding finished saidPrepared _>>=_
       row-ends q v =
           let all : AllRead (membersOf settings (lentRows (settings .endian) s rows attrs n) i) = fault-members settings s rows attrs n i (row-clear q) in
           row-is q
-          (v ∙ ends-members settings s rows attrs n sizeOf 0 (kidsOf (settings .endian) s rows attrs n i) (row-members q ∙ all .are)
-          ∙ ap (λ (d : Said (List Placed)). d >>= endsFrom rows sizeOf 0) (sym (all .are)))
+          (v ∙ ends-members settings s rows attrs n sizeOf 0 (childrenAt (settings .endian) s rows attrs n i) (row-members q ∙ all .are)
+          ∙ ap (λ (d : Said (List RowMember)). d >>= endsFrom rows sizeOf 0) (sym (all .are)))
 
 -- ---- an entry with its levels
 
@@ -245,7 +245,7 @@ module _ (settings : Settings) (sizes s rows attrs : List ℕ) (n : ℕ) where
   entry-none zero key p = entry-zero key p
   entry-none (suc levels) key p = entry-more levels key p
 
-  -- no sizes are known
+  -- no sizes are noted
   pub entry-plain : (levels key : ℕ) → entrySizeFrom settings sizes s rows attrs n [] levels key ≡ entrySize settings sizes (lentRows (settings .endian) s rows attrs n) levels key
   unfolding entrySizeFrom
   entry-plain levels key = refl
@@ -254,50 +254,50 @@ module _ (settings : Settings) (sizes s rows attrs : List ℕ) (n : ℕ) where
   unfolding typeSizeFrom typeSize entrySizeFrom
   type-plain levels t = refl
 
-  -- the same of any table of known sizes that is empty, for an entry that asks for types
-  plain-entry : (known : List ℕ) (levels i : ℕ) → eqb (length known) 0 ≡ true
-      → rowSize settings (lentRows (settings .endian) s rows attrs n) (typeSizeFrom settings sizes s rows attrs n known levels) i
+  -- the same of any table of noted sizes that is empty, for an entry that asks for types
+  plain-entry : (noted : List ℕ) (levels i : ℕ) → eqb (length noted) 0 ≡ true
+      → rowSize settings (lentRows (settings .endian) s rows attrs n) (typeSizeFrom settings sizes s rows attrs n noted levels) i
       ≡ rowSize settings (lentRows (settings .endian) s rows attrs n) (typeSize settings sizes (lentRows (settings .endian) s rows attrs n) levels) i
   unfolding typeSizeFrom typeSize entrySizeFrom
-  plain-entry known levels i h =
+  plain-entry noted levels i h =
       ap (λ (b : Bool). rowSize settings (lentRows (settings .endian) s rows attrs n)
-      (typeSizeBy sizes (λ key. cond b (entrySize settings sizes (lentRows (settings .endian) s rows attrs n) levels key) (knownFound known key (rowOfKey rows n key)))) i) h
+      (typeSizeBy sizes (λ key. cond b (entrySize settings sizes (lentRows (settings .endian) s rows attrs n) levels key) (notedFound noted key (rowOfKey rows n key)))) i) h
 
-  module _ (known : List ℕ) (levels key : ℕ) {f : Found} (is : f ≡ rowOfKey rows n key) where
-    pub entry-known : {i : ℕ} {z : Said ℕ} → f ≡ found.At i → 0 < length known → z ≡ knownAt known i → z ≡ entrySizeFrom settings sizes s rows attrs n known levels key
-    unfolding entrySizeFrom knownFound foundRow _>>=_
-    entry-known p h q =
-        let test : eqb (length known) 0 ≡ false = ne-eqb (length known) 0 (λ z. omega (arith, z)) in
-        q ∙ ap (knownFound known key) (sym p ∙ is) ∙ sym (rw test)
+  module _ (noted : List ℕ) (levels key : ℕ) {f : Found} (is : f ≡ rowOfKey rows n key) where
+    pub entry-noted : {i : ℕ} {z : Said ℕ} → f ≡ found.At i → 0 < length noted → z ≡ notedAt noted i → z ≡ entrySizeFrom settings sizes s rows attrs n noted levels key
+    unfolding entrySizeFrom notedFound foundRow _>>=_
+    entry-noted p h q =
+        let test : eqb (length noted) 0 ≡ false = ne-eqb (length noted) 0 (λ z. omega (arith, z)) in
+        q ∙ ap (notedFound noted key) (sym p ∙ is) ∙ sym (rw test)
 
     pub entry-missing : {why : Refusal} → f ≡ found.Nothing → why ≡ refusedAt key reason.Entry
-        → saidSized (Refused why) ≡ entrySizeFrom settings sizes s rows attrs n known levels key
-    unfolding entrySizeFrom knownFound foundRow saidSized _>>=_
+        → saidSized (Refused why) ≡ entrySizeFrom settings sizes s rows attrs n noted levels key
+    unfolding entrySizeFrom notedFound foundRow saidSized _>>=_
     entry-missing {why} p q =
-        cond-all (λ (x : Said ℕ). refusal why ≡ x) (eqb (length known) 0) (λ t. ap refusal q ∙ sym (entry-none levels key (sym is ∙ p)))
-        (λ t. ap refusal q ∙ ap (knownFound known key) (sym p ∙ is))
+        cond-all (λ (x : Said ℕ). refusal why ≡ x) (eqb (length noted) 0) (λ t. ap refusal q ∙ sym (entry-none levels key (sym is ∙ p)))
+        (λ t. ap refusal q ∙ ap (notedFound noted key) (sym p ∙ is))
 
-    module _ {i : ℕ} (p : f ≡ found.At i) (h : length known ≤ 0) where
-      none-known : eqb (length known) 0 ≡ true
-      none-known = eq-eqb (length known) 0 (omega arith)
+    module _ {i : ℕ} (p : f ≡ found.At i) (h : length noted ≤ 0) where
+      none-noted : eqb (length noted) 0 ≡ true
+      none-noted = eq-eqb (length noted) 0 (omega arith)
 
-      entry-left : entrySize settings sizes (lentRows (settings .endian) s rows attrs n) levels key ≡ entrySizeFrom settings sizes s rows attrs n known levels key
+      entry-left : entrySize settings sizes (lentRows (settings .endian) s rows attrs n) levels key ≡ entrySizeFrom settings sizes s rows attrs n noted levels key
       unfolding entrySizeFrom
-      entry-left = sym (rw none-known)
+      entry-left = sym (rw none-noted)
 
       pub entry-deep : levels ≡ 0 → {why : Refusal} → why ≡ refusedAt key reason.Depth
-          → saidSized (Refused why) ≡ entrySizeFrom settings sizes s rows attrs n known levels key
+          → saidSized (Refused why) ≡ entrySizeFrom settings sizes s rows attrs n noted levels key
       unfolding foundRow saidSized _>>_
       entry-deep z q =
           ap refusal q ∙ sym (entry-zero key (sym is ∙ p)) ∙ ap (λ (l : ℕ). entrySize settings sizes (lentRows (settings .endian) s rows attrs n) l key) (sym z) ∙ entry-left
 
       pub entry-row : (levels ≡ 0 → ⊥) → {z : Said ℕ}
-          → z ≡ rowSize settings (lentRows (settings .endian) s rows attrs n) (typeSizeFrom settings sizes s rows attrs n known (levels - 1)) i
-          → z ≡ entrySizeFrom settings sizes s rows attrs n known levels key
+          → z ≡ rowSize settings (lentRows (settings .endian) s rows attrs n) (typeSizeFrom settings sizes s rows attrs n noted (levels - 1)) i
+          → z ≡ entrySizeFrom settings sizes s rows attrs n noted levels key
       unfolding foundRow _>>=_
       entry-row z q =
           let one : suc (levels - 1) ≡ levels = omega (arith, z) in
-          q ∙ plain-entry known (levels - 1) i none-known ∙ sym (entry-more (levels - 1) key (sym is ∙ p))
+          q ∙ plain-entry noted (levels - 1) i none-noted ∙ sym (entry-more (levels - 1) key (sym is ∙ p))
           ∙ ap (λ (l : ℕ). entrySize settings sizes (lentRows (settings .endian) s rows attrs n) l key) one ∙ entry-left
 
 -- ---- a type

@@ -18,7 +18,7 @@ use Rattle.tables.specs.Find.{rowOfKey}
 use Rattle.tables.specs.Keyed.{foundRow}
 use Rattle.records.specs.Scan.{runOf, faultsFrom}
 use Rattle.records.specs.Fields.{lastOf, wordOf}
-use Rattle.records.specs.Unions.{Placed}
+use Rattle.records.specs.Unions.{RowMember}
 use Rattle.records.specs.declared.scan.Run.{Run}
 use Rattle.records.specs.declared.fields.Sought.the-variants as sought
 use Rattle.records.specs.declared.fields.Word.{Word}
@@ -57,7 +57,7 @@ module _ (f g : «Type» → Said ℕ) (stays : (t : «Type») → Settled (f t)
   or-stays t (word.Is size) s = refl
   or-stays t word.Nothing s = stays t s
 
-  ends-stay : (rows : List ℕ) (largest : ℕ) (ms : List Placed) → Settled (endsFrom rows f largest ms) → endsFrom rows g largest ms ≡ endsFrom rows f largest ms
+  ends-stay : (rows : List ℕ) (largest : ℕ) (ms : List RowMember) → Settled (endsFrom rows f largest ms) → endsFrom rows g largest ms ≡ endsFrom rows f largest ms
   unfolding endsFrom memberSize
   ends-stay rows largest [] s = refl
   ends-stay rows largest (m ∷ ms) s =
@@ -65,7 +65,7 @@ module _ (f g : «Type» → Said ℕ) (stays : (t : «Type») → Settled (f t)
       (λ size t. next-stays (withEnd (rowAt rows (m .row) .key) largest (m .member .offset + size)) (λ next. endsFrom rows f next ms)
       (λ next. endsFrom rows g next ms) (λ next u. ends-stay rows next ms u) t) s
 
-  members-stay : (rows : List ℕ) (ms : List Placed) (w : Word) → Settled (sizeOrEnds rows f ms w) → sizeOrEnds rows g ms w ≡ sizeOrEnds rows f ms w
+  members-stay : (rows : List ℕ) (ms : List RowMember) (w : Word) → Settled (sizeOrEnds rows f ms w) → sizeOrEnds rows g ms w ≡ sizeOrEnds rows f ms w
   unfolding sizeOrEnds
   members-stay rows ms (word.Is size) s = refl
   members-stay rows ms word.Nothing s = ends-stay rows 0 ms s

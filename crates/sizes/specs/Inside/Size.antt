@@ -1,4 +1,4 @@
--- How the code takes sizes: with the levels that are left, or from sizes that are known already; a structure's children one at a time.
+-- How the code takes sizes: with the levels that are left, or from sizes that are noted already; a structure's children one at a time.
 use Prim.Native.Nat.{ℕ, _+_, _<_}
 use mathlib.Core.Bool.{cond}
 use mathlib.Core.List.{List, [], _∷_}
@@ -19,7 +19,7 @@ use Rattle.records.specs.Scan.{runOf}
 use Rattle.records.specs.Member.{memberAt}
 use Rattle.records.specs.Inside.Unions.{EndsAt}
 use Rattle.sizes.specs.Size.{subscriptBlock, productOf, sizeOr, withEnd, entrySize, typeSizeBy}
-use Rattle.sizes.specs.Inside.Known.{knownAt}
+use Rattle.sizes.specs.Inside.Noted.{notedAt}
 use Rattle.sizes.specs.declared.kept.Added.{Added}
 use Rattle.sizes.specs.declared.kept.Added.the-variants as added
 
@@ -79,16 +79,16 @@ unfoldable pub arrayProduct : Settings → List ℕ → List ℕ → List ℕ �
 arrayProduct settings s rows attrs i k size =
     productOf (settings .endian) (rowAt rows i .key) (subscriptBlock s attrs (runOf (settings .endian) rows i) k) size
 
--- ---- with sizes that are known already
+-- ---- with sizes that are noted already
 
--- the size of the row that was found, from the known ones; 11 where there is none
-unfoldable pub knownFound : List ℕ → ℕ → Found → Said ℕ
-knownFound known key found = foundRow key found >>= knownAt known
+-- the size of the row that was found, from the noted ones; 11 where there is none
+unfoldable pub notedFound : List ℕ → ℕ → Found → Said ℕ
+notedFound noted key found = foundRow key found >>= notedAt noted
 
-module _ (settings : Settings) (sizes s rows attrs : List ℕ) (n : ℕ) (known : List ℕ) (levels : ℕ) where
-  -- the size of an entry: from the known ones if there are any, else with so many levels left
+module _ (settings : Settings) (sizes s rows attrs : List ℕ) (n : ℕ) (noted : List ℕ) (levels : ℕ) where
+  -- the size of an entry: from the noted ones if there are any, else with so many levels left
   unfoldable pub entrySizeFrom : ℕ → Said ℕ
-  entrySizeFrom key = cond (eqb (length known) 0) (entrySize settings sizes (lentRows (settings .endian) s rows attrs n) levels key) (knownFound known key (rowOfKey rows n key))
+  entrySizeFrom key = cond (eqb (length noted) 0) (entrySize settings sizes (lentRows (settings .endian) s rows attrs n) levels key) (notedFound noted key (rowOfKey rows n key))
 
   -- the same of a type
   unfoldable pub typeSizeFrom : «Type» → Said ℕ

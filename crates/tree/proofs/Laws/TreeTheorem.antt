@@ -180,17 +180,17 @@ module _ (settings : Settings) (vendors sizes s rows₀ attrs₀ : List ℕ) (c 
       )
 
   -- the child walk of any row, with room enough, gives exactly the non-null rows with that parent, in order
-  pub walk-holds : Good (c .rows) (reachIn (table s settings vendors sizes rows attrs c)) → NoneCross (c .rows) (reachIn (table s settings vendors sizes rows attrs c)) → (i : ℕ) → i < c .rows → (kids : List ℕ)
-      → length (childrenIn rows (c .rows) (reachIn (table s settings vendors sizes rows attrs c)) i) ≤ length kids → {q : Said ℕ} {kids′ : List ℕ}
-      → Given (children.childrenOfKey (table s settings vendors sizes rows attrs c) (rowAt rows i .key) kids) q kids′
-      → (q ≡ said.gives (length (childrenIn rows (c .rows) (reachIn (table s settings vendors sizes rows attrs c)) i))) × (kids′ ≡ sets kids 0 (childrenIn rows (c .rows) (reachIn (table s settings vendors sizes rows attrs c)) i))
+  pub walk-holds : Good (c .rows) (reachIn (table s settings vendors sizes rows attrs c)) → NoneCross (c .rows) (reachIn (table s settings vendors sizes rows attrs c)) → (i : ℕ) → i < c .rows → (room : List ℕ)
+      → length (childrenIn rows (c .rows) (reachIn (table s settings vendors sizes rows attrs c)) i) ≤ length room → {q : Said ℕ} {room′ : List ℕ}
+      → Given (children.childrenOfKey (table s settings vendors sizes rows attrs c) (rowAt rows i .key) room) q room′
+      → (q ≡ said.gives (length (childrenIn rows (c .rows) (reachIn (table s settings vendors sizes rows attrs c)) i))) × (room′ ≡ sets room 0 (childrenIn rows (c .rows) (reachIn (table s settings vendors sizes rows attrs c)) i))
   unfolding children.childrenOfKey children.childRowsOf rowOf testTable foundRow must _>>=_ _>>_ listedInto
-  walk-holds good nest i l kids h {q} {kids′} given =
+  walk-holds good nest i l room h {q} {room′} given =
       let n : ℕ = c .rows in
       let all : Reaching n (reachIn (table s settings vendors sizes rows attrs c)) = reaching (settings .endian) s rows attrs n in
       let nested : Nested n (reachIn (table s settings vendors sizes rows attrs c)) = fault-none n (reachIn (table s settings vendors sizes rows attrs c)) all (nests-exactly n (reachIn (table s settings vendors sizes rows attrs c)) all .1 (good, nest)) in
-      let told : children.childrenOfKey (table s settings vendors sizes rows attrs c) (rowAt rows i .key) kids
-      ≡ outcome (said.gives (length (childrenIn rows n (reachIn (table s settings vendors sizes rows attrs c)) i))) (sets kids 0 (childrenIn rows n (reachIn (table s settings vendors sizes rows attrs c)) i)) =
-      rw (tests-pass .0, tests-pass .1, table-holds, row-of-own-key (held-rising checked) i l) (children-given plain (settings .endian) attrs nested i l kids h)
+      let told : children.childrenOfKey (table s settings vendors sizes rows attrs c) (rowAt rows i .key) room
+      ≡ outcome (said.gives (length (childrenIn rows n (reachIn (table s settings vendors sizes rows attrs c)) i))) (sets room 0 (childrenIn rows n (reachIn (table s settings vendors sizes rows attrs c)) i)) =
+      rw (tests-pass .0, tests-pass .1, table-holds, row-of-own-key (held-rising checked) i l) (children-given plain (settings .endian) attrs nested i l room h)
       in
       (given .answer-is ∙ ap (λ (o : Outcome (Said ℕ) ℕ). o .answer) told, given .room-is ∙ ap (λ (o : Outcome (Said ℕ) ℕ). o .room) told)

@@ -128,9 +128,9 @@ pub children-given : {s rows : List ℕ} {n : ℕ} → Plain s rows n → (e : E
     ≡ outcome (gives (length (childrenIn rows n (λ k. reachEnd (lentRows e s rows attrs n) k) i))) (sets room 0 (childrenIn rows n (λ k. reachEnd (lentRows e s rows attrs n) k) i))
 unfolding listedInto childrenMet inRoom fillsRoom
 children-given {s} {rows} {n} plain e attrs nested i l room h =
-    let kids : List ℕ = childrenIn rows n (λ k. reachEnd (lentRows e s rows attrs n) k) i in
+    let given : List ℕ = childrenIn rows n (λ k. reachEnd (lentRows e s rows attrs n) k) i in
     rw (
       walk-parent plain e attrs nested i l,
       non-null-all rows (λ j. eqb (parent n (λ k. reachEnd (lentRows e s rows attrs n) k) j) (suc i)) 0 n,
-      le-leb (length kids) (length room) h,
+      le-leb (length given) (length room) h,
     )

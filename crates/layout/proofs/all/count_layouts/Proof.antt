@@ -9,12 +9,12 @@ use Rattle.layout.proofs.all.count_layouts.Statement.{statement}
 use Rattle.layout.proofs.all.count_layouts.Tie as tie
 
 abbrev Inv-loop : tie.InvT-loop
-Inv-loop s settings sizes rows attrs n known kept told₀ counts₀ i₀ told counts i =
-    Counting settings s rows attrs n (typeSizeFrom settings sizes s rows attrs n known 0) counts i
-    × (WholesTold settings s rows attrs n (typeSizeFrom settings sizes s rows attrs n known 0) i told × (length told ≡ length told₀))
+Inv-loop s settings sizes rows attrs n noted kept told₀ counts₀ i₀ told counts i =
+    Counting settings s rows attrs n (typeSizeFrom settings sizes s rows attrs n noted 0) counts i
+    × (WholesTold settings s rows attrs n (typeSizeFrom settings sizes s rows attrs n noted 0) i told × (length told ≡ length told₀))
 
 abbrev μ-loop : tie.MeasureT-loop
-μ-loop s settings sizes rows attrs n known kept told₀ counts₀ i₀ told counts i = n - i
+μ-loop s settings sizes rows attrs n noted kept told₀ counts₀ i₀ told counts i = n - i
 
 loop-holds : tie.Need-loop-holds Inv-loop μ-loop
 loop-holds c = (counting-begins (c .before .before .before .before .before .before .before .pre .0 .ready) _, (told-none _ _ _ _ _ _ (c .before .before .before .before .before .before .before .pre .0 .fits), refl))

@@ -1,5 +1,5 @@
-use Rattle.layout.proofs.Laws.Levels.{known-kept}
-use Rattle.layout.proofs.Laws.All.{all-known}
+use Rattle.layout.proofs.Laws.Levels.{noted-kept}
+use Rattle.layout.proofs.Laws.All.{all-noted}
 use native.Mathlib.Omega.{arith}
 use Prim.Native.Nat.{_*_, _≤_}
 use borrow.Author.Needs.{needs}
@@ -9,16 +9,16 @@ use Rattle.layout.proofs.all.lay_all.Tie as tie
 keep-rows-requires : tie.Need-keep-rows-requires
 keep-rows-requires c κs = record { table = c .before .before .before .before .before .before .before .pre .table; fits = omega (arith, c .before .before .before .before .before .before .before .pre .table .few) }
 
-fill-known-requires : tie.Need-fill-known-requires
-fill-known-requires c κs = let fits : c .before .before .before .before .before .before .before .before .before .before .before .before .args .n * 3 ≤ 12288 = omega (arith, c .before .before .before .before .before .before .before .before .before .before .before .before .pre .table .few) in
+fill-noted-requires : tie.Need-fill-noted-requires
+fill-noted-requires c κs = let fits : c .before .before .before .before .before .before .before .before .before .before .before .before .args .n * 3 ≤ 12288 = omega (arith, c .before .before .before .before .before .before .before .before .before .before .before .before .pre .table .few) in
     (record { ready = c .before .before .before .before .before .before .before .before .before .before .before .before .pre; fits = fits }, (record { ready = c .before .before .before .before .before .before .before .before .before .before .before .before .pre; fits = fits }, c .before .before .before .before .keep-rows .ensures))
 
 give-layouts-requires : tie.Need-give-layouts-requires
 give-layouts-requires c κs = let fits : c .before .before .before .before .before .before .before .before .before .before .before .before .before .before .before .before .before .before .before .before .args .n * 3 ≤ 12288 = omega (arith, c .before .before .before .before .before .before .before .before .before .before .before .before .before .before .before .before .before .before .before .before .pre .table .few) in
-    (record { ready = c .before .before .before .before .before .before .before .before .before .before .before .before .before .before .before .before .before .before .before .before .pre; fits = omega (arith, fits) }, known-kept (c .before .before .before .before .before .before .before .before .before .before .before .before .keep-rows .ensures) (c .before .before .before .before .before .before .before .fill-known .ensures .fits))
+    (record { ready = c .before .before .before .before .before .before .before .before .before .before .before .before .before .before .before .before .before .before .before .before .pre; fits = omega (arith, fits) }, noted-kept (c .before .before .before .before .before .before .before .before .before .before .before .before .keep-rows .ensures) (c .before .before .before .before .before .before .before .fill-noted .ensures .fits))
 
 returns : tie.Need-returns
-returns c = all-known _ _ _ _ _ _ (c .before .before .before .before .before .before .before .before .before .before .before .before .before .before .before .before .before .before .before .before .before .before .before .before .before .before .pre) _ (c .before .before .before .before .before .before .before .before .before .before .before .before .before .fill-known .ensures) (search needs) _ _ (c .before .before .before .before .before .give-layouts .ensures)
+returns c = all-noted _ _ _ _ _ _ (c .before .before .before .before .before .before .before .before .before .before .before .before .before .before .before .before .before .before .before .before .before .before .before .before .before .before .pre) _ (c .before .before .before .before .before .before .before .before .before .before .before .before .before .fill-noted .ensures) (search needs) _ _ (c .before .before .before .before .before .give-layouts .ensures)
 
 pub lay-all-spec : {M : Type 1} → statement M
 lay-all-spec =
@@ -29,7 +29,7 @@ lay-all-spec =
     (λ c. search needs)
     (λ c. search needs)
     (λ c. search needs)
-    fill-known-requires
+    fill-noted-requires
     (λ c. search needs)
     (λ c. search needs)
     (λ c. search needs)

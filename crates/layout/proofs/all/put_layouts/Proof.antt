@@ -6,11 +6,11 @@ use Rattle.layout.proofs.all.put_layouts.Statement.{statement}
 use Rattle.layout.proofs.all.put_layouts.Tie as tie
 
 abbrev Inv-loop : tie.InvT-loop
-Inv-loop s settings sizes rows attrs n known kept told structures₀ members₀ counts₀ i₀ structures members counts i =
-    Putting settings s rows attrs n (typeSizeFrom settings sizes s rows attrs n known 0) structures₀ members₀ structures members counts i
+Inv-loop s settings sizes rows attrs n noted kept told structures₀ members₀ counts₀ i₀ structures members counts i =
+    Putting settings s rows attrs n (typeSizeFrom settings sizes s rows attrs n noted 0) structures₀ members₀ structures members counts i
 
 abbrev μ-loop : tie.MeasureT-loop
-μ-loop s settings sizes rows attrs n known kept told structures₀ members₀ counts₀ i₀ structures members counts i = n - i
+μ-loop s settings sizes rows attrs n noted kept told structures₀ members₀ counts₀ i₀ structures members counts i = n - i
 
 loop-holds : tie.Need-loop-holds Inv-loop μ-loop
 loop-holds c = putting-begins _ (c .before .before .before .before .before .before .before .before .before .pre .0) _

@@ -40,13 +40,13 @@ returns-2 c = puts-given _ _ _ _ _ _ _ (c .before .before .before .before .befor
 
 returns-3 : tie.Need-returns-3
 unfolding saidSized saidLayoutWhole
-returns-3 c = absurd (layout-given (c .before .before .before .before .before .before .before .before .before .before .before .before .before .before .before .before .before .before .before .before .before .before .before .pre .1 .0) (c .before .before .before .before .before .before .before .before .before .before .before .before .before .before .before .before .before .before .before .before .before .before .before .pre .0 .counted .asked .asked .there) (c .before .before .before .before .before .before .before .before .before .before .before .before .before .row-at .ensures) (c .before .before .before .before .before .before .before .before .before .before .before .before .is-structure .ensures) (not-false _ (c .before .before .before .before .before .before .before .before .before .before .before .if1 .left)) (case-said saidSized (c .before .before .before .before .before .before .before .before .known-at .ensures) (c .before .before .before .before .before .before .enum-told .given .1))
+returns-3 c = absurd (layout-given (c .before .before .before .before .before .before .before .before .before .before .before .before .before .before .before .before .before .before .before .before .before .before .before .pre .1 .0) (c .before .before .before .before .before .before .before .before .before .before .before .before .before .before .before .before .before .before .before .before .before .before .before .pre .0 .counted .asked .asked .there) (c .before .before .before .before .before .before .before .before .before .before .before .before .before .row-at .ensures) (c .before .before .before .before .before .before .before .before .before .before .before .before .is-structure .ensures) (not-false _ (c .before .before .before .before .before .before .before .before .before .before .before .if1 .left)) (case-said saidSized (c .before .before .before .before .before .before .before .before .noted-at .ensures) (c .before .before .before .before .before .before .enum-told .given .1))
     (case-said saidLayoutWhole (c .before .before .before .before .read-layout .ensures .answer-is) (c .enum-told2 .given .1)))
 
 returns-4 : tie.Need-returns-4
 unfolding saidSized
 returns-4 c = puts-refused _ _ _ _ _ _ _ (c .before .before .before .before .before .before .before .before .before .before .before .before .before .before .row-at .ensures) (c .before .before .before .before .before .before .before .before .before .before .before .before .before .is-structure .ensures) (not-false _ (c .before .before .before .before .before .before .before .before .before .before .before .before .if1 .left)) (c .before .before .before .before .before .before .before .before .before .before .before .before .before .before .before .before .before .before .before .before .before .before .before .before .args .counts)
-    (layout-refused (c .before .before .before .before .before .before .before .before .before .before .before .before .before .before .before .before .before .before .before .before .before .before .before .before .pre .1 .0) (c .before .before .before .before .before .before .before .before .before .before .before .before .before .before .before .before .before .before .before .before .before .before .before .before .pre .0 .counted .asked .asked .there) (c .before .before .before .before .before .before .before .before .before .before .before .before .before .before .row-at .ensures) (c .before .before .before .before .before .before .before .before .before .before .before .before .before .is-structure .ensures) (not-false _ (c .before .before .before .before .before .before .before .before .before .before .before .before .if1 .left)) (case-said saidSized (c .before .before .before .before .before .before .before .before .before .known-at .ensures) (c .before .before .before .before .before .before .before .why .given .1)))
+    (layout-refused (c .before .before .before .before .before .before .before .before .before .before .before .before .before .before .before .before .before .before .before .before .before .before .before .before .pre .1 .0) (c .before .before .before .before .before .before .before .before .before .before .before .before .before .before .before .before .before .before .before .before .before .before .before .before .pre .0 .counted .asked .asked .there) (c .before .before .before .before .before .before .before .before .before .before .before .before .before .before .row-at .ensures) (c .before .before .before .before .before .before .before .before .before .before .before .before .before .is-structure .ensures) (not-false _ (c .before .before .before .before .before .before .before .before .before .before .before .before .if1 .left)) (case-said saidSized (c .before .before .before .before .before .before .before .before .before .noted-at .ensures) (c .before .before .before .before .before .before .before .why .given .1)))
     (c .before .before .before .before .before .before .before .before .before .before .before .run-of .ensures) (c .before .before .before .before .before .before .before .before .before .before .last-name .ensures) (c .before .before .before .before .number-of .ensures) (c .before .before .before .put-structure2 .ensures) (c .one-more2 .ensures)
 
 pub put-row-spec : {M : Type 1} → statement M

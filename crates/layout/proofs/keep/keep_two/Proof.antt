@@ -4,7 +4,7 @@ use Rattle.layout.proofs.keep.keep_two.Statement.{statement}
 use Rattle.layout.proofs.keep.keep_two.Tie as tie
 
 returns : tie.Need-returns
-returns c = two-put _ (c .before .before .before .before .before .before .put-known .ensures) (c .before .before .put-known2 .ensures)
+returns c = two-put _ (c .before .before .before .before .before .before .put-noted .ensures) (c .before .before .put-noted2 .ensures)
 
 pub keep-two-spec : {M : Type 1} → statement M
 keep-two-spec =

@@ -2,7 +2,7 @@ use Rattle.format.specs.declared.refusal.Reason.the-variants as reason
 use Rattle.tables.specs.Inside.Keyed.{refusedAt}
 use Rattle.tables.specs.declared.row.Row.{Row}
 use Rattle.format.specs.Said.{refusal}
-use Rattle.layout.specs.Inside.Levels.{lastLevel, KnownUpTo}
+use Rattle.layout.specs.Inside.Levels.{lastLevel, NotedUpTo}
 use Rattle.layout.proofs.Laws.Levels.{filled-none, filled-more, filled-all}
 use borrow.Author.Needs.{needs}
 use Prim.Native.Nat.{_-_}
@@ -12,10 +12,10 @@ use Rattle.layout.proofs.levels.last_level.Statement.{statement}
 use Rattle.layout.proofs.levels.last_level.Tie as tie
 
 abbrev Inv-loop : tie.InvT-loop
-Inv-loop rows n known₀ i₀ known i = KnownUpTo (lastLevel rows) n i known × (length known ≡ length known₀)
+Inv-loop rows n noted₀ i₀ noted i = NotedUpTo (lastLevel rows) n i noted × (length noted ≡ length noted₀)
 
 abbrev μ-loop : tie.MeasureT-loop
-μ-loop rows n known₀ i₀ known i = n - i
+μ-loop rows n noted₀ i₀ noted i = n - i
 
 loop-holds : tie.Need-loop-holds Inv-loop μ-loop
 loop-holds c = (filled-none _ _ (c .before .before .pre), refl)

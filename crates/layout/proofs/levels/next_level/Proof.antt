@@ -8,11 +8,11 @@ use Rattle.layout.proofs.levels.next_level.Statement.{statement}
 use Rattle.layout.proofs.levels.next_level.Tie as tie
 
 abbrev Inv-loop : tie.InvT-loop
-Inv-loop s settings sizes rows attrs n known kept next₀ all₀ i₀ next all i =
-    LevelFilled (nextLevel settings sizes s rows attrs n known) n i next all × (length next ≡ length next₀)
+Inv-loop s settings sizes rows attrs n noted kept next₀ all₀ i₀ next all i =
+    LevelFilled (nextLevel settings sizes s rows attrs n noted) n i next all × (length next ≡ length next₀)
 
 abbrev μ-loop : tie.MeasureT-loop
-μ-loop s settings sizes rows attrs n known kept next₀ all₀ i₀ next all i = n - i
+μ-loop s settings sizes rows attrs n noted kept next₀ all₀ i₀ next all i = n - i
 
 loop-holds : tie.Need-loop-holds Inv-loop μ-loop
 loop-holds c = (level-none _ _ (c .before .before .before .before .before .before .before .pre .0 .fits), refl)
@@ -21,7 +21,7 @@ next-size-requires : tie.Need-next-size-requires Inv-loop μ-loop
 next-size-requires c κs = (record { asked = record { table = c .before .before .before .before .before .before .before .before .before .pre .0 .ready .table; there = c .loop-test .taken }; short = c .before .before .before .before .before .before .before .before .before .pre .0 .ready .short }, c .before .before .before .before .before .before .before .before .before .pre .1)
 
 loop-again : tie.Need-loop-again Inv-loop μ-loop
-loop-again c = (level-row _ _ (c .before .before .before .before .before .before .before .loop .inv .0) (c .before .before .before .put-known .ensures) (c .before .before .before .before .before .next-size .ensures) (c .also-settled .ensures), (c .before .before .before .put-known .ensures .same-long ∙ c .before .before .before .before .before .before .before .loop .inv .1))
+loop-again c = (level-row _ _ (c .before .before .before .before .before .before .before .loop .inv .0) (c .before .before .before .put-noted .ensures) (c .before .before .before .before .before .next-size .ensures) (c .also-settled .ensures), (c .before .before .before .put-noted .ensures .same-long ∙ c .before .before .before .before .before .before .before .loop .inv .1))
 
 returns : tie.Need-returns Inv-loop μ-loop
 returns c = level-whole _ _ (c .before .loop .inv .0) (c .loop-test .left)

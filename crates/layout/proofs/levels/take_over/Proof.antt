@@ -6,10 +6,10 @@ use Rattle.layout.proofs.levels.take_over.Statement.{statement}
 use Rattle.layout.proofs.levels.take_over.Tie as tie
 
 abbrev Inv-loop : tie.InvT-loop
-Inv-loop known₀ next words same₀ k₀ known same k = Taking words known₀ next known same k
+Inv-loop noted₀ next words same₀ k₀ noted same k = Taking words noted₀ next noted same k
 
 abbrev μ-loop : tie.MeasureT-loop
-μ-loop known₀ next words same₀ k₀ known same k = words - k
+μ-loop noted₀ next words same₀ k₀ noted same k = words - k
 
 loop-holds : tie.Need-loop-holds Inv-loop μ-loop
 loop-holds c = taking-begins _ _ _

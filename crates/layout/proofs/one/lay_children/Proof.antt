@@ -1,5 +1,5 @@
-use Rattle.links.proofs.Laws.Kids.{ends-at}
-use Rattle.links.specs.Inside.Kids.{kidsFrom, kidsOf}
+use Rattle.links.proofs.Laws.EachChild.{ends-at}
+use Rattle.links.specs.Inside.EachChild.{childrenFrom, childrenAt}
 use Rattle.sizes.proofs.Laws.Walking.{walking-asked, walking-ending, walking-less}
 use Rattle.layout.proofs.Laws.Layout.{Laying′, laying-begins, laying-asked, laying-on, laying-refused, laying-ends}
 use Rattle.layout.specs.Inside.Layout.{childrenLaid}
@@ -11,12 +11,12 @@ use Rattle.layout.proofs.one.lay_children.Statement.{statement}
 use Rattle.layout.proofs.one.lay_children.Tie as tie
 
 abbrev Inv-loop : tie.InvT-loop
-Inv-loop s settings sizes rows attrs n known kept levels bounded i room₀ e end c₀ k₀ most₀ room c k most =
-    Laying′ settings s rows attrs n end (typeSizeFrom settings sizes s rows attrs n known levels) bounded
-    (childrenLaid settings s rows attrs n (typeSizeFrom settings sizes s rows attrs n known levels) bounded 0 (kidsOf (settings .endian) s rows attrs n i)) room₀ room c k most
+Inv-loop s settings sizes rows attrs n noted kept levels bounded i room₀ e end c₀ k₀ most₀ room c k most =
+    Laying′ settings s rows attrs n end (typeSizeFrom settings sizes s rows attrs n noted levels) bounded
+    (childrenLaid settings s rows attrs n (typeSizeFrom settings sizes s rows attrs n noted levels) bounded 0 (childrenAt (settings .endian) s rows attrs n i)) room₀ room c k most
 
 abbrev μ-loop : tie.MeasureT-loop
-μ-loop s settings sizes rows attrs n known kept levels bounded i room₀ e end c₀ k₀ most₀ room c k most = length (kidsFrom (settings .endian) s rows attrs n end c)
+μ-loop s settings sizes rows attrs n noted kept levels bounded i room₀ e end c₀ k₀ most₀ room c k most = length (childrenFrom (settings .endian) s rows attrs n end c)
 
 kept-sibling-requires : tie.Need-kept-sibling-requires Inv-loop μ-loop
 kept-sibling-requires c κs = (c .before .before .before .before .before .before .before .pre .0 .ends-at .asked, c .before .before .before .before .before .before .before .pre .1 .parts .rows-kept .faults .siblings)

@@ -1,18 +1,18 @@
 use Rattle.links.proofs.Laws.Typed.{told-refused}
 use Rattle.links.specs.Typed.{toldWords}
-use Rattle.links.specs.Inside.Typed.{saidPlaced}
+use Rattle.links.specs.Inside.Typed.{saidSpotted}
 use borrow.Author.Needs.{needs}
 use mathlib.Core.Path.{sym, ap}
 use Rattle.links.proofs.typed.tell.Statement.{statement}
 use Rattle.links.proofs.typed.tell.Tie as tie
 
 returns : tie.Need-returns
-unfolding toldWords saidPlaced
-returns c = ap toldWords (ap saidPlaced (sym (c .before .before .placed .given .1)))
+unfolding toldWords saidSpotted
+returns c = ap toldWords (ap saidSpotted (sym (c .before .before .placed .given .1)))
 
 returns-2 : tie.Need-returns-2
-unfolding toldWords saidPlaced
-returns-2 c = ap toldWords (ap saidPlaced (sym (c .before .enum-told .given .1)))
+unfolding toldWords saidSpotted
+returns-2 c = ap toldWords (ap saidSpotted (sym (c .before .enum-told .given .1)))
 
 returns-3 : tie.Need-returns-3
 returns-3 c = told-refused _ (c .before .number-of .ensures) (c .before .before .before .placed2 .given .1)

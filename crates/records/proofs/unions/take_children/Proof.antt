@@ -1,7 +1,7 @@
 use Rattle.tables.specs.Table.{lentRows}
 use Rattle.tables.specs.Row.{rowAt}
-use Rattle.links.proofs.Laws.Kids.{ends-at}
-use Rattle.links.specs.Inside.Kids.{kidsFrom, kidsOf}
+use Rattle.links.proofs.Laws.EachChild.{ends-at}
+use Rattle.links.specs.Inside.EachChild.{childrenFrom, childrenAt}
 use Rattle.records.specs.Unions.{membersFrom}
 use Rattle.records.proofs.Laws.Unions.{Taking, taking-begins, taking-ends, taking-asked, taking-at, taking-ending, taking-less, taking-on, taking-refused}
 use borrow.Author.Needs.{needs}
@@ -11,10 +11,10 @@ use Rattle.records.proofs.unions.take_children.Statement.{statement}
 use Rattle.records.proofs.unions.take_children.Tie as tie
 
 abbrev Inv-loop : tie.InvT-loop
-Inv-loop s settings rows attrs n i room₀ e row end c₀ k₀ room c k = Taking settings s rows attrs n (row .key) end (membersFrom settings (lentRows (settings .endian) s rows attrs n) (rowAt rows i .key) (kidsOf (settings .endian) s rows attrs n i)) room₀ room c k
+Inv-loop s settings rows attrs n i room₀ e row end c₀ k₀ room c k = Taking settings s rows attrs n (row .key) end (membersFrom settings (lentRows (settings .endian) s rows attrs n) (rowAt rows i .key) (childrenAt (settings .endian) s rows attrs n i)) room₀ room c k
 
 abbrev μ-loop : tie.MeasureT-loop
-μ-loop s settings rows attrs n i room₀ e row end c₀ k₀ room c k = length (kidsFrom (settings .endian) s rows attrs n end c)
+μ-loop s settings rows attrs n i room₀ e row end c₀ k₀ room c k = length (childrenFrom (settings .endian) s rows attrs n end c)
 
 sibling-row-requires : tie.Need-sibling-row-requires Inv-loop μ-loop
 sibling-row-requires c κs = record { rising = c .before .before .before .before .before .pre .asked .table .rising; there = c .before .before .before .before .before .pre .asked .there }

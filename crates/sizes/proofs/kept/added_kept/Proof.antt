@@ -10,11 +10,11 @@ use Rattle.sizes.proofs.kept.added_kept.Statement.{statement}
 use Rattle.sizes.proofs.kept.added_kept.Tie as tie
 
 returns : tie.Need-returns
-returns c = kept-offset _ _ _ (c .before .before .before .before .before .before .known-at .ensures) (c .before .before .before .before .offset .given .1) (c .before .before .known-at2 .ensures) (c .before .size-kept .ensures) (c .with-size .ensures)
+returns c = kept-offset _ _ _ (c .before .before .before .before .before .before .noted-at .ensures) (c .before .before .before .before .offset .given .1) (c .before .before .noted-at2 .ensures) (c .before .size-kept .ensures) (c .with-size .ensures)
 
 returns-2 : tie.Need-returns-2
 unfolding addedKept addedBy saidAdded saidSized _>>=_
-returns-2 c = goes-on saidSized (c .before .before .before .known-at .ensures) (c .before .why .given .1) _ refl
+returns-2 c = goes-on saidSized (c .before .before .before .noted-at .ensures) (c .before .why .given .1) _ refl
 
 pub added-kept-spec : {M : Type 1} → statement M
 added-kept-spec =

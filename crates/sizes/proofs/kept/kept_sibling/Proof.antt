@@ -8,10 +8,10 @@ sibling-row-requires : tie.Need-sibling-row-requires
 sibling-row-requires c κs = record { rising = c .before .before .before .before .before .pre .0 .table .rising; there = c .before .before .before .before .before .pre .0 .there }
 
 returns : tie.Need-returns
-returns c = sibling-kept (c .before .before .before .before .before .before .before .before .before .pre .1) _ (c .before .before .before .before .before .before .before .before .before .pre .0 .there) (c .before .before .before .before .if1 .taken) (c .before .before .before .known-at .ensures) (c .before .row .given .1)
+returns c = sibling-kept (c .before .before .before .before .before .before .before .before .before .pre .1) _ (c .before .before .before .before .before .before .before .before .before .pre .0 .there) (c .before .before .before .before .if1 .taken) (c .before .before .before .noted-at .ensures) (c .before .row .given .1)
 
 returns-2 : tie.Need-returns-2
-returns-2 c = sibling-there (c .before .before .before .before .before .before .before .before .pre .1) _ (c .before .before .before .before .before .before .before .before .pre .0 .there) (c .before .before .before .if1 .taken) (c .before .before .known-at .ensures) (c .enum-told .given .1)
+returns-2 c = sibling-there (c .before .before .before .before .before .before .before .before .pre .1) _ (c .before .before .before .before .before .before .before .before .pre .0 .there) (c .before .before .before .if1 .taken) (c .before .before .noted-at .ensures) (c .enum-told .given .1)
 
 pub kept-sibling-spec : {M : Type 1} → statement M
 kept-sibling-spec =

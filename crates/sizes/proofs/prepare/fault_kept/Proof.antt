@@ -11,11 +11,11 @@ use Rattle.sizes.proofs.prepare.fault_kept.Tie as tie
 
 returns : tie.Need-returns
 unfolding saidFault saidSized faultKept sizeFault _>>_
-returns c = goes-past saidSized (c .before .before .known-at .ensures) (c .enum-told .given .1) _ refl
+returns c = goes-past saidSized (c .before .before .noted-at .ensures) (c .enum-told .given .1) _ refl
 
 returns-2 : tie.Need-returns-2
 unfolding saidFault saidSized faultKept sizeFault _>>_
-returns-2 c = goes-past saidSized (c .before .before .before .known-at .ensures) (c .before .why .given .1) _ refl
+returns-2 c = goes-past saidSized (c .before .before .before .noted-at .ensures) (c .before .why .given .1) _ refl
 
 pub fault-kept-spec : {M : Type 1} → statement M
 fault-kept-spec =

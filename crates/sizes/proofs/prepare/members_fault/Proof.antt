@@ -1,8 +1,8 @@
 use Rattle.sizes.proofs.Laws.Prepare.{members-on, members-refused, members-none}
 use Rattle.sizes.proofs.Laws.Walking.{Walking, walking-begins, walking-ends, walking-asked, walking-stops, walking-ending, walking-less, walking-on}
 use Rattle.sizes.specs.Inside.Prepare.{membersFault}
-use Rattle.links.specs.Inside.Kids.{kidsFrom, kidsOf}
-use Rattle.links.proofs.Laws.Kids.{ends-at}
+use Rattle.links.specs.Inside.EachChild.{childrenFrom, childrenAt}
+use Rattle.links.proofs.Laws.EachChild.{ends-at}
 use Rattle.records.specs.Inside.Scan.{saidFault}
 use borrow.Author.Needs.{needs}
 use Prim.Native.Nat.{_-_}
@@ -12,10 +12,10 @@ use Rattle.sizes.proofs.prepare.members_fault.Statement.{statement}
 use Rattle.sizes.proofs.prepare.members_fault.Tie as tie
 
 abbrev Inv-loop : tie.InvT-loop
-Inv-loop s settings rows attrs n kept i e end c₀ c = Walking (settings .endian) s rows attrs n end (membersFault settings s rows attrs n) (membersFault settings s rows attrs n (kidsOf (settings .endian) s rows attrs n i)) c
+Inv-loop s settings rows attrs n kept i e end c₀ c = Walking (settings .endian) s rows attrs n end (membersFault settings s rows attrs n) (membersFault settings s rows attrs n (childrenAt (settings .endian) s rows attrs n i)) c
 
 abbrev μ-loop : tie.MeasureT-loop
-μ-loop s settings rows attrs n kept i e end c₀ c = length (kidsFrom (settings .endian) s rows attrs n end c)
+μ-loop s settings rows attrs n kept i e end c₀ c = length (childrenFrom (settings .endian) s rows attrs n end c)
 
 kept-sibling-requires : tie.Need-kept-sibling-requires Inv-loop μ-loop
 kept-sibling-requires c κs = (c .before .before .before .before .pre .0 .asked, c .before .before .before .before .pre .1 .siblings)

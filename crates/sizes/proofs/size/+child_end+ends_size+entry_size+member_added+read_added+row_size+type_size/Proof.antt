@@ -1,5 +1,5 @@
-use Rattle.links.proofs.Laws.Kids.{ends-at}
-use Rattle.links.specs.Inside.Kids.{kidsFrom, kidsOf}
+use Rattle.links.proofs.Laws.EachChild.{ends-at}
+use Rattle.links.specs.Inside.EachChild.{childrenFrom, childrenAt}
 use Rattle.sizes.specs.Size.{saidSized}
 use Rattle.sizes.specs.Inside.Prepare.{saidPrepared, finished}
 use Rattle.sizes.specs.Inside.Size.{saidAdded, memberAdded, endsOver, typeSizeFrom}
@@ -9,7 +9,7 @@ use Rattle.format.proofs.Laws.Said.{goes-on}
 use mathlib.Core.Path.{refl}
 use Rattle.sizes.proofs.Laws.Walking.{Walking, walking-begins, walking-ends, walking-asked, walking-stops, walking-ending, walking-less, walking-on}
 use Rattle.sizes.proofs.Laws.Kept.{member-kept, kind-is}
-use Rattle.sizes.proofs.Laws.Size.{ends-done, ends-next, ends-refused, added-own, added-typed, child-other, child-added, found-asked, entry-known, entry-deep, entry-row, entry-missing, type-pointer, type-fundamental, type-user, row-is, row-element, row-ends, ends-asked}
+use Rattle.sizes.proofs.Laws.Size.{ends-done, ends-next, ends-refused, added-own, added-typed, child-other, child-added, found-asked, entry-noted, entry-deep, entry-row, entry-missing, type-pointer, type-fundamental, type-user, row-is, row-element, row-ends, ends-asked}
 use borrow.Author.Needs.{needs}
 use native.Mathlib.Omega.{arith}
 use Prim.Native.Nat.{ℕ, _+_, _*_, _<_}
@@ -37,11 +37,11 @@ use Rattle.sizes.proofs.size.+child_end+ends_size+entry_size+member_add
 use Rattle.sizes.proofs.size.type_size.Reads as type-size
 use Rattle.sizes.proofs.size.type_size.Kinds as type-size-kinds
 use Rattle.sizes.proofs.size.+child_end+ends_size+entry_size+member_added+read_added+row_size+type_size.Lts-type_size as type-size-lts
-use Rattle.links.proofs.kids.child_from.Reads as child-from-reads
+use Rattle.links.proofs.each_child.child_from.Reads as child-from-reads
 use Rattle.links.proofs.link.next_row.Reads as next-row-reads
 use Rattle.records.proofs.scan.refused.Reads as refused-reads
 use Rattle.records.proofs.member.member_at.Reads as member-at-reads
-use Rattle.sizes.proofs.known.known_at.Reads as known-at-reads
+use Rattle.sizes.proofs.noted.noted_at.Reads as noted-at-reads
 use Rattle.sizes.proofs.kept.kept_sibling.Reads as kept-sibling-reads
 use Rattle.sizes.proofs.kept.added_kept.Reads as added-kept-reads
 use Rattle.sizes.proofs.kept.with_size.Reads as with-size-reads
@@ -117,7 +117,7 @@ type-size-at t = and 6 type-size-kinds.ps (is 6 type-size-kinds.ps μ-type-size 
 abbrev type-size-below : ℕ → In 6 type-size-kinds.ps
 type-size-below t = and 6 type-size-kinds.ps (falls 6 type-size-kinds.ps _<_ μ-type-size t) type-size.Pre
 
--- what is known of the callees: of those in the cycle, what they promise below t
+-- what is noted of the callees: of those in the cycle, what they promise below t
 abbrev child-end-G : ℕ → child-end-lts.Claims
 child-end-G t = (row-at-reads.Asked, row-at-reads.Learnt, member-added-below t, member-added.Post, grown-reads.Asked, grown-reads.Learnt)
 
@@ -125,7 +125,7 @@ abbrev ends-size-G : ℕ → ends-size-lts.Claims
 ends-size-G t = (kept-sibling-reads.Asked, kept-sibling-reads.Learnt, next-row-reads.Asked, next-row-reads.Learnt, child-from-reads.Asked, child-from-reads.Learnt, child-end-below t, child-end.Post)
 
 abbrev entry-size-G : ℕ → entry-size-lts.Claims
-entry-size-G t = (find-row-reads.Asked, find-row-reads.Learnt, known-at-reads.Asked, known-at-reads.Learnt, refused-reads.Asked, refused-reads.Learnt, row-size-below t, row-size.Post)
+entry-size-G t = (find-row-reads.Asked, find-row-reads.Learnt, noted-at-reads.Asked, noted-at-reads.Learnt, refused-reads.Asked, refused-reads.Learnt, row-size-below t, row-size.Post)
 
 abbrev member-added-G : ℕ → member-added-lts.Claims
 member-added-G t = (added-kept-reads.Asked, added-kept-reads.Learnt, read-added-below t, read-added.Post)
@@ -155,12 +155,12 @@ unfolding saidAdded saidSized _>>=_
 child-end-returns-3 t c = child-added _ _ _ _ _ _ _ _ (c .before .before .before .before .before .before .row-at .ensures) (c .before .before .before .before .if1 .left) (c .before .before .before .member-added .ensures) (c .before .why .given .1) refl
 
 abbrev ends-size-Inv-loop : ends-size-lts.InvT-loop
-ends-size-Inv-loop s settings sizes rows attrs n known kept levels i e end c₀ largest₀ c largest =
-    Walking (settings .endian) s rows attrs n end (endsOver settings s rows attrs n (typeSizeFrom settings sizes s rows attrs n known levels) largest)
-    (endsOver settings s rows attrs n (typeSizeFrom settings sizes s rows attrs n known levels) 0 (kidsOf (settings .endian) s rows attrs n i)) c
+ends-size-Inv-loop s settings sizes rows attrs n noted kept levels i e end c₀ largest₀ c largest =
+    Walking (settings .endian) s rows attrs n end (endsOver settings s rows attrs n (typeSizeFrom settings sizes s rows attrs n noted levels) largest)
+    (endsOver settings s rows attrs n (typeSizeFrom settings sizes s rows attrs n noted levels) 0 (childrenAt (settings .endian) s rows attrs n i)) c
 
 abbrev ends-size-μ-loop : ends-size-lts.MeasureT-loop
-ends-size-μ-loop s settings sizes rows attrs n known kept levels i e end c₀ largest₀ c largest = length (kidsFrom (settings .endian) s rows attrs n end c)
+ends-size-μ-loop s settings sizes rows attrs n noted kept levels i e end c₀ largest₀ c largest = length (childrenFrom (settings .endian) s rows attrs n end c)
 
 ends-size-kept-sibling-requires : (t : ℕ) → ends-size-lts.Need-kept-sibling-requires (ends-size-G t) (ends-size-at t) ends-size.Post ends-size-Inv-loop ends-size-μ-loop
 ends-size-kept-sibling-requires t c κs = (c .before .before .before .before .before .before .pre .1 .0 .ends-at .asked, c .before .before .before .before .before .before .pre .1 .1 .parts .rows-kept .faults .siblings)
@@ -202,7 +202,7 @@ entry-size-find-row-requires : (t : ℕ) → entry-size-lts.Need-find-row-requir
 entry-size-find-row-requires t c κs = c .before .before .before .before .before .before .pre .1 .0 .table .rising
 
 entry-size-returns : (t : ℕ) → entry-size-lts.Need-returns (entry-size-G t) (entry-size-at t) entry-size.Post
-entry-size-returns t c = entry-known _ _ _ _ _ _ _ _ _ (c .before .before .before .before .before .find-row .ensures) (c .before .before .before .i .given .1) (c .before .if1 .taken) (c .known-at .ensures)
+entry-size-returns t c = entry-noted _ _ _ _ _ _ _ _ _ (c .before .before .before .before .before .find-row .ensures) (c .before .before .before .i .given .1) (c .before .if1 .taken) (c .noted-at .ensures)
 
 entry-size-returns-2 : (t : ℕ) → entry-size-lts.Need-returns-2 (entry-size-G t) (entry-size-at t) entry-size.Post
 entry-size-returns-2 t c = entry-deep _ _ _ _ _ _ _ _ _ (c .before .before .before .before .before .before .find-row .ensures) (c .before .before .before .before .i .given .1) (c .before .before .if1 .left) (c .before .if2 .taken) (c .refused .ensures)

@@ -1,9 +1,9 @@
-use Rattle.links.proofs.Laws.Kids.{Seeking, seeking-begins, seeking-end, seeking-past, seeking-found, seeking-at, seeking-on, seeking-less}
-use Rattle.links.specs.Inside.Kids.{rowsMet, walkOn}
+use Rattle.links.proofs.Laws.EachChild.{Seeking, seeking-begins, seeking-end, seeking-past, seeking-found, seeking-at, seeking-on, seeking-less}
+use Rattle.links.specs.Inside.EachChild.{rowsMet, walkOn}
 use borrow.Author.Needs.{needs}
 use lib.ListN.{length}
-use Rattle.links.proofs.kids.child_from.Statement.{statement}
-use Rattle.links.proofs.kids.child_from.Tie as tie
+use Rattle.links.proofs.each_child.child_from.Statement.{statement}
+use Rattle.links.proofs.each_child.child_from.Tie as tie
 
 abbrev Inv-loop : tie.InvT-loop
 Inv-loop s e rows attrs n end from c₀ c = Seeking e s rows attrs n end from c

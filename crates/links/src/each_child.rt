@@ -3,7 +3,7 @@ use crate::link::sibling_row;
 use numbers::Endian;
 use tables::row::row_at;
 ghost use mathlib.Core.Path.{_≡_};
-ghost use Rattle.links.specs.Inside.Kids.{firstOr, kidsFrom, Ends};
+ghost use Rattle.links.specs.Inside.EachChild.{firstOr, childrenFrom, Ends};
 
 // The first child that the walk from `from` on meets, or n where it meets none before `end`.
 pub fn child_from(
@@ -16,7 +16,7 @@ pub fn child_from(
     from: usize,
 ) -> usize
     requires { ⌜ Ends e (now s) (now rows) (now attrs) n end from ⌝ }
-    ensures { λ r. ⌜ r ≡ firstOr n (kidsFrom e (now (s .entry)) (now (rows .entry)) (now (attrs .entry)) n end from) ⌝ }
+    ensures { λ r. ⌜ r ≡ firstOr n (childrenFrom e (now (s .entry)) (now (rows .entry)) (now (attrs .entry)) n end from) ⌝ }
 {
     let mut c = from;
     while c != end {

@@ -25,12 +25,12 @@ module _ (e : Endian) (s rows attrs : List ℕ) (n : ℕ) where
   walkOn end c = walkFrom n (λ d. siblingRow (lentRows e s rows attrs n) d) end n c
 
   -- the children that it meets: null entries are left out
-  unfoldable pub kidsFrom : ℕ → ℕ → List ℕ
-  kidsFrom end c = nonNull rows (rowsMet (walkOn end c))
+  unfoldable pub childrenFrom : ℕ → ℕ → List ℕ
+  childrenFrom end c = nonNull rows (rowsMet (walkOn end c))
 
   -- the children of row i
-  unfoldable pub kidsOf : ℕ → List ℕ
-  kidsOf i = kidsFrom (siblingRow (lentRows e s rows attrs n) i) (nextRow rows n i)
+  unfoldable pub childrenAt : ℕ → List ℕ
+  childrenAt i = childrenFrom (siblingRow (lentRows e s rows attrs n) i) (nextRow rows n i)
 
   -- what taking children one at a time requires: the walk ends
   pub record Ends (end c : ℕ) : Type 0 where
