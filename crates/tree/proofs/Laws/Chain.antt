@@ -4,7 +4,7 @@ use native.Mathlib.Omega.{arith}
 use mathlib.Core.Path.{_≡_, refl, sym, ap, _∙_}
 use borrow.Author.Tests.{lt-ltb, le-ltb, le-leb, lt-leb, eq-eqb, ne-eqb}
 use Rattle.tree.specs.Inside.Passing.{chain, faultOfRow, faultFrom}
-use Rattle.tree.specs.Demand.{Reaching}
+use Rattle.tree.proofs.Laws.Ends.{Reaching}
 use Rattle.tree.proofs.Laws.Fault.{good-later}
 use Rattle.tree.specs.Inside.Fault.{Along}
 

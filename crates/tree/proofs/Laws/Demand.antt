@@ -6,10 +6,10 @@ use native.Mathlib.Omega.{arith}
 use mathlib.Core.Path.{_≡_, subst}
 use mathlib.Core.Logic.{inl, inr, _↔_}
 use Rattle.tree.specs.Nest.{firstFault}
-use Rattle.tree.specs.Demand.{Reaching}
+use Rattle.tree.proofs.Laws.Ends.{Reaching}
 use Rattle.tree.proofs.Laws.Nested.{Nested}
 use Rattle.tree.proofs.Laws.Fault.{good-later, fault-none, nested-no-fault}
-use Rattle.tree.specs.Demand.{Overlap, Holds, Good, NoneCross}
+use Rattle.tree.proofs.Laws.Ends.{Overlap, Holds, Good, NoneCross}
 
 -- of two nested reaches that overlap, the one that begins first holds the other
 earlier-holds : {n : ℕ} {reach : ℕ → ℕ} → Nested n reach → (i j : ℕ) → i ≤ j → j < n → Overlap n reach i j → Holds n reach i j

@@ -13,7 +13,7 @@ use Rattle.tree.specs.Pick.{anyBelow}
 use Rattle.tree.proofs.Laws.Pick.{first-unique, first-none, any-below}
 use Rattle.tree.specs.Nest.{lies, crosses, faulty, firstFault}
 use Rattle.tree.specs.Inside.Passing.{chain, faultOfRow, faultFrom}
-use Rattle.tree.specs.Demand.{Reaching}
+use Rattle.tree.proofs.Laws.Ends.{Reaching}
 use Rattle.tree.proofs.Laws.Nested.{Nested}
 
 -- a good reference ends later

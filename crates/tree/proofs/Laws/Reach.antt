@@ -18,7 +18,7 @@ use Rattle.links.specs.Attribute.{siblingNumber, referenceOf}
 use Rattle.links.specs.declared.lookup.Reference.{Reference}
 use Rattle.links.specs.declared.lookup.Reference.the-variants as reference
 use Rattle.tree.specs.Reach.{laterRow, reachBy, reachEnd}
-use Rattle.tree.specs.Demand.{Reaching}
+use Rattle.tree.proofs.Laws.Ends.{Reaching}
 
 module _ (i : ℕ) {found told : Found} (is : found ≡ told) where
   pub later-named : {j : ℕ} → found ≡ At j → i < j → j ≡ laterRow i told

@@ -30,7 +30,7 @@ use Rattle.tree.specs.Pick.{firstFrom}
 use Rattle.tree.proofs.Laws.Pick.{first-from-is}
 use Rattle.tree.specs.Reach.{reachEnd}
 use Rattle.tree.specs.Nest.{deep, firstFault, firstDeep}
-use Rattle.tree.specs.Demand.{Reaching}
+use Rattle.tree.proofs.Laws.Ends.{Reaching}
 use Rattle.tree.proofs.Laws.Nested.{Nested}
 use Rattle.tree.specs.Inside.Passing.{faultFrom, openDeep, openWords, OpenListed}
 use Rattle.tree.proofs.Laws.Fault.{first-fault, fault-none}

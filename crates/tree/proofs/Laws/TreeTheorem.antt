@@ -39,16 +39,16 @@ use Rattle.tree.specs.Pick.{firstFrom}
 use Rattle.tree.proofs.Laws.Pick.{first-none, first-from-is}
 use Rattle.tree.specs.Reach.{reachIn}
 use Rattle.tree.specs.Nest.{depth, parent, deep, firstFault, firstDeep}
-use Rattle.tree.specs.Demand.{Good, NoneCross}
+use Rattle.tree.proofs.Laws.Ends.{Good, NoneCross}
 use Rattle.tree.proofs.Laws.Demand.{nests-exactly}
 use Rattle.tree.proofs.Laws.Nested.{Nested}
-use Rattle.tree.specs.Demand.{Reaching}
+use Rattle.tree.proofs.Laws.Ends.{Reaching}
 use Rattle.tree.proofs.Laws.Fault.{fault-none}
 use Rattle.tree.proofs.Laws.Reach.{reaching}
 use Rattle.tree.specs.Tree.{placeWidth, placesFrom, firstErased, treeTests, listingOf, listTree}
 use Rattle.tree.proofs.Laws.WalkTree.{Plain, children-given}
-use Rattle.tree.specs.Demand.{childrenIn}
-use Rattle.tree.specs.Demand.{Listable}
+use Rattle.tree.proofs.Laws.Ends.{childrenIn}
+use Rattle.tree.proofs.Laws.Ends.{Listable}
 
 -- ---- what the tests of the listing come to
 

@@ -32,7 +32,7 @@ use Rattle.tree.specs.Reach.{laterRow, reachBy, reachEnd}
 use Rattle.tree.specs.Nest.{parent}
 use Rattle.tree.proofs.Laws.Nested.{Nested}
 use Rattle.tree.proofs.Laws.Child.{walk-children}
-use Rattle.tree.specs.Demand.{childrenIn}
+use Rattle.tree.proofs.Laws.Ends.{childrenIn}
 
 -- what is known of a table that was read with erased entries left out
 pub record Plain (s rows : List ℕ) (n : ℕ) : Type 0 where
