@@ -11,15 +11,12 @@ pub mod Section
 pub mod Back
 pub mod Only
 pub mod Tagged
+pub mod Index
+pub mod StandardAgrees
 pub mod StandardValue
 pub mod StandardRun
 pub mod StandardEntry
 pub mod StandardRead
-pub mod Index
-pub mod WrittenValue
-pub mod WrittenRun
-pub mod WrittenEntry
-pub mod StandardWritten
 pub mod ExactWritten
 pub mod KnownRun
 pub mod RowsRead
