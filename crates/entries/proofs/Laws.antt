@@ -18,6 +18,10 @@ pub mod StandardRun
 pub mod StandardEntry
 pub mod StandardRead
 pub mod ExactWritten
+pub mod WrittenValue
+pub mod WrittenRun
+pub mod WrittenEntry
+pub mod StandardWritten
 pub mod KnownRun
 pub mod RowsRead
 pub mod Filled
