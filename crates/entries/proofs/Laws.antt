@@ -22,6 +22,7 @@ pub mod WrittenValue
 pub mod WrittenRun
 pub mod WrittenEntry
 pub mod StandardWritten
+pub mod StandardCall
 pub mod KnownRun
 pub mod RowsRead
 pub mod Filled

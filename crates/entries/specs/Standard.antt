@@ -1,11 +1,12 @@
 -- What a section that the standard wrote comes to in a table, and what the typed decoders answer there. How it is written stands in the crate
 -- `standard`, which knows nothing of the reader.
-use Prim.Native.Nat.{ℕ, _+_, _%_}
+use Prim.Native.Nat.{ℕ, _+_, _*_, _%_, _<_}
 use mathlib.Core.Path.{_≡_}
-use mathlib.Core.Bool.{cond}
+use mathlib.Core.Bool.{true, false, cond}
 use mathlib.Core.List.{List, [], _∷_, _++_}
 use lib.ListN.{length}
 use lib.Dec.{eqb}
+use Rattle.lent.specs.Filled.{Filled}
 use Rattle.numbers.specs.declared.Endian.{Endian}
 use Rattle.numbers.specs.declared.Endian.the-variants.{Big, Little}
 use Rattle.numbers.specs.declared.unsigned.Read16.the-variants as read16
@@ -13,11 +14,19 @@ use Rattle.numbers.specs.declared.unsigned.Read32.the-variants as read32
 use Rattle.numbers.specs.declared.unsigned.Read64.the-variants as read64
 use Rattle.standard.specs.Numbers.{OnList, attributes, tags, paddingTag, Form, ADDR, REF, BLOCK2, BLOCK4, DATA2, DATA4, DATA8, STRING, formNumber}
 use Rattle.standard.specs.Entries.{Value, number, bytes, Attribute, writtenAttribute, Die, null, padding, entry, writtenDie, writtenDies, valuesOf}
+use Rattle.format.specs.Limits.{sectionLimit}
+use Rattle.format.specs.Said.{Said, gives}
+use Rattle.format.specs.Settings.{settingsHold}
+use Rattle.format.specs.declared.settings.Settings.{Settings}
 use Rattle.attributes.specs.Decode.{addressAt, referenceAt, data2At, data4At, data8At}
 use Rattle.attributes.specs.Parts.{blockAt, textAt}
 use Rattle.attributes.specs.declared.decode.Endians.{Endians}
+use Rattle.tables.specs.Row.{rowWidth, attrWidth, rowsWords, attrsWords}
+use Rattle.tables.specs.Holds.{fitting}
 use Rattle.tables.specs.declared.row.Row.{Row}
 use Rattle.tables.specs.declared.row.Attr.{Attr}
+use Rattle.tables.specs.declared.row.Counts.{Counts}
+use Rattle.entries.specs.Section.{counts}
 
 -- ---- what is taken of the standard
 
@@ -103,3 +112,44 @@ pub record WrittenAs (vendors : List ℕ) (e : Endian) (s : List ℕ) (rs : List
 pub data StandardTags : List Row → Type 0 where
   none : StandardTags []
   more : (r : Row) (rs : List Row) → OnList (r .kind) tags → StandardTags rs → StandardTags (r ∷ rs)
+
+-- ---- the call
+
+-- a call of `read_debug_section`: what it was lent, what it says, and what the tables then hold
+pub record Call : Type 0 where
+  pub settings : Settings
+  pub vendors : List ℕ
+  pub sizes : List ℕ
+  pub section : List ℕ
+  pub rows : List ℕ
+  pub attrs : List ℕ
+  pub said : Said Counts
+  pub rows-then : List ℕ
+  pub attrs-then : List ℕ
+
+-- the entries of a section that the standard writes with a call's settings
+abbrev pub Dies : Call → Type 0
+Dies c = List (Die (taken (c .vendors)) (c .settings .endian))
+
+-- the rows that they come to
+abbrev pub itsRows : (c : Call) → Dies c → List Row
+itsRows c dies = rowsOf (taken (c .vendors)) (c .settings .endian) 0 0 dies
+
+-- their attributes
+abbrev pub itsAttrs : (c : Call) → Dies c → List Attr
+itsAttrs c dies = attrsOf (taken (c .vendors)) (c .settings .endian) 0 dies
+
+-- settings that hold with the erased flag off, a section that the standard wrote, and room for what it comes to
+pub record WrittenLent (c : Call) (dies : Dies c) : Type 0 where
+  pub settings-hold : settingsHold (c .settings) (c .vendors) (c .sizes) ≡ true
+  pub flag-off : c .settings .erased ≡ false
+  pub is-written : c .section ≡ writtenDies (taken (c .vendors)) (c .settings .endian) dies
+  pub is-short : length (c .section) < sectionLimit
+  pub fits : fitting (counts (length (itsRows c dies)) (length (itsAttrs c dies))) (length (c .rows)) (length (c .attrs)) ≡ true
+
+-- the tables hold exactly what it comes to, from their first word on, and behind it what they held; the decoders answer the values that were written
+pub record WrittenRead (c : Call) (dies : Dies c) : Type 0 where
+  pub says : c .said ≡ gives (counts (length (itsRows c dies)) (length (itsAttrs c dies)))
+  pub rows-filled : Filled (rowsWords (itsRows c dies)) (length (itsRows c dies) * rowWidth) (c .rows) (c .rows-then)
+  pub attrs-filled : Filled (attrsWords (itsAttrs c dies)) (length (itsAttrs c dies) * attrWidth) (c .attrs) (c .attrs-then)
+  pub values : AllDecoded (c .settings .endian) (c .section) (itsAttrs c dies) (valuesOf (taken (c .vendors)) (c .settings .endian) dies)

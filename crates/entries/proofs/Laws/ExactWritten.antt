@@ -1,5 +1,5 @@
 -- What the standard writes is exact: in such a section every entry ends where its size says.
-use Prim.Native.Nat.{ℕ, _+_, _^_, _≤_, _<_}
+use Prim.Native.Nat.{ℕ, _+_, _≤_}
 use native.Mathlib.Omega.{arith}
 use mathlib.Core.Path.{_≡_, subst}
 use mathlib.Core.List.{List, [], _∷_}
@@ -14,7 +14,7 @@ use Rattle.standard.specs.Exact as exact
 use Rattle.entries.proofs.Laws.Tagged.{Tagged, tagged, tag-read}
 use Rattle.entries.proofs.Laws.StandardAgrees.{tag-known}
 use Rattle.entries.proofs.Laws.StandardRun.{attributes-long, run-exact}
-use Rattle.entries.proofs.Laws.StandardEntry.{tag-small, sizeOf, die-length, die-long, size-read, size-fits}
+use Rattle.entries.proofs.Laws.StandardEntry.{tag-small, sizeOf, die-length, size-read, size-fits}
 use Rattle.entries.proofs.Laws.StandardRead.{dies-length, die-stands, others-stand}
 
 module _ {numbers : List ℕ} {e : Endian} (s : List ℕ) where

@@ -4,30 +4,34 @@ use native.Mathlib.Nat.{le-of-suc-le-suc, not-suc-le-zero}
 use native.Mathlib.Decide.{decLe}
 use native.Mathlib.Omega.{arith}
 use mathlib.Core.Path.{_≡_, refl, sym, ap, _∙_, subst}
-use mathlib.Core.Bool.{Bool, true, false, _&&_, _||_, or-true, or-assoc, false≢true}
+use mathlib.Core.Bool.{Bool, true, false, _&&_, _||_, cond, or-true, or-assoc, false≢true}
 use mathlib.Core.List.{List, [], _∷_, _++_}
 use lib.ListN.{length, getD, drop, length-drop}
 use lib.Seq.{getD-drop}
-use lib.Dec.{eqb}
+use lib.Dec.{leb, ltb, eqb}
 use borrow.Author.Tests.{eq-eqb, eqb-true, ltb-true, lt-ltb}
 use Rattle.standard.specs.Numbers.{OnList, Form, ADDR, REF, BLOCK2, BLOCK4, DATA2, DATA4, DATA8, STRING, formNumber}
 use Rattle.standard.specs.Numbers as standard
 use Rattle.standard.specs.Exact.{ValueEnds}
 use Rattle.standard.specs.Exact as exact
-use Rattle.numbers.specs.Value.{valueOf, readAt}
+use Rattle.numbers.specs.Value.{valueOf, there, readAt}
 use Rattle.numbers.specs.declared.Endian.{Endian}
+use Rattle.numbers.proofs.Laws.Tests.{cond-all}
+use Rattle.numbers.proofs.Laws.Value.{there-inside, read-all}
 use Rattle.numbers.proofs.Laws.Written.{inside-there}
 use Rattle.format.specs.Lookup.{isOn, indexOf, lookup}
 use Rattle.format.specs.Known.{known}
 use Rattle.format.specs.AttributeKind.{attributeKinds, used, alsoKnown}
 use Rattle.format.specs.TagKind as tag
-use Rattle.format.specs.FormKind.{forms, formOf}
+use Rattle.format.specs.FormKind as reader
 use Rattle.format.specs.declared.form_kind.FormKind.{FormKind}
 use Rattle.format.specs.declared.form_kind.FormKind.the-variants.{Addr, Ref, Block2, Block4, Data2, Data4, Data8, String, Undefined}
+use Rattle.format.proofs.Laws.Computed.{below, below-at}
 use Rattle.format.proofs.Laws.Lookup.{member-index}
 use Rattle.attributes.specs.Text.{zeroFrom}
 use Rattle.attributes.specs.End.{fixedEnd, blockEnd, textEnd, valueEnd}
-use Rattle.attributes.specs.declared.value.End.the-variants.{At}
+use Rattle.attributes.specs.declared.value.End.{End}
+use Rattle.attributes.specs.declared.value.End.the-variants.{At, Short}
 use Rattle.entries.specs.Standard.{without, taken}
 use Rattle.entries.proofs.Laws.Index.{index-at, index-before}
 use Rattle.entries.proofs.Laws.KnownRun.{by-test}
@@ -116,21 +120,33 @@ kindOf DATA4 = Data4
 kindOf DATA8 = Data8
 kindOf STRING = String
 
-form-named : (form : Form) → lookup forms Undefined (formNumber form) ≡ kindOf form
-unfolding lookup forms formNumber
-form-named ADDR = refl
-form-named REF = refl
-form-named BLOCK2 = refl
-form-named BLOCK4 = refl
-form-named DATA2 = refl
-form-named DATA4 = refl
-form-named DATA8 = refl
-form-named STRING = refl
+-- its number there, and the name of that number
+form-named : (form : Form) → (reader.formNumber (kindOf form) ≡ formNumber form) × (lookup reader.forms Undefined (formNumber form) ≡ kindOf form) × (1 ≤ formNumber form)
+unfolding formNumber reader.formNumber lookup reader.forms
+form-named ADDR = (refl, refl, omega arith)
+form-named REF = (refl, refl, omega arith)
+form-named BLOCK2 = (refl, refl, omega arith)
+form-named BLOCK4 = (refl, refl, omega arith)
+form-named DATA2 = (refl, refl, omega arith)
+form-named DATA4 = (refl, refl, omega arith)
+form-named DATA8 = (refl, refl, omega arith)
+form-named STRING = (refl, refl, omega arith)
 
 -- the low four bits say the form
-pub form-agrees : (n : ℕ) (form : Form) → n % 16 ≡ formNumber form → formOf n ≡ kindOf form
-unfolding formOf
-form-agrees n form p = ap (lookup forms Undefined) p ∙ form-named form
+pub form-agrees : (n : ℕ) (form : Form) → n % 16 ≡ formNumber form → reader.formOf n ≡ kindOf form
+unfolding reader.formOf
+form-agrees n form p = ap (lookup reader.forms Undefined) p ∙ form-named form .1
+
+-- and nothing else does
+pub form-only : (n : ℕ) (form : Form) → reader.formOf n ≡ kindOf form → n % 16 ≡ formNumber form
+unfolding reader.formOf reader.forms reader.formNumber lookup below
+form-only n form p =
+    let number : reader.formNumber (reader.formOf n) ≡ formNumber form = ap reader.formNumber p ∙ form-named form .0 in
+    let low : reader.formNumber (reader.formOf n) ≡ cond (leb (n % 16) 8) (n % 16) 0 =
+    eqb-true _ _ (below-at 16 (λ (k : ℕ). eqb (reader.formNumber (lookup reader.forms Undefined k)) (cond (leb k 8) k 0)) refl (n % 16) (omega arith))
+    in
+    cond-all (λ (k : ℕ). k ≡ formNumber form → n % 16 ≡ formNumber form) (leb (n % 16) 8) (λ t q. q) (λ t q. let some : 1 ≤ formNumber form = form-named form .2 in absurd (omega arith))
+    (sym low ∙ number)
 
 -- ---- extents
 
@@ -175,3 +191,52 @@ ends-told {s = s} (exact.data2 at) h = fixed-told s at 2 h
 ends-told {s = s} (exact.data4 at) h = fixed-told s at 4 h
 ends-told {s = s} (exact.data8 at) h = fixed-told s at 8 h
 ends-told {s = s} (exact.string at z from before here) h = text-told s at z h (zero-found s at z from h before here)
+
+-- an end that was told, and one that a value has
+abbrev Told : List ℕ → (ℕ → Type 0) → End → Type 0
+Told s Ends (At next) = Ends next × (next ≤ length s)
+Told s Ends (Short field) = Unit
+
+module _ (s : List ℕ) (Ends : ℕ → Type 0) where
+  fixed-ends : (at w : ℕ) → Ends (at + w) → Told s Ends (fixedEnd s at w)
+  unfolding fixedEnd
+  fixed-ends at w h = cond-all (Told s Ends) (there s at w) (λ t. (h, there-inside s at w t)) (λ t. tt)
+
+  block-ends : (at : ℕ) (e : Endian) (w : ℕ) → Ends (at + w + valueOf e w s at) → Told s Ends (blockEnd e w s at)
+  unfolding blockEnd
+  block-ends at e w h =
+      read-all (λ n. fixedEnd s (at + w) n) (Short at) e w s at (Told s Ends) (λ t. fixed-ends (at + w) (valueOf e w s at) h) (λ t. tt)
+
+  text-ends : (at : ℕ) → ((z : ℕ) → at ≤ z → ((i : ℕ) → at ≤ i → i < z → getD s i 0 ≡ 0 → ⊥) → getD s z 0 ≡ 0 → Ends (suc z)) → Told s Ends (textEnd s at)
+  unfolding textEnd zeroFrom
+  text-ends at h =
+      let k : ℕ = indexOf 0 (drop at s) in
+      let left : length (drop at s) ≡ length s - at = length-drop at s in
+      cond-all (Told s Ends) (ltb (at + k) (length s))
+      (λ t.
+      let inside : at + k < length s = ltb-true (at + k) (length s) t in (
+        h (at + k) (omega arith) (λ i from before p. index-before 0 (drop at s) (i - at) (omega arith) (at-place i from p))
+            (sym (getD-drop at s k 0) ∙ index-at 0 (drop at s) (omega arith)),
+        inside,
+      ))
+      (λ t. tt)
+    where
+      at-place : (i : ℕ) → at ≤ i → getD s i 0 ≡ 0 → getD (drop at s) (i - at) 0 ≡ 0
+      at-place i from p = let place : at + (i - at) ≡ i = omega arith in getD-drop at s (i - at) 0 ∙ ap (λ (j : ℕ). getD s j 0) place ∙ p
+
+-- the end of a value of each form
+told-ends : (form : Form) (e : Endian) (s : List ℕ) (at : ℕ) → Told s (ValueEnds e s form at) (valueEnd (kindOf form) e s at)
+unfolding valueEnd
+told-ends ADDR e s at = fixed-ends s _ at 4 (exact.address at)
+told-ends REF e s at = fixed-ends s _ at 4 (exact.reference at)
+told-ends BLOCK2 e s at = block-ends s _ at e 2 (exact.block2 at)
+told-ends BLOCK4 e s at = block-ends s _ at e 4 (exact.block4 at)
+told-ends DATA2 e s at = fixed-ends s _ at 2 (exact.data2 at)
+told-ends DATA4 e s at = fixed-ends s _ at 4 (exact.data4 at)
+told-ends DATA8 e s at = fixed-ends s _ at 8 (exact.data8 at)
+told-ends STRING e s at = text-ends s _ at (exact.string at)
+
+-- it is told to end only there
+pub ends-only : {e : Endian} {s : List ℕ} {form : Form} {at next : ℕ} → valueEnd (kindOf form) e s at ≡ At next
+    → ValueEnds e s form at next × (next ≤ length s)
+ends-only {e} {s} {form} {at} p = subst (Told s (ValueEnds e s form at)) p (told-ends form e s at)

@@ -5,7 +5,7 @@ use native.Mathlib.Decide.{decLe}
 use native.Mathlib.Omega.{arith}
 use mathlib.Core.Path.{_≡_, refl, sym, ap, _∙_}
 use mathlib.Core.Bool.{true, false}
-use mathlib.Core.List.{List, [], _∷_, _++_}
+use mathlib.Core.List.{List, [], _∷_}
 use lib.ListN.{length, length-append}
 use lib.Dec.{leb}
 use borrow.Author.Tests.{lt-ltb, le-ltb, leb-true, ne-eqb}
@@ -16,8 +16,7 @@ use Rattle.numbers.specs.declared.Endian.the-variants.{Big, Little}
 use Rattle.numbers.proofs.Laws.Tests.{cond-all}
 use Rattle.numbers.proofs.Laws.Stands.{Stands, front-stands}
 use Rattle.numbers.proofs.Laws.Written.{bytes-length, number-read, inside-there}
-use Rattle.standard.specs.Numbers.{OnList, paddingTag}
-use Rattle.standard.specs.Numbers as standard
+use Rattle.standard.specs.Numbers.{paddingTag}
 use Rattle.standard.specs.Entries.{writtenAttributes, Die, null, padding, entry, writtenDie}
 use Rattle.format.specs.Said.{Said, gives, refuse, _>>=_, placed}
 use Rattle.format.specs.Lookup.{isOn}
@@ -26,9 +25,9 @@ use Rattle.format.specs.declared.refusal.Reason.the-variants as reason
 use Rattle.format.proofs.Laws.Computed.{allBelow, beyond}
 use Rattle.entries.specs.Source.{Source, source, mode}
 use Rattle.entries.specs.Head.{nullEnd, tagHead, sizeHead, headAt}
-use Rattle.entries.specs.Run.{Run, ran, readRun}
-use Rattle.entries.specs.Entry.{Entry, next, row, flagOf, littleFlag, flagsOf, attributes, entryFrom, readEntry}
-use Rattle.entries.specs.Standard.{taken, dataFlag, writtenFrom, dieAttrs, dieRows}
+use Rattle.entries.specs.Run.{readRun}
+use Rattle.entries.specs.Entry.{Entry, next, flagOf, littleFlag, flagsOf, attributes, entryFrom, readEntry}
+use Rattle.entries.specs.Standard.{taken, dataFlag, dieAttrs, dieRows}
 use Rattle.entries.specs.declared.head.Head.the-variants.{Null, Skipped, Ordinary, Refused}
 use Rattle.entries.proofs.Laws.Tagged.{Tagged, tagged, tagged-length, tag-read}
 use Rattle.entries.proofs.Laws.StandardAgrees.{tag-known}

@@ -14,7 +14,7 @@ use Rattle.numbers.specs.declared.unsigned.Read32.the-variants as read32
 use Rattle.numbers.specs.declared.unsigned.Read64.the-variants as read64
 use Rattle.numbers.proofs.Laws.Stands.{Stands, front-stands, back-stands, stands-byte, part-length}
 use Rattle.numbers.proofs.Laws.Written.{bytes-length, number-read, inside-there, number-answers}
-use Rattle.standard.specs.Numbers.{Form, STRING}
+use Rattle.standard.specs.Numbers.{Form}
 use Rattle.standard.specs.Entries.{Value, Text, text, block, Written, address, reference, block2, block4, data2, data4, data8, string, Attribute, writtenAttribute}
 use Rattle.standard.specs.Exact.{ValueEnds}
 use Rattle.standard.specs.Exact as exact

@@ -3,7 +3,7 @@
 use Prim.Native.Nat.{ℕ, zero, suc, _+_, _≤_, _<_}
 use native.Mathlib.Omega.{arith}
 use mathlib.Core.Path.{_≡_, refl, sym, ap, _∙_, subst}
-use mathlib.Core.Bool.{true, false}
+use mathlib.Core.Bool.{false}
 use mathlib.Core.List.{List, [], _∷_, _++_}
 use lib.ListN.{length, length-append}
 use borrow.Author.Tests.{lt-ltb}
@@ -16,21 +16,20 @@ use Rattle.standard.specs.Numbers as standard
 use Rattle.standard.specs.Entries.{Die, writtenDie, writtenDies}
 use Rattle.standard.specs.Exact.{Attributes, Exact}
 use Rattle.standard.specs.Exact as exact
-use Rattle.format.specs.Said.{Said, gives, placed, _>>=_}
+use Rattle.format.specs.Said.{Said, gives, placed}
 use Rattle.format.specs.Lookup.{isOn}
 use Rattle.format.specs.TagKind as tag
 use Rattle.format.proofs.Laws.Said.{step-gave, given-is, given-refused}
 use Rattle.tables.specs.declared.row.Row.{Row}
 use Rattle.tables.specs.declared.row.Attr.{Attr}
 use Rattle.entries.specs.Source.{source, mode}
-use Rattle.entries.specs.Run.{Run, readRun}
 use Rattle.entries.specs.Entry.{Entry, next, readEntry}
 use Rattle.entries.specs.Walk.{Entries, entries, entriesFrom, readTags}
 use Rattle.entries.specs.Standard.{taken, dataFlag, rowsOf, attrsOf, WrittenAs, StandardTags}
 use Rattle.entries.specs.Standard as table
 use Rattle.entries.proofs.Laws.KnownRun.{by-test}
 use Rattle.entries.proofs.Laws.StandardEntry.{null-head, padding-head, ordinary-head, unknown-head, null-read, padding-read, ordinary-read, refused-read}
-use Rattle.entries.proofs.Laws.StandardRead.{Walks, walks, walk-step, walk-stops, standard-read, standard-values}
+use Rattle.entries.proofs.Laws.StandardRead.{Walks, walks, walk-step, standard-read, standard-values}
 use Rattle.entries.proofs.Laws.WrittenRun.{RunFound, run-found}
 use Rattle.entries.proofs.Laws.WrittenEntry.{DieFound, null-found, padding-found, entry-found}
 

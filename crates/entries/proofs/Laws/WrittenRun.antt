@@ -2,7 +2,7 @@
 use Prim.Native.Nat.{ℕ, zero, suc, _+_, _%_, _≤_, _<_}
 use native.Mathlib.Nat.{le-refl}
 use native.Mathlib.Omega.{arith}
-use mathlib.Core.Path.{_≡_, refl, sym, ap, _∙_}
+use mathlib.Core.Path.{_≡_, sym, ap, _∙_}
 use mathlib.Core.Bool.{true, false}
 use mathlib.Core.List.{List, [], _∷_, _++_}
 use lib.ListN.{length, length-append}
@@ -16,7 +16,7 @@ use Rattle.standard.specs.Numbers.{Form, formNumber}
 use Rattle.standard.specs.Entries.{Attribute, writtenAttribute, writtenAttributes}
 use Rattle.standard.specs.Exact.{ValueEnds, Attributes}
 use Rattle.standard.specs.Exact as exact
-use Rattle.format.specs.Said.{gives, refuse, _>>=_}
+use Rattle.format.specs.Said.{gives, refuse}
 use Rattle.format.specs.Known.{known}
 use Rattle.format.specs.declared.refusal.Reason.the-variants as reason
 use Rattle.format.proofs.Laws.Said.{step-gave, given-is, given-refused}
