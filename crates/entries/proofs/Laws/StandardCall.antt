@@ -46,7 +46,7 @@ unfolding attrsWords attrWords
 attrs-long [] = refl
 attrs-long (a ∷ xs) = let rest : length (attrsWords xs) ≡ length xs * attrWidth = attrs-long xs in omega arith
 
--- ---- over the definition
+-- ---- steps of the definition
 
 -- what passes both tests comes to what the walk gives
 section-given : (settings : Settings) (vendors sizes s : List ℕ) {all : Entries} → settingsHold settings vendors sizes ≡ true → length s < sectionLimit
@@ -59,46 +59,6 @@ off-walk : (settings : Settings) (vendors s : List ℕ) → settings .erased ≡
     → wholeWalk settings vendors s ≡ readTags (source vendors (settings .roles .«global_ref») s) false erasedLimit (mode false (settings .endian)) (length s) 0 0
 unfolding wholeWalk
 off-walk settings vendors s off = rw off
-
-module _ (c : Call)
-    (given : BothGiven (readDebugSection (c .settings) (c .vendors) (c .sizes) (c .section) (c .rows) (c .attrs)) (c .said) (c .rows-then) (c .attrs-then)) where
-  given-read : (dies : Dies c) → WrittenLent c dies → WrittenRead c dies
-  given-read dies lent =
-      let numbers : List ℕ = taken (c .vendors) in
-      let rs : List Row = itsRows c dies in
-      let xs : List Attr = itsAttrs c dies in
-      let s : List ℕ = c .section in
-      let walk : wholeWalk (c .settings) (c .vendors) s ≡ gives (entries rs xs (length s)) =
-      off-walk (c .settings) (c .vendors) s (lent .flag-off)
-      ∙ rw (lent .is-written) (standard-read (c .vendors) (c .settings .roles .«global_ref») (c .settings .endian) erasedLimit dies)
-      in
-      let stored = read-stored (c .settings) (c .vendors) (c .sizes) s (c .rows) (c .attrs)
-      (section-given (c .settings) (c .vendors) (c .sizes) s (lent .settings-hold) (lent .is-short) walk) (lent .fits)
-      in
-      let room : Fits (counts (length rs) (length xs)) (length (c .rows)) (length (c .attrs)) = fits-all (counts (length rs) (length xs)) (length (c .rows)) (length (c .attrs)) (lent .fits) in
-      record {
-        says = given .answer-is ∙ ap (λ (o : Outcomes (Said Counts) ℕ ℕ). o .answer) stored;
-        rows-filled = sets-filled (rowsWords rs) (length rs * rowWidth) (c .rows) (rows-long rs) (room .rows-lent)
-            (given .first-is ∙ ap (λ (o : Outcomes (Said Counts) ℕ ℕ). o .first) stored);
-        attrs-filled = sets-filled (attrsWords xs) (length xs * attrWidth) (c .attrs) (attrs-long xs) (room .attrs-lent)
-            (given .second-is ∙ ap (λ (o : Outcomes (Said Counts) ℕ ℕ). o .second) stored);
-        values = rw (lent .is-written) (standard-values numbers (c .settings .endian) dies);
-      }
-
-  given-written : (n : Counts) → Bytes (c .section) → c .said ≡ gives n → c .settings .erased ≡ false → Exact (c .settings .endian) (c .section) 0
-      → StandardTags (rowsFrom (c .rows-then) 0 (n .rows))
-      → WrittenAs (c .vendors) (c .settings .endian) (c .section) (rowsFrom (c .rows-then) 0 (n .rows)) (attrsFrom (c .attrs-then) 0 (n .attrs))
-  given-written n small says off is-exact tags =
-      let filled = answer-read (c .settings) (c .vendors) (c .sizes) (c .section) (c .rows) (c .attrs) n (sym (given .answer-is) ∙ says) in
-      let rows-are : rowsFrom (c .rows-then) 0 (n .rows) ≡ filled .rs =
-      ap₂ (λ (t : List ℕ) (d : Counts). rowsFrom t 0 (d .rows)) (given .first-is) (filled .counted) ∙ filled .rows-held
-      in
-      let attrs-are : attrsFrom (c .attrs-then) 0 (n .attrs) ≡ filled .xs =
-      ap₂ (λ (t : List ℕ) (d : Counts). attrsFrom t 0 (d .attrs)) (given .second-is) (filled .counted) ∙ filled .attrs-held
-      in
-      rw (rows-are, attrs-are)
-      (standard-written (c .vendors) (c .settings .roles .«global_ref») (c .settings .endian) erasedLimit (c .section) small
-      (sym (off-walk (c .settings) (c .vendors) (c .section) off) ∙ filled .whole) is-exact (rw rows-are at tags))
 
 -- ---- the theorems: whatever the arguments, the result and the state at exit that meet the contract
 
@@ -120,10 +80,41 @@ module _ (κs : Lfts 5) (a : Dens κs call.Kinds.ps) (z : resT call.Kinds.r κs 
 
   -- a section that the standard wrote is read: the counts are said, the tables hold its rows and attributes, the decoders answer its values
   pub written-is-read : (dies : Dies c) → WrittenLent c dies → WrittenRead c dies
-  written-is-read = given-read c given
+  written-is-read dies lent =
+      let numbers : List ℕ = taken (c .vendors) in
+      let rs : List Row = itsRows c dies in
+      let xs : List Attr = itsAttrs c dies in
+      let s : List ℕ = c .section in
+      let walk : wholeWalk (c .settings) (c .vendors) s ≡ gives (entries rs xs (length s)) =
+      off-walk (c .settings) (c .vendors) s (lent .flag-off)
+      ∙ rw (lent .is-written) (standard-read (c .vendors) (c .settings .roles .«global_ref») (c .settings .endian) erasedLimit dies)
+      in
+      let stored = read-stored (c .settings) (c .vendors) (c .sizes) s (c .rows) (c .attrs)
+      (section-given (c .settings) (c .vendors) (c .sizes) s (lent .settings-hold) (lent .is-short) walk) (lent .fits)
+      in
+      let room : Fits (counts (length rs) (length xs)) (length (c .rows)) (length (c .attrs)) = fits-all (counts (length rs) (length xs)) (length (c .rows)) (length (c .attrs)) (lent .fits) in
+      record {
+        says = given .answer-is ∙ ap (λ (o : Outcomes (Said Counts) ℕ ℕ). o .answer) stored;
+        rows-filled = sets-filled (rowsWords rs) (length rs * rowWidth) (c .rows) (rows-long rs) (room .rows-lent)
+            (given .first-is ∙ ap (λ (o : Outcomes (Said Counts) ℕ ℕ). o .first) stored);
+        attrs-filled = sets-filled (attrsWords xs) (length xs * attrWidth) (c .attrs) (attrs-long xs) (room .attrs-lent)
+            (given .second-is ∙ ap (λ (o : Outcomes (Said Counts) ℕ ℕ). o .second) stored);
+        values = rw (lent .is-written) (standard-values numbers (c .settings .endian) dies);
+      }
 
-  -- a section that was read, in which every entry ends where its size says, was written by the standard, as what the tables then hold
+  -- a section that was read, in which every entry ends where its size says, was written by the standard, as what the tables then hold. (`Bytes`: that each
+  -- element of a `&[u8]` is below 256 is not in its contract's terms)
   pub read-was-written : (n : Counts) → Bytes (c .section) → c .said ≡ gives n → c .settings .erased ≡ false → Exact (c .settings .endian) (c .section) 0
       → StandardTags (rowsFrom (c .rows-then) 0 (n .rows))
       → WrittenAs (c .vendors) (c .settings .endian) (c .section) (rowsFrom (c .rows-then) 0 (n .rows)) (attrsFrom (c .attrs-then) 0 (n .attrs))
-  read-was-written = given-written c given
+  read-was-written n small says off is-exact tags =
+      let filled = answer-read (c .settings) (c .vendors) (c .sizes) (c .section) (c .rows) (c .attrs) n (sym (given .answer-is) ∙ says) in
+      let rows-are : rowsFrom (c .rows-then) 0 (n .rows) ≡ filled .rs =
+      ap₂ (λ (t : List ℕ) (d : Counts). rowsFrom t 0 (d .rows)) (given .first-is) (filled .counted) ∙ filled .rows-held
+      in
+      let attrs-are : attrsFrom (c .attrs-then) 0 (n .attrs) ≡ filled .xs =
+      ap₂ (λ (t : List ℕ) (d : Counts). attrsFrom t 0 (d .attrs)) (given .second-is) (filled .counted) ∙ filled .attrs-held
+      in
+      rw (rows-are, attrs-are)
+      (standard-written (c .vendors) (c .settings .roles .«global_ref») (c .settings .endian) erasedLimit (c .section) small
+      (sym (off-walk (c .settings) (c .vendors) (c .section) off) ∙ filled .whole) is-exact (rw rows-are at tags))
