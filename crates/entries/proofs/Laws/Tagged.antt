@@ -1,13 +1,14 @@
 -- A size of four bytes, a tag of two and what follows them, as they stand one after the other.
-use Prim.Native.Nat.{ℕ, _+_}
+use Prim.Native.Nat.{ℕ, _+_, _^_, _<_}
 use native.Mathlib.Omega.{arith}
 use mathlib.Core.Path.{_≡_}
 use mathlib.Core.List.{List, _++_}
 use lib.ListN.{length, length-append}
+use Rattle.numbers.specs.Value.{valueOf}
 use Rattle.numbers.specs.declared.Endian.{Endian}
 use Rattle.numbers.specs.Written.{bytesOf}
 use Rattle.numbers.proofs.Laws.Stands.{Stands, front-stands, back-stands, both-stand}
-use Rattle.numbers.proofs.Laws.Written.{bytes-length}
+use Rattle.numbers.proofs.Laws.Written.{bytes-length, number-read}
 
 -- they stand at `at`
 pub record Tagged (e : Endian) (s : List ℕ) (at size kind : ℕ) (body : List ℕ) : Type 0 where
@@ -46,3 +47,8 @@ module _ (e : Endian) (s : List ℕ) (at size kind : ℕ) (body : List ℕ) wher
       let two : List ℕ = bytesOf e 2 kind in
       both-stand s at (four ++ two) body (both-stand s at four two (t .size-stands) (rw (bytes-length e 4 size) (t .tag-stands)))
       (rw (head-length e size kind) (t .body-stands))
+
+-- the tag is what two bytes behind the size say
+pub tag-read : {e : Endian} {s : List ℕ} {at size kind : ℕ} {body : List ℕ} → kind < 256 ^ 2 → Tagged e s at size kind body
+    → valueOf e 2 s (at + 4) ≡ kind
+tag-read {e} {s} {at} {kind = kind} small t = number-read e 2 s (at + 4) kind small (t .tag-stands)

@@ -1,69 +1,93 @@
--- Attributes that were read one after the other are attributes of the standard, written in the bytes up to where reading stopped.
-use Prim.Native.Nat.{ℕ, zero, suc, _+_, _≤_}
-use native.Mathlib.Decide.{decLe}
+-- Attributes that are exact and were read were written by the standard, and reading stopped at their end.
+use Prim.Native.Nat.{ℕ, zero, suc, _+_, _%_, _≤_, _<_}
+use native.Mathlib.Nat.{le-refl}
 use native.Mathlib.Omega.{arith}
-use mathlib.Core.Path.{_≡_}
-use mathlib.Core.Bool.{false}
+use mathlib.Core.Path.{_≡_, sym, ap, _∙_}
+use mathlib.Core.Bool.{true, false}
 use mathlib.Core.List.{List, [], _∷_, _++_}
 use lib.ListN.{length, length-append}
-use borrow.Author.Tests.{lt-ltb, le-ltb}
-use Rattle.entries.specs.Source.{source}
-use Rattle.numbers.specs.declared.Endian.{Endian}
-use Rattle.format.specs.Said.{Said, gives, refuses, _>>=_}
-use Rattle.attributes.specs.Read.{readAttribute}
-use Rattle.attributes.specs.declared.read.Attribute as attribute
-use Rattle.tables.specs.declared.row.Attr.{Attr}
-use Rattle.entries.specs.Run.{Run, ran, attr, readOn, runEnds, readRun}
+use borrow.Author.Tests.{lt-ltb}
+use Rattle.numbers.specs.Value.{valueOf, readAt}
 use Rattle.numbers.specs.Written.{Bytes}
-use Rattle.entries.specs.Standard.{Attribute, writtenAttribute, writtenAttributes}
+use Rattle.numbers.specs.declared.Endian.{Endian}
 use Rattle.numbers.proofs.Laws.Stands.{Stands, none-stands, both-stand}
-use Rattle.entries.proofs.Laws.WrittenValue.{AttributeFound, Found, attribute-found}
+use Rattle.numbers.proofs.Laws.Written.{inside-there}
+use Rattle.standard.specs.Numbers.{Form, formNumber}
+use Rattle.standard.specs.Entries.{Attribute, writtenAttribute, writtenAttributes}
+use Rattle.standard.specs.Exact.{ValueEnds, Attributes}
+use Rattle.standard.specs.Exact as exact
+use Rattle.format.specs.Said.{gives, refuse}
+use Rattle.format.specs.Known.{known}
+use Rattle.format.specs.declared.refusal.Reason.the-variants as reason
+use Rattle.format.proofs.Laws.Said.{step-gave, given-is, given-refused}
+use Rattle.attributes.specs.Read.{ending, numbered, readAttribute}
+use Rattle.attributes.specs.declared.read.Attribute.the-variants.{Read, Unknown}
+use Rattle.entries.specs.Source.{Source, source}
+use Rattle.entries.specs.Run.{Run, readOn, runEnds, readRun}
+use Rattle.entries.specs.Standard.{taken}
+use Rattle.entries.proofs.Laws.KnownRun.{by-test}
+use Rattle.entries.proofs.Laws.StandardAgrees.{on-listed, taken-agrees, form-agrees, ends-told}
+use Rattle.entries.proofs.Laws.StandardRun.{run-step, run-stops}
+use Rattle.entries.proofs.Laws.WrittenValue.{AttributeFound, attribute-found, value-forward}
 
--- attributes that stand at a place and end there
-pub record RunFound (vendors : List ℕ) (e : Endian) (s : List ℕ) (at next : ℕ) : Type 0 where
-  pub found : List (Attribute vendors e)
-  pub stands : Stands s at (writtenAttributes vendors e found)
-  pub ends : at + length (writtenAttributes vendors e found) ≡ next
+-- attributes that stand at a place and end at another
+pub record RunFound (numbers : List ℕ) (e : Endian) (s : List ℕ) (at next : ℕ) : Type 0 where
+  pub found : List (Attribute numbers e)
+  pub stands : Stands s at (writtenAttributes numbers e found)
+  pub ends : at + length (writtenAttributes numbers e found) ≡ next
 
--- attributes that were read are such
-abbrev pub AllFound : List ℕ → Endian → List ℕ → ℕ → Said Run → Type 0
-AllFound vendors e s at (gives x) = RunFound vendors e s at (x .stopped)
-AllFound vendors e s at (refuses number place counts) = Unit
+-- one attribute more, before the others
+first-found : {numbers : List ℕ} {e : Endian} {s : List ℕ} {at next end : ℕ} → AttributeFound numbers e s at next → RunFound numbers e s next end
+    → RunFound numbers e s at end
+unfolding writtenAttributes
+first-found {numbers} {e} {s} {at} {next} {end} x others =
+    let front : List ℕ = writtenAttribute numbers e (x .found) in
+    let back : List ℕ = writtenAttributes numbers e (others .found) in
+    let whole : length (front ++ back) ≡ length front + length back = length-append front back in
+    let here : at + length front ≡ next = x .ends in
+    let there : next + length back ≡ end = others .ends in
+    record { found = x .found ∷ others .found; stands = both-stand s at front back (x .stands) (rw here (others .stands)); ends = omega arith }
 
-module _ (vendors : List ℕ) (e : Endian) (s : List ℕ) where
-  none-found : (at : ℕ) → at ≤ length s → RunFound vendors e s at at
+-- attributes end where they are said to, not before where they begin
+attributes-forward : {e : Endian} {s : List ℕ} {end at : ℕ} → Attributes e s end at → at ≤ end
+attributes-forward {end = end} exact.none = le-refl end
+attributes-forward (exact.more at next form h p v rest) = omega arith
+
+module _ (vendors : List ℕ) (e : Endian) (s : List ℕ) (at : ℕ) {next : ℕ} {form : Form} (has-form : valueOf e 2 s at % 16 ≡ formNumber form)
+    (ends : ValueEnds e s form (at + 2) next) (fits : next ≤ length s) where
+  -- a number and a value that ends inside are read where the number is known
+  known-read : known vendors (valueOf e 2 s at) ≡ true → readAttribute vendors e s at ≡ Read (valueOf e 2 s at) (at + 2) next
+  unfolding readAttribute numbered ending readAt
+  known-read k =
+      let forward : at + 2 ≤ next = value-forward ends in
+      rw (inside-there s at 2 (omega arith), k, form-agrees (valueOf e 2 s at) form has-form, ends-told ends fits)
+
+  unknown-read : known vendors (valueOf e 2 s at) ≡ false → readAttribute vendors e s at ≡ Unknown at
+  unfolding readAttribute numbered readAt
+  unknown-read k = let forward : at + 2 ≤ next = value-forward ends in rw (inside-there s at 2 (omega arith), k)
+
+-- an unknown number refuses the run
+run-refused : (r : Source) (e : Endian) (end f : ℕ) {at : ℕ} → at < end → readAttribute (r .vendors) e (r .section) at ≡ Unknown at
+    → readRun r e false end (suc f) false at ≡ refuse reason.Attribute at
+unfolding readRun readOn runEnds
+run-refused r e end f {at} h p = rw (lt-ltb at end h, p, readRun)
+
+module _ (vendors : List ℕ) (global : ℕ) (e : Endian) (s : List ℕ) (small : Bytes s) (end : ℕ) (fits : end ≤ length s) where
+  pub run-found : {at : ℕ} → Attributes e s end at → (f : ℕ) {x : Run} → length s < at + f
+      → readRun (source vendors global s) e false end f false at ≡ gives x → RunFound (taken vendors) e s at end × (x .stopped ≡ end)
   unfolding writtenAttributes
-  none-found at h = record { found = []; stands = none-stands h; ends = omega arith }
-
-  first-found : (a : Attr) {at next : ℕ} (r : Said Run) → AttributeFound vendors e s at next → AllFound vendors e s next r
-      → AllFound vendors e s at (r >>= (λ later. gives (ran (a ∷ later .attrs) (later .high) (later .stopped))))
-  unfolding _>>=_ writtenAttributes
-  first-found a {at} {next} (gives later) x others =
-      let front : List ℕ = writtenAttribute vendors e (x .found) in
-      let back : List ℕ = writtenAttributes vendors e (others .found) in
-      let whole : length (front ++ back) ≡ length front + length back = length-append front back in
-      let here : at + length front ≡ next = x .ends in
-      let end : next + length back ≡ later .stopped = others .ends in
-      record { found = x .found ∷ others .found; stands = both-stand s at front back (x .stands) (rw here (others .stands)); ends = omega arith }
-  first-found a (refuses number place counts) x others = tt
-
-  on-found : (at : ℕ) (x : attribute.Attribute) (k : ℕ → ℕ → Said Run) → Found vendors e s at x
-      → ((n next : ℕ) → next ≤ length s → AllFound vendors e s next (k n next)) → AllFound vendors e s at (readOn x k)
-  unfolding readOn
-  on-found at (attribute.the-variants.Read n value next) k x others =
-      let inside : at + length (writtenAttribute vendors e (x .found)) ≤ length s = x .stands .fits in
-      let end : at + length (writtenAttribute vendors e (x .found)) ≡ next = x .ends in
-      first-found (attr n value) (k n next) x (others n next (omega arith))
-  on-found at (attribute.the-variants.Short field) k x others = tt
-  on-found at (attribute.the-variants.Unknown field) k x others = tt
-
-  pub run-found : (global : ℕ) → Bytes s → (end f at : ℕ) → at ≤ length s → AllFound vendors e s at (readRun (source vendors global s) e false end f false at)
-  unfolding readRun runEnds
-  run-found global small end zero at h = none-found at h
-  run-found global small end (suc f) at h =
-      elim (decLe (suc at) end) [
-        | yes b ↦ rw (lt-ltb at end b, readRun)
-            (on-found at (readAttribute vendors e s at) (λ n next. readRun (source vendors global s) e false end f false next) (attribute-found vendors e s small at)
-            (λ n next inside. run-found global small end f next inside))
-        | no b ↦ rw (le-ltb at end (omega arith), readRun) (none-found at h)
-      ]
+  run-found exact.none f h read =
+      let x = given-is (sym (run-stops (source vendors global s) e end f (le-refl end)) ∙ read) in
+      (record { found = []; stands = none-stands fits; ends = omega arith }, ap (λ (run : Run). run .stopped) (sym x))
+  run-found (exact.more at next form before p v rest) zero h read = absurd (omega arith)
+  run-found (exact.more at next form before p v rest) (suc f) h read =
+      let n : ℕ = valueOf e 2 s at in
+      let forward : next ≤ end = attributes-forward rest in
+      let passed : at + 2 ≤ next = value-forward v in
+      by-test (known vendors n)
+      (λ k.
+      let later = step-gave (readRun (source vendors global s) e false end f false next) _ (sym (run-step (source vendors global s) e end f before (known-read vendors e s at p v (omega arith) k)) ∙ read) in
+      let others = run-found rest f (omega arith) (later .1) in
+      let first = attribute-found small (on-listed (taken vendors) (taken-agrees vendors n ∙ k)) p v (omega arith) in
+      (first-found first (others .0), ap (λ (run : Run). run .stopped) (sym (given-is (later .2))) ∙ others .1))
+      (λ k. absurd (given-refused (sym read ∙ run-refused (source vendors global s) e end f before (unknown-read vendors e s at p v (omega arith) k))))
