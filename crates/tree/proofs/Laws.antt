@@ -16,5 +16,6 @@ pub mod WalkTree
 pub mod Demanded
 pub mod Back
 pub mod Only
+pub mod TreeListed
 pub mod TreeTheorem
 pub mod ShutOut

@@ -3,7 +3,7 @@ use Prim.Native.Nat.{ℕ, suc, _+_, _*_, _≤_, _<_}
 use mathlib.Core.Path.{_≡_}
 use mathlib.Core.Logic.{_⊎_, _↔_}
 use mathlib.Core.List.{List, [], _∷_}
-use lib.ListN.{length, getD}
+use lib.ListN.{length, getD, drop}
 use lib.Seq.{sets}
 use Rattle.format.specs.Said.{Said, gives}
 use Rattle.tables.specs.Table.{Rows}
@@ -95,7 +95,7 @@ module _ (t : Rows) where
   pub record Listed (room room′ : List ℕ) : Type 0 where
     pub depths : (j : ℕ) → j < t .count → Depth j (getD room′ (j * 2) 0)
     pub parents : (j : ℕ) → j < t .count → Parent j (getD room′ (j * 2 + 1) 0)
-    pub behind : (k : ℕ) → t .count * 2 ≤ k → getD room′ k 0 ≡ getD room k 0
+    pub behind : drop (t .count * 2) room′ ≡ drop (t .count * 2) room
     pub same-length : length room′ ≡ length room
 
   -- ---- the child walk
@@ -110,12 +110,18 @@ module _ (t : Rows) where
     pub exactly : Exactly (ChildOf i) children
     pub given : length children ≤ length room → (told ≡ gives (length children)) × (room′ ≡ sets room 0 children)
 
--- the theorem: what a listing and a child walk of row i say, and what they leave in the rooms that are lent
-pub record TreeTheorem (t : Rows) (list : List ℕ) (listing : Said ℕ) (list′ : List ℕ) (i : ℕ) (room : List ℕ) (walk : Said ℕ) (room′ : List ℕ) : Type 0 where
-  -- the listing is given exactly when it can be, and then it counts every row
-  pub exactly-when : ((n : ℕ) × (listing ≡ gives n)) ↔ Listable t list
-  pub counted : (n : ℕ) → listing ≡ gives n → n ≡ t .count
+-- a call that is lent a room: the room, what the call says, and the room then
+pub record Called : Type 0 where
+  pub room : List ℕ
+  pub said : Said ℕ
+  pub room′ : List ℕ
+
+-- the theorem, of the listing of a table and of the child walk of its row i
+pub record TreeTheorem (t : Rows) (listing : Called) (i : ℕ) (walk : Called) : Type 0 where
+  -- the listing is given exactly when it can be, and it then tells how many rows there are
+  pub exactly-when : ((n : ℕ) × (listing .said ≡ gives n)) ↔ Listable t (listing .room)
+  pub counted : (n : ℕ) → listing .said ≡ gives n → n ≡ t .count
   -- what it then holds
-  pub contents : Listable t list → Listed t list list′
+  pub contents : Listable t (listing .room) → Listed t (listing .room) (listing .room′)
   -- the child walk of any row
-  pub walked : IsTree t → i < t .count → Walked t i room walk room′
+  pub walked : IsTree t → i < t .count → Walked t i (walk .room) (walk .said) (walk .room′)

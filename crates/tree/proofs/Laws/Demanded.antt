@@ -180,3 +180,101 @@ module _ {s rows : List ℕ} {n : ℕ} (plain : Plain s rows n) (e : Endian) (at
   pub reach-named : {i : ℕ} → i < n → (reach i ≡ 0 → ⊥) → ReachEnds t i (reach i)
   unfolding reachEnd
   reach-named {i} h other = by-named h (siblingOf t i) refl other
+
+  -- ---- what lies in a reach
+
+  pub lies-then : {i j : ℕ} → Lies t i j → (i < n) × (i ≤ j) × (j < reach i) × (j < n)
+  lies-then l =
+      let is = reach-is (l .ends) in
+      let same : reach _ ≡ l .end = is .1 in
+      (is .0, l .from, omega (arith, l .before), omega (arith, l .before, is .3))
+
+  pub lies-when : {i j : ℕ} → i < n → i ≤ j → j < reach i → Lies t i j
+  lies-when {i} {j} h from before = record { end = reach i; ends = reach-named h (λ z. omega arith); from = from; before = before }
+
+  -- by the code's test
+  lies-tested : {i j : ℕ} → i < n → lies n reach i j ≡ true → Lies t i j
+  unfolding lies
+  lies-tested {i} {j} h b = lies-when h (leb-true i j (first-true (leb i j) _ b)) (ltb-true j (reach i) (second-true (leb i j) _ b))
+
+  tested-lies : {i j : ℕ} → Lies t i j → lies n reach i j ≡ true
+  unfolding lies
+  tested-lies {i} {j} l = let is = lies-then l in both-true (le-leb i j (is .1)) (lt-ltb j (reach i) (is .2))
+
+  -- ---- depth
+
+  abbrev isOther : ℕ → ℕ → Bool
+  isOther j i = not (eqb i j) && lies n reach i j
+
+  not-same : {i j : ℕ} → not (eqb i j) ≡ true → i ≡ j → ⊥
+  not-same {i} {j} b e = true≢false (sym b ∙ ap not (eq-eqb i j e))
+
+  pub depth-is : (j : ℕ) → Depth t j (depth n reach j)
+  unfolding depth
+  depth-is j =
+      record {
+        others = allFrom (isOther j) 0 n;
+        exactly = tested-exactly (λ (i : ℕ). (i ≡ j → ⊥) × Lies t i j) (isOther j) n
+          (λ i p. (lies-then (p .1) .0, both-true (ap not (ne-eqb i j (p .0))) (tested-lies (p .1))))
+          (λ i h b. (not-same (first-true (not (eqb i j)) _ b), lies-tested h (second-true (not (eqb i j)) _ b)));
+        many = all-counted (isOther j) n;
+      }
+
+  -- and no other number is
+  pub depth-one : {j d : ℕ} → Depth t j d → d ≡ depth n reach j
+  depth-one {j} a = let b = depth-is j in sym (a .many) ∙ ap length (exactly-one (a .exactly) (b .exactly)) ∙ b .many
+
+  -- ---- parent
+
+  near : (j : ℕ) → Nearest (λ i. lies n reach i j) j (parent n reach j)
+  unfolding parent
+  near j = nearest-below-is (λ i. lies n reach i j) j
+
+  not-lies : {i j : ℕ} → lies n reach i j ≡ false → Lies t i j → ⊥
+  not-lies b l = true≢false (sym (tested-lies l) ∙ b)
+
+  by-parent : (j : ℕ) → j < n → (p : ℕ) → Nearest (λ i. lies n reach i j) j p → Parent t j p
+  by-parent j h zero near = none (λ i l a. not-lies (near .after i (omega arith) l) a)
+  by-parent j h (suc i) near =
+      let below : suc i ≤ j = near .to in
+      nearest i below (lies-tested (omega arith) (near .here i refl)) (λ k l m a. not-lies (near .after k l m) a)
+
+  pub parent-is : (j : ℕ) → j < n → Parent t j (parent n reach j)
+  parent-is j h = by-parent j h (parent n reach j) (near j)
+
+  -- and no other row is
+  none-nearest : (j : ℕ) → j < n → (p : ℕ) → Nearest (λ i. lies n reach i j) j p → ((i : ℕ) → i < j → Lies t i j → ⊥) → 0 ≡ p
+  none-nearest j h zero at never = refl
+  none-nearest j h (suc i) at never = absurd (never i (at .to) (lies-tested (omega (arith, at .to)) (at .here i refl)))
+
+  one-nearest : (j i p : ℕ) → j < n → Nearest (λ i. lies n reach i j) j p → i < j → Lies t i j → ((k : ℕ) → i < k → k < j → Lies t k j → ⊥) → suc i ≡ p
+  one-nearest j i zero h at before l last = absurd (not-lies (at .after i (omega arith) before) l)
+  one-nearest j i (suc k) h at before l last =
+      let below : suc k ≤ j = at .to in
+      elim (ℕ-discrete i k) [
+        | yes e ↦ ap suc e
+        | no d ↦ elim (decLe k i) [
+          | yes b ↦ absurd (not-lies (at .after i (omega arith) before) l)
+          | no b ↦ absurd (last k (omega arith) below (lies-tested (omega arith) (at .here k refl)))
+        ]
+      ]
+
+  pub parent-one : {j p : ℕ} → j < n → Parent t j p → p ≡ parent n reach j
+  parent-one {j} h (none never) = none-nearest j h (parent n reach j) (near j) never
+  parent-one {j} h (nearest i before l last) = one-nearest j i (parent n reach j) h (near j) before l last
+
+  -- ---- children
+
+  abbrev isChildOf : ℕ → ℕ → Bool
+  isChildOf i c = eqb (parent n reach c) (suc i) && not (nullRow rows c)
+
+  pub children-are : (i : ℕ) → Exactly (ChildOf t i) (childrenIn rows n reach i)
+  unfolding nullRow
+  children-are i =
+      tested-exactly (ChildOf t i) (isChildOf i) n
+      (λ c p. (p .0, both-true (eq-eqb (parent n reach c) (suc i) (sym (parent-one (p .0) (p .2)))) (ap not (ne-eqb (rowAt rows c .kind) 0 (p .1)))))
+      (λ c h b. (
+        h,
+        not-same (second-true (eqb (parent n reach c) (suc i)) _ b),
+        subst (Parent t c) (eqb-true (parent n reach c) (suc i) (first-true (eqb (parent n reach c) (suc i)) _ b)) (parent-is c h),
+      ))

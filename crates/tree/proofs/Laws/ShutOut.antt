@@ -47,7 +47,7 @@ use Rattle.tree.specs.Pick.{countBelow, nearestBelow, firstFrom}
 use Rattle.tree.specs.Reach.{reachBy, reachEnd}
 use Rattle.tree.specs.Nest.{lies, depth, parent, crosses, faulty, deep, firstFault, firstDeep}
 use Rattle.tree.specs.Tree.{placeWidth, placesFrom, firstErased, treeTests, listingOf, listTree}
-use Rattle.tree.proofs.Laws.TreeTheorem.{tree-listed}
+use Rattle.tree.proofs.Laws.TreeListed.{tree-listed}
 use Rattle.tree.specs.ShutOut.{fourEach, reading, rowOf, nullSection, firstNull, twoSection}
 
 settings-hold : settingsHold settings [] fourEach ≡ true

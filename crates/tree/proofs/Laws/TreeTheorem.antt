@@ -1,196 +1,179 @@
--- The tree theorem, over the promises of the public functions: take a table that `read_debug_section` filled with erased entries left out, and list and walk it
--- with the section and settings it was read with. Then the listing is given exactly when every reference names a later row or the end, no two reaches overlap
--- without one holding the other, no row lies in more than 32 others' reaches, and the room is enough; it holds every row once, in file order, with its depth and
--- its parent; and the child walk of any row, with room enough, gives exactly the non-null rows with that parent, in order.
-use Rattle.format.proofs.Laws.Said.{must-gave, last-gave, room-gave, fill-gave}
-use Prim.Native.Nat.{ℕ, zero, suc, _+_, _*_, _≤_, _<_}
+-- The tree theorem (demand 3) of the public calls, over their own contracts: take a table that `read_debug_section` filled with erased entries left out,
+-- and list and walk it with the section and settings it was read with. What is said there is `TreeTheorem` of specs/Demand.
+use Prim.Native.Nat.{ℕ, _+_, _*_, _≤_, _<_}
 use native.Mathlib.Omega.{arith}
-use mathlib.Core.Path.{_≡_, refl, sym, ap, _∙_}
-use mathlib.Core.Logic.{_↔_}
-use mathlib.Core.Bool.{Bool, true, false}
+use mathlib.Core.Path.{_≡_, refl, sym, ap, subst, _∙_}
+use mathlib.Core.Logic.{_⊎_, inl, inr, _↔_, ⊎-elim}
+use mathlib.Core.Bool.{false}
 use mathlib.Core.List.{List}
-use lib.ListN.{length, getD}
-use lib.Seq.{sets}
-use lib.Dec.{leb, ltb}
-use borrow.Author.Tests.{le-ltb, le-leb, leb-true, ltb-false}
-use Rattle.tables.specs.Table.{table}
-use Rattle.lent.specs.Outcome.{Outcome, outcome, Given, BothGiven}
-use Rattle.format.specs.Said.{Said, gives, must, _>>_, inRoom, fillsRoom}
-use Rattle.format.specs.Limits.{depthLimit, sectionLimit}
-use Rattle.format.specs.Settings.{settingsHold}
-use Rattle.format.specs.Said.{Said, must, _>>=_, _>>_}
-use Rattle.format.specs.Said as said
+use lib.ListN.{length, getD, drop}
+use lib.Seq.{sets, length-sets}
+use borrow.Fn.Kinds.{Dens, resT, endedOf}
+use denote.Triple.Clauses.{AtExit}
+use denote.Ref.{now}
+use contract.Lifetimes.{Lfts}
+use Rattle.lent.specs.Outcome.{Outcome, Given, BothGiven}
+use Rattle.lent.specs.Filled.{Filled}
+use Rattle.lent.proofs.Laws.Filled.{sets-filled}
+use Rattle.format.specs.Said.{Said, gives}
 use Rattle.format.specs.declared.settings.Settings.{Settings}
-use Rattle.format.specs.declared.refusal.Reason.the-variants as reason
-use Rattle.tables.specs.Row.{rowAt, erasedRow}
-use Rattle.tables.specs.Holds.{tableHolds, TableHolds}
-use Rattle.tables.proofs.Laws.Held.{held-rising, held-inside}
-use Rattle.lent.proofs.Laws.Stores.{sets-back}
-use Rattle.tables.specs.Tests.{testTable}
-use Rattle.tables.specs.Keyed.{foundRow, rowOf}
-use Rattle.tables.proofs.Laws.Find.{row-of-own-key}
+use Rattle.format.proofs.Laws.Said.{room-gave, fill-gave}
+use Rattle.tables.specs.Table.{Table, table, Rows, tableRows}
+use Rattle.tables.specs.Row.{rowAt}
 use Rattle.tables.specs.declared.row.Counts.{Counts}
-use Rattle.entries.specs.Section.{readDebugSection}
-use Rattle.entries.proofs.Laws.Filled.{filled-holds}
-use Rattle.entries.proofs.Laws.Unerased.{none-erased, answer-tested}
-use Rattle.links.specs.Children as children
-use Rattle.links.specs.Inside.Children.{listedInto}
-use Rattle.tree.specs.Pick.{firstFrom}
-use Rattle.tree.proofs.Laws.Pick.{first-none, first-from-is}
+use Rattle.entries.specs.Section.{saidSection, readDebugSection}
+use Rattle.entries.proofs.section.read_debug_section as read
+use Rattle.links.specs.Children.{saidChildRows, childrenOfKey}
+use Rattle.links.proofs.children.children as walk
 use Rattle.tree.specs.Reach.{reachIn}
-use Rattle.tree.specs.Nest.{depth, parent, deep, firstFault, firstDeep}
-use Rattle.tree.proofs.Laws.Ends.{Good, NoneCross}
-use Rattle.tree.proofs.Laws.Demand.{nests-exactly}
-use Rattle.tree.proofs.Laws.Nested.{Nested}
-use Rattle.tree.proofs.Laws.Ends.{Reaching}
-use Rattle.tree.proofs.Laws.Fault.{fault-none}
-use Rattle.tree.proofs.Laws.Reach.{reaching}
-use Rattle.tree.specs.Tree.{placeWidth, placesFrom, firstErased, treeTests, listingOf, listTree}
-use Rattle.tree.proofs.Laws.WalkTree.{Plain, children-given}
-use Rattle.tree.proofs.Laws.Ends.{childrenIn}
-use Rattle.tree.proofs.Laws.Ends.{Listable}
+use Rattle.tree.specs.Nest.{depth, parent}
+use Rattle.tree.specs.Tree.{saidListing, placesFrom, listingOf, treeTests, listTree}
+use Rattle.tree.specs.Demand.{keyOf, Lies, Overlap, Depth, Parent, IsTree, Listable, Listed, Walked, Called, TreeTheorem}
+use Rattle.tree.proofs.Laws.Ends.{Good, NoneCross, childrenIn}
+use Rattle.tree.proofs.Laws.Ends as ends
+use Rattle.tree.proofs.Laws.Demanded.{reach-is, reach-named, lies-then, lies-when, depth-is, depth-one, parent-is, children-are}
+use Rattle.tree.proofs.Laws.WalkTree.{Plain}
+use Rattle.tree.proofs.Laws.TreeListed.{plain, places-length, tree-listed, listed-exactly, listing-holds, listing-places, walk-holds}
+use Rattle.tree.proofs.listing.list_tree as list
 
--- ---- what the tests of the listing come to
-
-module _ (rows : List ℕ) (n : ℕ) (reach : ℕ → ℕ) (room : List ℕ) where
-  listing-given : leb n (firstErased rows n) ≡ true → leb n (firstFault n reach) ≡ true → leb n (firstDeep n reach) ≡ true
-      → leb (n * placeWidth) (length room) ≡ true → listingOf rows n reach room ≡ outcome (gives n) (sets room 0 (placesFrom n reach 0 n))
-  unfolding listingOf treeTests inRoom fillsRoom must _>>_
-  listing-given a b c d = rw (a, b, c, d)
-
-  -- all four tests pass
-  passes : listingOf rows n reach room .answer ≡ gives n
-      → (leb n (firstFault n reach) ≡ true) × (leb n (firstDeep n reach) ≡ true) × (leb (n * placeWidth) (length room) ≡ true)
-      × (listingOf rows n reach room .room ≡ sets room 0 (placesFrom n reach 0 n))
-  unfolding listingOf treeTests
-  passes p =
-      let tests = room-gave room (treeTests rows n reach) _ p in
-      let whole = must-gave (leb n (firstErased rows n)) reason.Kind _ _ (tests .1) in
-      let sound = must-gave (leb n (firstFault n reach)) reason.Link _ _ (whole .1) in
-      let shallow : leb n (firstDeep n reach) ≡ true = last-gave _ reason.Depth _ (sound .1) in
-      let enough = fill-gave (leb (n * placeWidth) (length room)) n _ _ room (tests .2) in
-      (sound .0, shallow, enough .0, ap (λ (o : Outcome (Said ℕ) ℕ). o .room) (listing-given (whole .0) (sound .0) shallow (enough .0)))
-
--- ---- a first row that is not there
-
-first-beyond : (p : ℕ → Bool) (n : ℕ) → leb n (firstFrom p 0 n) ≡ true → firstFrom p 0 n ≡ n
-first-beyond p n h =
-    let most : firstFrom p 0 n ≤ 0 + n = first-from-is p 0 n .to in
-    let least : n ≤ firstFrom p 0 n = leb-true n (firstFrom p 0 n) h in
-    omega arith
-
-none-first : (p : ℕ → Bool) (n : ℕ) → ((j : ℕ) → j < n → p j ≡ false) → leb n (firstFrom p 0 n) ≡ true
-none-first p n h = let all : firstFrom p 0 n ≡ n = first-none p n .1 h in le-leb n (firstFrom p 0 n) (omega arith)
-
--- ---- the places, read back
-
-places-depth : (n : ℕ) (reach : ℕ → ℕ) (i k j : ℕ) → j < k
-    → (getD (placesFrom n reach i k) (j * placeWidth) 0 ≡ depth n reach (i + j)) × (getD (placesFrom n reach i k) (j * placeWidth + 1) 0 ≡ parent n reach (i + j))
-unfolding placesFrom
-places-depth n reach i (suc k) zero h =
-    let place : i + 0 ≡ i = omega arith in
-    (ap (λ (x : ℕ). depth n reach x) (sym place), ap (λ (x : ℕ). parent n reach x) (sym place))
-places-depth n reach i (suc k) (suc j) h =
-    let first : suc j * placeWidth ≡ suc (suc (j * placeWidth)) = omega arith in
-    let second : suc j * placeWidth + 1 ≡ suc (suc (j * placeWidth + 1)) = omega arith in
-    let place : i + suc j ≡ suc i + j = omega arith in
-    let rest = places-depth n reach (suc i) k j (omega arith) in
-    (rw (first, place) (rest .0), rw (second, place) (rest .1))
-
-places-length : (n : ℕ) (reach : ℕ → ℕ) (i k : ℕ) → length (placesFrom n reach i k) ≡ k * placeWidth
-unfolding placesFrom
-places-length n reach i zero = refl
-places-length n reach i (suc k) = let rest : length (placesFrom n reach (suc i) k) ≡ k * placeWidth = places-length n reach (suc i) k in omega arith
-
--- ---- the theorem
+-- ---- over the definitions
 
 module _ (settings : Settings) (vendors sizes s rows₀ attrs₀ : List ℕ) (c : Counts) {rows attrs : List ℕ} (off : settings .erased ≡ false)
-    (read : BothGiven (readDebugSection settings vendors sizes s rows₀ attrs₀) (gives c) rows attrs) where
-  table-holds : tableHolds s vendors rows attrs c ≡ true
-  table-holds = rw (read .first-is, read .second-is) (filled-holds settings vendors sizes s rows₀ attrs₀ c (sym (read .answer-is)))
+    (filled : BothGiven (readDebugSection settings vendors sizes s rows₀ attrs₀) (gives c) rows attrs) where
+  abbrev t : Table
+  t = table s settings vendors sizes rows attrs c
 
-  checked : TableHolds s vendors rows attrs c
-  checked = record { holds = table-holds }
+  abbrev n : ℕ
+  n = c .rows
 
-  tests-pass : (settingsHold settings vendors sizes ≡ true) × (ltb (length s) sectionLimit ≡ true)
-  tests-pass = answer-tested settings vendors sizes s rows₀ attrs₀ c (sym (read .answer-is))
+  abbrev reach : ℕ → ℕ
+  reach = reachIn (table s settings vendors sizes rows attrs c)
 
-  unerased : (j : ℕ) → j < c .rows → erasedRow (rowAt rows j .flags) ≡ false
-  unerased = rw (read .first-is) (none-erased settings vendors sizes s rows₀ attrs₀ c off (sym (read .answer-is)))
+  abbrev sound : Plain s rows n
+  sound = plain settings vendors sizes s rows₀ attrs₀ c off filled
 
-  plain : Plain s rows (c .rows)
-  plain = record { rising = held-rising checked; inside = λ j h. held-inside checked j h; unerased = unerased }
+  -- references that are good and do not cross are what the demand calls a tree
+  tree-then : IsTree (tableRows t) → Good n reach × NoneCross n reach
+  tree-then tree = (
+    λ i h bad. (let is = reach-is sound (settings .endian) attrs (tree .named i h .1) in omega (arith, is .1, is .2)),
+    λ i j h l o. ⊎-elim (λ holds. inl (λ k a. (let is = lies-then sound (settings .endian) attrs (holds k (lies-when sound (settings .endian) attrs l (a .0) (a .1))) in (is .1, is .2))))
+    (λ holds. inr (λ k a. (let is = lies-then sound (settings .endian) attrs (holds k (lies-when sound (settings .endian) attrs h (a .0) (a .1))) in (is .1, is .2))))
+    (tree .nested i j (record {
+      row = o .0;
+      in-first = lies-when sound (settings .endian) attrs h (o .1 .0) (o .1 .1);
+      in-second = lies-when sound (settings .endian) attrs l (o .2 .0) (o .2 .1);
+    })),
+  )
 
-  no-erased : leb (c .rows) (firstErased rows (c .rows)) ≡ true
-  unfolding firstErased
-  no-erased = none-first (λ i. erasedRow (rowAt rows i .flags)) (c .rows) unerased
+  tree-when : Good n reach → NoneCross n reach → IsTree (tableRows t)
+  tree-when good none = record {
+    named = λ i h. (reach i, reach-named sound (settings .endian) attrs h (good i h));
+    nested = λ i j o. (let a = lies-then sound (settings .endian) attrs (o .in-first) in
+      let b = lies-then sound (settings .endian) attrs (o .in-second) in
+      ⊎-elim
+      (λ holds. inl (λ k l. (let is = lies-then sound (settings .endian) attrs l in
+        let inside = holds k (is .1, is .2) in lies-when sound (settings .endian) attrs (a .0) (inside .0) (inside .1))))
+      (λ holds. inr (λ k l. (let is = lies-then sound (settings .endian) attrs l in
+        let inside = holds k (is .1, is .2) in lies-when sound (settings .endian) attrs (b .0) (inside .0) (inside .1))))
+      (none i j (a .0) (b .0) (o .row, (a .1, a .2), (b .1, b .2))));
+  }
 
-  -- with the tests passed, the listing is that of the table's reaches
-  pub tree-listed : (room : List ℕ) → listTree (table s settings vendors sizes rows attrs c) room ≡ listingOf rows (c .rows) (reachIn (table s settings vendors sizes rows attrs c)) room
-  unfolding listTree testTable must _>>_ inRoom
-  tree-listed room = rw (tests-pass .0, tests-pass .1, table-holds)
+  listable-then : (room : List ℕ) → Listable (tableRows t) room → ends.Listable n reach room
+  listable-then room l = record {
+    good = tree-then (l .tree) .0;
+    nest = tree-then (l .tree) .1;
+    shallow = λ j h. l .shallow j (depth n reach j) h (depth-is sound (settings .endian) attrs j);
+    enough = l .fits;
+  }
 
-  -- it is given exactly when
-  pub listed-exactly : (room : List ℕ) {r : Said ℕ} {room′ : List ℕ} → Given (listTree (table s settings vendors sizes rows attrs c) room) r room′
-      → (r ≡ gives (c .rows)) ↔ Listable (c .rows) (reachIn (table s settings vendors sizes rows attrs c)) room
-  unfolding firstFault firstDeep deep
-  listed-exactly room given =
-      let n : ℕ = c .rows in
-      let answer = given .answer-is ∙ ap (λ (o : Outcome (Said ℕ) ℕ). o .answer) (tree-listed room) in (
-        λ p. (let all = passes rows n (reachIn (table s settings vendors sizes rows attrs c)) room (sym answer ∙ p) in
-            let nests = nests-exactly n (reachIn (table s settings vendors sizes rows attrs c)) (reaching (settings .endian) s rows attrs n) .0 (first-beyond _ n (all .0)) in
-            let none = first-none (deep n (reachIn (table s settings vendors sizes rows attrs c))) n .0 (first-beyond (deep n (reachIn (table s settings vendors sizes rows attrs c))) n (all .1)) in
-            record {
-              good = nests .0;
-              nest = nests .1;
-              shallow = λ j h. ltb-false depthLimit (depth n (reachIn (table s settings vendors sizes rows attrs c)) j) (none j h);
-              enough = leb-true (n * placeWidth) (length room) (all .2);
-            }),
-        λ l. (let sound : firstFault n (reachIn (table s settings vendors sizes rows attrs c)) ≡ n = nests-exactly n (reachIn (table s settings vendors sizes rows attrs c)) (reaching (settings .endian) s rows attrs n) .1 (l .good, l .nest) in
-            answer ∙ ap (λ (o : Outcome (Said ℕ) ℕ). o .answer) (listing-given rows n (reachIn (table s settings vendors sizes rows attrs c)) room no-erased (le-leb n (firstFault n (reachIn (table s settings vendors sizes rows attrs c))) (omega arith))
-            (none-first (deep n (reachIn (table s settings vendors sizes rows attrs c))) n (λ j h. le-ltb depthLimit (depth n (reachIn (table s settings vendors sizes rows attrs c)) j) (l .shallow j h))) (le-leb (n * placeWidth) (length room) (l .enough)))),
-      )
+  listable-when : (room : List ℕ) → ends.Listable n reach room → Listable (tableRows t) room
+  listable-when room l = record {
+    tree = tree-when (l .good) (l .nest);
+    shallow = λ j d h a. (let is : d ≡ depth n reach j = depth-one sound (settings .endian) attrs a in omega (arith, l .shallow j h));
+    fits = l .enough;
+  }
 
-  -- what it holds: every row once, in file order, with its depth and its parent; words past them as they were
-  pub listing-holds : (room : List ℕ) {r : Said ℕ} {room′ : List ℕ} → Given (listTree (table s settings vendors sizes rows attrs c) room) r room′
-      → r ≡ gives (c .rows) → room′ ≡ sets room 0 (placesFrom (c .rows) (reachIn (table s settings vendors sizes rows attrs c)) 0 (c .rows))
-  listing-holds room given p =
-      let answer = given .answer-is ∙ ap (λ (o : Outcome (Said ℕ) ℕ). o .answer) (tree-listed room) in
-      given .room-is ∙ ap (λ (o : Outcome (Said ℕ) ℕ). o .room) (tree-listed room) ∙ passes rows (c .rows) (reachIn (table s settings vendors sizes rows attrs c)) room (sym answer ∙ p) .3
-
-  -- row j's two words
-  pub listing-places : (room : List ℕ) {r : Said ℕ} {room′ : List ℕ} → Given (listTree (table s settings vendors sizes rows attrs c) room) r room′
-      → r ≡ gives (c .rows) → (j : ℕ) → j < c .rows
-      → (getD room′ (j * placeWidth) 0 ≡ depth (c .rows) (reachIn (table s settings vendors sizes rows attrs c)) j) × (getD room′ (j * placeWidth + 1) 0 ≡ parent (c .rows) (reachIn (table s settings vendors sizes rows attrs c)) j)
-  listing-places room {r} {room′} given p j h =
-      let n : ℕ = c .rows in
-      let words : List ℕ = placesFrom n (reachIn (table s settings vendors sizes rows attrs c)) 0 n in
-      let long : length words ≡ n * placeWidth = places-length n (reachIn (table s settings vendors sizes rows attrs c)) 0 n in
-      let enough : n * placeWidth ≤ length room = listed-exactly room given .0 p .enough in
-      let back : (k : ℕ) → k < n * placeWidth → getD room′ k 0 ≡ getD words k 0 =
-      λ k l. (let place : k ≡ 0 + k = omega arith in
-      ap (λ (t : List ℕ). getD t k 0) (listing-holds room given p)
-      ∙ ap (λ (x : ℕ). getD (sets room 0 words) x 0) place
-      ∙ sets-back room 0 words k (omega arith) (omega arith))
+  -- a listing that is given tells how many rows there are
+  given-counts : (room : List ℕ) {m : ℕ} → listTree t room .answer ≡ gives m → m ≡ n
+  unfolding listingOf
+  given-counts room {m} p =
+      let listed : listingOf rows n reach room .answer ≡ gives m =
+      sym (ap (λ (o : Outcome (Said ℕ) ℕ). o .answer) (tree-listed settings vendors sizes s rows₀ attrs₀ c off filled room)) ∙ p
       in
-      let told = places-depth n (reachIn (table s settings vendors sizes rows attrs c)) 0 n j h in
-      let place : 0 + j ≡ j = omega arith in (
-        back (j * placeWidth) (omega arith) ∙ told .0 ∙ ap (λ (x : ℕ). depth n (reachIn (table s settings vendors sizes rows attrs c)) x) place,
-        back (j * placeWidth + 1) (omega arith) ∙ told .1 ∙ ap (λ (x : ℕ). parent n (reachIn (table s settings vendors sizes rows attrs c)) x) place,
-      )
+      let tests = room-gave room (treeTests rows n reach) _ listed in
+      sym (fill-gave _ n _ _ room (tests .2) .1)
 
-  -- the child walk of any row, with room enough, gives exactly the non-null rows with that parent, in order
-  pub walk-holds : Good (c .rows) (reachIn (table s settings vendors sizes rows attrs c)) → NoneCross (c .rows) (reachIn (table s settings vendors sizes rows attrs c)) → (i : ℕ) → i < c .rows → (room : List ℕ)
-      → length (childrenIn rows (c .rows) (reachIn (table s settings vendors sizes rows attrs c)) i) ≤ length room → {q : Said ℕ} {room′ : List ℕ}
-      → Given (children.childrenOfKey (table s settings vendors sizes rows attrs c) (rowAt rows i .key) room) q room′
-      → (q ≡ said.gives (length (childrenIn rows (c .rows) (reachIn (table s settings vendors sizes rows attrs c)) i))) × (room′ ≡ sets room 0 (childrenIn rows (c .rows) (reachIn (table s settings vendors sizes rows attrs c)) i))
-  unfolding children.childrenOfKey children.childRowsOf rowOf testTable foundRow must _>>=_ _>>_ listedInto
-  walk-holds good nest i l room h {q} {room′} given =
-      let n : ℕ = c .rows in
-      let all : Reaching n (reachIn (table s settings vendors sizes rows attrs c)) = reaching (settings .endian) s rows attrs n in
-      let nested : Nested n (reachIn (table s settings vendors sizes rows attrs c)) = fault-none n (reachIn (table s settings vendors sizes rows attrs c)) all (nests-exactly n (reachIn (table s settings vendors sizes rows attrs c)) all .1 (good, nest)) in
-      let told : children.childrenOfKey (table s settings vendors sizes rows attrs c) (rowAt rows i .key) room
-      ≡ outcome (said.gives (length (childrenIn rows n (reachIn (table s settings vendors sizes rows attrs c)) i))) (sets room 0 (childrenIn rows n (reachIn (table s settings vendors sizes rows attrs c)) i)) =
-      rw (tests-pass .0, tests-pass .1, table-holds, row-of-own-key (held-rising checked) i l) (children-given plain (settings .endian) attrs nested i l room h)
-      in
-      (given .answer-is ∙ ap (λ (o : Outcome (Said ℕ) ℕ). o .answer) told, given .room-is ∙ ap (λ (o : Outcome (Said ℕ) ℕ). o .room) told)
+  -- the theorem
+  pub tree-holds : (listing walk : Called) (i : ℕ) → Given (listTree t (listing .room)) (listing .said) (listing .room′)
+      → Given (childrenOfKey t (keyOf (tableRows t) i) (walk .room)) (walk .said) (walk .room′) → TreeTheorem (tableRows t) listing i walk
+  tree-holds listing walk i lists walks = record {
+    exactly-when = (
+      λ p. (let said : listing .said ≡ gives n = p .1 ∙ ap gives (given-counts (listing .room) (sym (lists .answer-is) ∙ p .1)) in
+          listable-when (listing .room) (listed-exactly settings vendors sizes s rows₀ attrs₀ c off filled (listing .room) lists .0 said)),
+      λ l. (n, says l),
+    );
+    counted = λ m p. given-counts (listing .room) (sym (lists .answer-is) ∙ p);
+    contents = λ l. (let long : length (placesFrom n reach 0 n) ≡ n * 2 = places-length n reach 0 n in
+        let stored : listing .room′ ≡ sets (listing .room) 0 (placesFrom n reach 0 n) =
+        listing-holds settings vendors sizes s rows₀ attrs₀ c off filled (listing .room) lists (says l)
+        in
+        let full : Filled (placesFrom n reach 0 n) (n * 2) (listing .room) (listing .room′) =
+        sets-filled (placesFrom n reach 0 n) (n * 2) (listing .room) long (l .fits) stored
+        in
+        record {
+          depths = λ j h. subst (Depth (tableRows t) j) (sym (places l j h .0)) (depth-is sound (settings .endian) attrs j);
+          parents = λ j h. subst (Parent (tableRows t) j) (sym (places l j h .1)) (parent-is sound (settings .endian) attrs j h);
+          behind = full .behind;
+          same-length = ap length stored ∙ length-sets (listing .room) 0 (placesFrom n reach 0 n);
+        });
+    walked = λ tree h. record {
+      children = childrenIn rows n reach i;
+      exactly = children-are sound (settings .endian) attrs i;
+      given = λ fits. walk-holds settings vendors sizes s rows₀ attrs₀ c off filled (tree-then tree .0) (tree-then tree .1) i h (walk .room) fits walks;
+    };
+  }
+    where
+      says : Listable (tableRows t) (listing .room) → listing .said ≡ gives n
+      says l = listed-exactly settings vendors sizes s rows₀ attrs₀ c off filled (listing .room) lists .1 (listable-then (listing .room) l)
+      places : Listable (tableRows t) (listing .room) → (j : ℕ) → j < n
+          → (getD (listing .room′) (j * 2) 0 ≡ depth n reach j) × (getD (listing .room′) (j * 2 + 1) 0 ≡ parent n reach j)
+      places l j h = listing-places settings vendors sizes s rows₀ attrs₀ c off filled (listing .room) lists (says l) j h
+
+-- ---- over the contracts: any three calls that meet them, the listing and the walk being asked of the table that was read
+
+module _ (κs : Lfts 5) (a : Dens κs read.Kinds.ps) (z : resT read.Kinds.r κs .Denot) (x : AtExit (endedOf 5 read.Kinds.ps read.Kinds.r) κs)
+    (post : read.Reads.Post κs a z x) (c : Counts) (says : saidSection z ≡ gives c) (off : a .1 .0 .erased ≡ false)
+    (κs′ : Lfts 6) (a′ : Dens κs′ list.Kinds.ps) (z′ : resT list.Kinds.r κs′ .Denot) (x′ : AtExit (endedOf 6 list.Kinds.ps list.Kinds.r) κs′)
+    (post′ : list.Reads.Post κs′ a′ z′ x′)
+    (κs″ : Lfts 6) (a″ : Dens κs″ walk.Kinds.ps) (z″ : resT walk.Kinds.r κs″ .Denot) (x″ : AtExit (endedOf 6 walk.Kinds.ps walk.Kinds.r) κs″)
+    (post″ : walk.Reads.Post κs″ a″ z″ x″) (t : Table)
+    (was-read : table (now (a .0)) (a .1 .0) (now (a .1 .1 .0)) (now (a .1 .1 .1 .0)) (now (x .1 .1 .1 .1 .0)) (now (x .1 .1 .1 .1 .1 .0)) c ≡ t)
+    (listed : table (now (a′ .0)) (a′ .1 .0) (now (a′ .1 .1 .0)) (now (a′ .1 .1 .1 .0)) (now (a′ .1 .1 .1 .1 .0)) (now (a′ .1 .1 .1 .1 .1 .0)) (a′ .1 .1 .1 .1 .1 .1 .0) ≡ t)
+    (walked : table (now (a″ .0)) (a″ .1 .0) (now (a″ .1 .1 .0)) (now (a″ .1 .1 .1 .0)) (now (a″ .1 .1 .1 .1 .0)) (now (a″ .1 .1 .1 .1 .1 .0)) (a″ .1 .1 .1 .1 .1 .1 .0) ≡ t)
+    (i : ℕ) (asked : a″ .1 .1 .1 .1 .1 .1 .1 .0 ≡ keyOf (tableRows t) i) where
+  abbrev filled-table : Table
+  filled-table = table (now (a .0)) (a .1 .0) (now (a .1 .1 .0)) (now (a .1 .1 .1 .0)) (now (x .1 .1 .1 .1 .0)) (now (x .1 .1 .1 .1 .1 .0)) c
+
+  abbrev listing : Called
+  listing = record { room = now (a′ .1 .1 .1 .1 .1 .1 .1 .0); said = saidListing z′; room′ = now (x′ .1 .1 .1 .1 .1 .1 .1 .0) }
+
+  abbrev walking : Called
+  walking = record { room = now (a″ .1 .1 .1 .1 .1 .1 .1 .1 .0); said = saidChildRows z″; room′ = now (x″ .1 .1 .1 .1 .1 .1 .1 .1 .0) }
+
+  lists : Given (listTree filled-table (listing .room)) (listing .said) (listing .room′)
+  lists = subst (λ (y : Table). Given (listTree y (listing .room)) (listing .said) (listing .room′)) (listed ∙ sym was-read) post′
+
+  walks : Given (childrenOfKey filled-table (keyOf (tableRows filled-table) i) (walking .room)) (walking .said) (walking .room′)
+  walks =
+      let key : a″ .1 .1 .1 .1 .1 .1 .1 .0 ≡ keyOf (tableRows filled-table) i = asked ∙ ap (λ (y : Table). keyOf (tableRows y) i) (sym was-read) in
+      subst (λ (k : ℕ). Given (childrenOfKey filled-table k (walking .room)) (walking .said) (walking .room′)) key
+      (subst (λ (y : Table). Given (childrenOfKey y (a″ .1 .1 .1 .1 .1 .1 .1 .0) (walking .room)) (walking .said) (walking .room′)) (walked ∙ sym was-read) post″)
+
+  pub tree-theorem :
+      TreeTheorem (tableRows t)
+      (record { room = now (a′ .1 .1 .1 .1 .1 .1 .1 .0); said = saidListing z′; room′ = now (x′ .1 .1 .1 .1 .1 .1 .1 .0) }) i
+      (record { room = now (a″ .1 .1 .1 .1 .1 .1 .1 .1 .0); said = saidChildRows z″; room′ = now (x″ .1 .1 .1 .1 .1 .1 .1 .1 .0) })
+  tree-theorem =
+      subst (λ (y : Table). TreeTheorem (tableRows y) listing i walking) was-read
+      (tree-holds (a .1 .0) (now (a .1 .1 .0)) (now (a .1 .1 .1 .0)) (now (a .0)) (now (a .1 .1 .1 .1 .0)) (now (a .1 .1 .1 .1 .1 .0)) c off
+      (subst (λ (r : Said Counts). BothGiven (readDebugSection (a .1 .0) (now (a .1 .1 .0)) (now (a .1 .1 .1 .0)) (now (a .0)) (now (a .1 .1 .1 .1 .0)) (now (a .1 .1 .1 .1 .1 .0))) r (now (x .1 .1 .1 .1 .0)) (now (x .1 .1 .1 .1 .1 .0))) says post) listing walking i lists walks)
