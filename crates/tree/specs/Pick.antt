@@ -22,8 +22,3 @@ anyBelow p k = ltb 0 (nearestBelow p k)
 unfoldable pub firstFrom : (ℕ → Bool) → ℕ → ℕ → ℕ
 firstFrom p i zero = i
 firstFrom p i (suc k) = cond (p i) i (firstFrom p (suc i) k)
-
--- those of the k numbers from i on that pass, in their order
-unfoldable pub allFrom : (ℕ → Bool) → ℕ → ℕ → List ℕ
-allFrom p i zero = []
-allFrom p i (suc k) = cond (p i) (i ∷ allFrom p (suc i) k) (allFrom p (suc i) k)

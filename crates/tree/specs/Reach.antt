@@ -4,7 +4,7 @@ use mathlib.Core.Bool.{cond}
 use mathlib.Core.List.{List}
 use lib.ListN.{length}
 use lib.Dec.{ltb, eqb}
-use Rattle.tables.specs.Table.{Table, Rows, tableRows}
+use Rattle.tables.specs.Table.{Rows}
 use Rattle.tables.specs.Find.{rowOfKey}
 use Rattle.tables.specs.declared.find.Found.{Found}
 use Rattle.tables.specs.declared.find.Found.the-variants.{At, Nothing}
@@ -26,7 +26,3 @@ reachBy s rows n i reference.Nothing = suc i
 -- the end of row i's reach, by its sibling reference
 unfoldable pub reachEnd : Rows → ℕ → ℕ
 reachEnd t i = reachBy (t .section) (t .rows) (t .count) i (referenceOf (t .endian) (t .section) (t .rows) (t .attrs) i siblingNumber)
-
--- the same of a table and what it is asked with
-abbrev pub reachIn : Table → ℕ → ℕ
-reachIn t i = reachEnd (tableRows t) i

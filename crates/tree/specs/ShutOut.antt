@@ -3,10 +3,8 @@ use Prim.Native.Nat.{ℕ}
 use mathlib.Core.List.{List, [], _∷_}
 use lib.ListN.{replicate}
 use Rattle.lent.specs.Outcome.{Outcomes}
-use Rattle.format.specs.TagKind as tag
 use Rattle.format.specs.InputA.{settingsA as settings}
 use Rattle.format.specs.Said.{Said}
-use Rattle.tables.specs.declared.row.Row.{Row}
 use Rattle.tables.specs.declared.row.Counts.{Counts}
 use Rattle.entries.specs.Section.{readDebugSection}
 
@@ -18,19 +16,11 @@ fourEach = replicate 28 4
 abbrev pub reading : List ℕ → List ℕ → List ℕ → Outcomes (Said Counts) ℕ ℕ
 reading s rows attrs = readDebugSection settings [] fourEach s rows attrs
 
--- an entry's row: big-endian, not erased
-abbrev pub rowOf : ℕ → ℕ → ℕ → ℕ → Row
-rowOf key kind first count = record { key = key; kind = kind; flags = 0; first = first; count = count }
-
 -- ---- three sections, and the entries that reading finds in them
 
 -- a null entry
 abbrev pub nullSection : List ℕ
 nullSection = 0x00 ∷ 0x00 ∷ 0x00 ∷ 0x00 ∷ []
-
--- its row
-abbrev pub firstNull : Row
-firstNull = rowOf 0 tag.Padding 0 0
 
 -- a structure and a subroutine, each with an empty name: an ordinary entry has an attribute, and this is the shortest
 abbrev pub twoSection : List ℕ

@@ -10,7 +10,8 @@ use lib.Dec.{eqb}
 use borrow.Author.Tests.{lt-ltb, le-ltb, le-leb, lt-leb, eq-eqb, ne-eqb}
 use Rattle.numbers.proofs.Laws.Tests.{cond-all}
 use Rattle.links.specs.Walk.{ends, meets, stops, walkFrom}
-use Rattle.tree.specs.Pick.{nearestBelow, allFrom}
+use Rattle.tree.specs.Pick.{nearestBelow}
+use Rattle.tree.proofs.Laws.Pick.{allFrom}
 use Rattle.tree.specs.Nest.{lies, parent}
 use Rattle.tree.proofs.Laws.Nested.{Nested}
 

@@ -22,7 +22,8 @@ use Rattle.tables.specs.declared.find.Found.the-variants.{At, Nothing}
 use Rattle.links.specs.Links.{nullRow}
 use Rattle.links.specs.declared.lookup.Reference.{Reference}
 use Rattle.links.specs.declared.lookup.Reference.the-variants as reference
-use Rattle.tree.specs.Pick.{countBelow, nearestBelow, allFrom}
+use Rattle.tree.specs.Pick.{countBelow, nearestBelow}
+use Rattle.tree.proofs.Laws.Pick.{allFrom}
 use Rattle.tree.specs.Reach.{laterRow, reachBy, reachEnd}
 use Rattle.tree.specs.Nest.{lies, depth, parent}
 use Rattle.tree.specs.Demand.{Among, RiseFrom, Exactly, keyOf, siblingOf, ReachEnds, alone, rest, up-to, Lies, Depth, Parent, none, nearest, ChildOf}
@@ -215,8 +216,8 @@ module _ {s rows : List ℕ} {n : ℕ} (plain : Plain s rows n) (e : Endian) (at
       record {
         others = allFrom (isOther j) 0 n;
         exactly = tested-exactly (λ (i : ℕ). (i ≡ j → ⊥) × Lies t i j) (isOther j) n
-          (λ i p. (lies-then (p .1) .0, both-true (ap not (ne-eqb i j (p .0))) (tested-lies (p .1))))
-          (λ i h b. (not-same (first-true (not (eqb i j)) _ b), lies-tested h (second-true (not (eqb i j)) _ b)));
+            (λ i p. (lies-then (p .1) .0, both-true (ap not (ne-eqb i j (p .0))) (tested-lies (p .1))))
+            (λ i h b. (not-same (first-true (not (eqb i j)) _ b), lies-tested h (second-true (not (eqb i j)) _ b)));
         many = all-counted (isOther j) n;
       }
 

@@ -8,7 +8,7 @@ use lib.ListN.{length}
 use lib.Dec.{eqb}
 use Rattle.format.specs.Limits.{depthLimit}
 use Rattle.links.specs.Links.{nullRow}
-use Rattle.tree.specs.Pick.{allFrom}
+use Rattle.tree.proofs.Laws.Pick.{allFrom}
 use Rattle.tree.specs.Nest.{parent, depth}
 use Rattle.tree.specs.Tree.{placeWidth}
 

@@ -5,7 +5,8 @@ use native.Mathlib.Decide.{ℕ-discrete, decLe}
 use native.Mathlib.Omega.{arith}
 use mathlib.Core.Path.{_≡_, sym, ap, subst, _∙_}
 use mathlib.Core.Logic.{_↔_}
-use mathlib.Core.Bool.{Bool, true, false, true≢false}
+use mathlib.Core.Bool.{Bool, true, false, cond, true≢false}
+use mathlib.Core.List.{List, [], _∷_}
 use borrow.Author.Tests.{lt-ltb, ltb-true}
 use Rattle.numbers.proofs.Laws.Tests.{cond-all}
 use Rattle.tree.specs.Pick.{nearestBelow, anyBelow, firstFrom}
@@ -84,3 +85,10 @@ any-below p k =
         | no h ↦ absurd (true≢false (sym (w .2) ∙ near .after (w .0) (omega arith) (w .1)))
       ],
     )
+
+-- ---- all
+
+-- those of the k numbers from i on that pass, in their order
+unfoldable pub allFrom : (ℕ → Bool) → ℕ → ℕ → List ℕ
+allFrom p i zero = []
+allFrom p i (suc k) = cond (p i) (i ∷ allFrom p (suc i) k) (allFrom p (suc i) k)

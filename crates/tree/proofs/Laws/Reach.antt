@@ -9,7 +9,7 @@ use lib.Dec.{ltb, eqb}
 use borrow.Author.Tests.{lt-ltb, le-ltb, eq-eqb, ne-eqb, ltb-true}
 use Rattle.numbers.proofs.Laws.Tests.{cond-all}
 use Rattle.numbers.specs.declared.Endian.{Endian}
-use Rattle.tables.specs.Table.{lentRows}
+use Rattle.tables.specs.Table.{Table, lentRows, tableRows}
 use Rattle.tables.specs.Find.{rowOfKey}
 use Rattle.tables.proofs.Laws.Find.{row-found}
 use Rattle.tables.specs.declared.find.Found.{Found}
@@ -71,3 +71,9 @@ reaching e s rows attrs n = record { bad-or-later = λ i h. by-reaches s rows n 
 pub reach-within : (e : Endian) (s rows attrs : List ℕ) (n i : ℕ) {r : ℕ} → i < n → r ≡ reachEnd (lentRows e s rows attrs n) i → r ≤ n
 reach-within e s rows attrs n i h is =
     ⊎-elim (λ bad. omega arith) (λ good. omega (arith, good .1)) (reaching e s rows attrs n .bad-or-later i h)
+
+-- ---- of a whole table
+
+-- the same of a table and what it is asked with
+abbrev pub reachIn : Table → ℕ → ℕ
+reachIn t i = reachEnd (tableRows t) i

@@ -3,9 +3,9 @@
 use Prim.Native.Nat.{ℕ, _*_, _≤_, _<_}
 use native.Mathlib.Omega.{arith}
 use mathlib.Core.Path.{_≡_, refl, sym, ap, _∙_, subst}
-use mathlib.Core.Bool.{Bool, true, cond}
+use mathlib.Core.Bool.{Bool, true, false, cond}
 use mathlib.Core.List.{List, [], _∷_, _++_}
-use lib.ListN.{length, getD, drop}
+use lib.ListN.{length, getD, drop, replicate, length-replicate, getD-replicate}
 use lib.Seq.{sets, sets-eq}
 use borrow.Author.Tests.{le-leb, lt-ltb}
 use Rattle.tables.specs.Table.{table, lentRows}
@@ -23,7 +23,8 @@ use Rattle.format.specs.FundType.{fundTypes}
 use Rattle.format.specs.InputA.{inputA, settingsA as settings}
 use Rattle.format.specs.Limits.{sectionLimit, entryLimit, attributeLimit}
 use Rattle.format.specs.Settings.{plays, vendorsHold, roleHolds, roleForm, rolesDiffer, rolesHold, settingsHold}
-use Rattle.format.specs.Said.{Said, gives, refuses, refusal, wanting, must, _>>=_, _>>_, placed, inRoom, fillsRoom}
+use Rattle.format.specs.Said.{Said, gives, refuses, refusal, wanting, must, _>>=_, _>>_, placed, inRoom, inRooms, fillsRoom, fillsRooms}
+use Rattle.format.proofs.Laws.Said.{rooms-gave, fills-gave}
 use Rattle.format.specs.declared.settings.Settings.{Settings}
 use Rattle.format.specs.declared.refusal.Refusal.{Refusal}
 use Rattle.attributes.specs.Text.{zeroFrom}
@@ -38,9 +39,9 @@ use Rattle.tables.specs.declared.row.Counts.{Counts}
 use Rattle.entries.specs.Head.{nullEnd, tagHead, sizeHead, headAt}
 use Rattle.entries.specs.Run.{attr, runEnds, readOn, readRun}
 use Rattle.entries.specs.Entry.{littleFlag, flagOf, flagsOf, attributes, entryFrom, readEntry}
-use Rattle.entries.specs.Walk.{entries, entriesThen, wholeEntry, entriesFrom, readTags}
+use Rattle.entries.specs.Walk.{Entries, entries, entriesThen, wholeEntry, entriesFrom, readTags}
 use Rattle.tables.specs.Holds.{fitting}
-use Rattle.entries.specs.Section.{counts, wholeWalk, sectionEntries, readDebugSection}
+use Rattle.entries.specs.Section.{counts, countsOf, wholeWalk, sectionEntries, readDebugSection}
 use Rattle.entries.proofs.Laws.Section.{attrs-decide, read-stored}
 use Rattle.links.specs.Attribute.{wants, attrFrom, attributeOf, asReference, referenceBy, referenceOf}
 use Rattle.tree.specs.Pick.{countBelow, nearestBelow, firstFrom}
@@ -48,7 +49,7 @@ use Rattle.tree.specs.Reach.{reachBy, reachEnd}
 use Rattle.tree.specs.Nest.{lies, depth, parent, crosses, faulty, deep, firstFault, firstDeep}
 use Rattle.tree.specs.Tree.{placeWidth, placesFrom, firstErased, treeTests, listingOf, listTree}
 use Rattle.tree.proofs.Laws.TreeListed.{tree-listed}
-use Rattle.tree.specs.ShutOut.{fourEach, reading, rowOf, nullSection, firstNull, twoSection}
+use Rattle.tree.specs.ShutOut.{fourEach, reading, nullSection, twoSection}
 
 settings-hold : settingsHold settings [] fourEach ≡ true
 unfolding fourEach fundTypes vendorsHold roleHolds roleForm rolesDiffer rolesHold settingsHold
@@ -75,13 +76,21 @@ abbrev isRead : Said Counts → Type 0
 isRead (gives c) = Unit
 isRead (refuses number place needed) = ⊥
 
-abbrev countsOf : Said Counts → Counts
-countsOf (gives c) = c
-countsOf (refuses number place []) = counts 0 0
-countsOf (refuses number place (rows ∷ [])) = counts rows 0
-countsOf (refuses number place (rows ∷ attrs ∷ more)) = counts rows attrs
+abbrev saidCounts : Said Counts → Counts
+saidCounts (gives c) = c
+saidCounts (refuses number place []) = counts 0 0
+saidCounts (refuses number place (rows ∷ [])) = counts rows 0
+saidCounts (refuses number place (rows ∷ attrs ∷ more)) = counts rows attrs
 
 -- ---- three sections, and the entries that reading finds in them
+
+-- an entry's row: big-endian, not erased
+abbrev rowOf : ℕ → ℕ → ℕ → ℕ → Row
+rowOf key kind first count = record { key = key; kind = kind; flags = 0; first = first; count = count }
+
+-- the row of a null entry
+abbrev firstNull : Row
+firstNull = rowOf 0 tag.Padding 0 0
 
 abbrev twoRows : List Row
 twoRows = rowOf 0 tag.StructureType 0 1 ∷ rowOf 9 tag.Subroutine 1 1 ∷ []
@@ -120,16 +129,7 @@ module _ (rows attrs : List ℕ) (enough : 5 ≤ length rows) where
 
   -- one that answers no rows for everything
   pub no-rows : (n : ℕ) {rows′ attrs′ : List ℕ} → BothGiven (reading nullSection rows attrs) (gives (counts 0 n)) rows′ attrs′ → ⊥
-  no-rows n p = let none : _≡_ {A = ℕ} 0 1 = ap (λ (r : Said Counts). countsOf r .rows) (null-answer p) in absurd (omega arith)
-
-  -- one that writes nothing, where the row does not stand in the table already
-  pub writes-nothing : (rowAt rows 0 ≡ firstNull → ⊥) → {r : Said Counts} {attrs′ : List ℕ} → BothGiven (reading nullSection rows attrs) r rows attrs′ → ⊥
-  unfolding rowsFrom
-  writes-nothing other p =
-      let held : rowsFrom rows 0 1 ≡ firstNull ∷ [] =
-      ap (λ (t : List ℕ). rowsFrom t 0 1) (p .first-is ∙ ap (λ (o : Outcomes (Said Counts) ℕ ℕ). o .first) null-stored) ∙ rows-back rows (firstNull ∷ []) enough
-      in
-      other cc
+  no-rows n p = let none : _≡_ {A = ℕ} 0 1 = ap (λ (r : Said Counts). saidCounts r .rows) (null-answer p) in absurd (omega arith)
 
 -- ---- two entries
 
@@ -146,18 +146,49 @@ first-and-padding rows attrs h k {r} {rows′} padded p =
     let kind : rowAt rows′ 1 .kind ≡ tag.Subroutine = ap (λ (r : Row). r .kind) second in
     absurd (omega arith)
 
+-- one that writes nothing, into tables whose first row is not that of a structure
+module _ (rows attrs : List ℕ) (rows-enough : 10 ≤ length rows) (attrs-enough : 4 ≤ length attrs) where
+  pub writes-nothing : (rowAt rows 0 .kind ≡ tag.StructureType → ⊥) → {r : Said Counts} {attrs′ : List ℕ} → BothGiven (reading twoSection rows attrs) r rows attrs′ → ⊥
+  unfolding rowsFrom
+  writes-nothing other p =
+      let whole = walk-stored twoSection twoRows twoAttrs 18 (walks .1) (omega arith) (omega arith) (omega arith) rows attrs rows-enough attrs-enough in
+      let held : rowsFrom rows 0 2 ≡ twoRows =
+      ap (λ (t : List ℕ). rowsFrom t 0 2) (p .first-is ∙ ap (λ (o : Outcomes (Said Counts) ℕ ℕ). o .first) whole) ∙ rows-back rows twoRows rows-enough
+      in
+      let first : rowAt rows 0 ≡ rowOf 0 tag.StructureType 0 1 = cc in
+      other (ap (λ (r : Row). r .kind) first)
+
+-- so of tables filled with zeros, whatever their lengths
+pub leaves-zeros : (k m : ℕ) → 10 ≤ k → 4 ≤ m → {r : Said Counts} {attrs′ : List ℕ} → BothGiven (reading twoSection (replicate k 0) (replicate m 0)) r (replicate k 0) attrs′ → ⊥
+unfolding rowAt
+leaves-zeros k m h l =
+    writes-nothing (replicate k 0) (replicate m 0) (rw (length-replicate {A = ℕ} k 0) h) (rw (length-replicate {A = ℕ} m 0) l)
+    (λ e. let zero : getD (replicate k 0) 1 0 ≡ 0 = getD-replicate {A = ℕ} k 1 0 0 (omega arith) in absurd (omega arith))
+
 -- ---- any input
 
-module _ (settings : Settings) (vendors fourEach s rows attrs : List ℕ) {c c′ : Counts} {rows₁ rows₁′ attrs₁ attrs₁′ : List ℕ} where
-  -- invented row counts: two answers that both meet the contract have the same counts
-  pub invented-counts : BothGiven (readDebugSection settings vendors fourEach s rows attrs) (gives c) rows₁ attrs₁
-      → BothGiven (readDebugSection settings vendors fourEach s rows attrs) (gives c′) rows₁′ attrs₁′ → c ≡ c′
-  invented-counts p q = ap countsOf (p .answer-is ∙ sym (q .answer-is))
+fit-counts : (all : Entries) (fits : Bool) (rows attrs : List ℕ)
+    → saidCounts (fillsRooms fits (countsOf all) (length (all .rows) ∷ length (all .attrs) ∷ []) (rowsWords (all .rows)) (attrsWords (all .attrs)) rows attrs .answer)
+    ≡ countsOf all
+unfolding fillsRooms
+fit-counts all true rows attrs = refl
+fit-counts all false rows attrs = refl
 
-  -- invented needed counts: so have two that tell what room is needed
-  pub invented-needed : BothGiven (readDebugSection settings vendors fourEach s rows attrs) (wanting (c .rows ∷ c .attrs ∷ [])) rows₁ attrs₁
-      → BothGiven (readDebugSection settings vendors fourEach s rows attrs) (wanting (c′ .rows ∷ c′ .attrs ∷ [])) rows₁′ attrs₁′ → c ≡ c′
-  invented-needed p q = ap countsOf (p .answer-is ∙ sym (q .answer-is))
+module _ (settings : Settings) (vendors sizes s rows attrs : List ℕ) {c : Counts} {rows′ attrs′ : List ℕ} where
+  -- invented row counts: an answer that is given has the counts of what the definition reads
+  pub invented-counts : BothGiven (readDebugSection settings vendors sizes s rows attrs) (gives c) rows′ attrs′
+      → (all : Entries) × (sectionEntries settings vendors sizes s ≡ gives all) × (c ≡ countsOf all)
+  unfolding readDebugSection
+  invented-counts p =
+      let whole = rooms-gave rows attrs (sectionEntries settings vendors sizes s) _ (sym (p .answer-is)) in
+      (whole .0, whole .1, sym (fills-gave _ _ _ _ _ rows attrs (whole .2) .1))
+
+  -- invented needed counts: where the definition reads the section, room that is told as needed is that of what it reads
+  pub invented-needed : {all : Entries} → sectionEntries settings vendors sizes s ≡ gives all
+      → BothGiven (readDebugSection settings vendors sizes s rows attrs) (wanting (c .rows ∷ c .attrs ∷ [])) rows′ attrs′ → c ≡ countsOf all
+  unfolding readDebugSection inRooms
+  invented-needed {all} whole p =
+      ap saidCounts (rw whole at (p .answer-is)) ∙ fit-counts all (fitting (countsOf all) (length rows) (length attrs)) rows attrs
 
 -- ---- the listing of input A
 
@@ -177,7 +208,7 @@ module _ (rows₀ attrs₀ : List ℕ) (rows-enough : 15 ≤ length rows₀) (at
   A-stored = walk-stored inputA rowsA attrsA 42 (walks .2) (omega arith) (omega arith) (omega arith) rows₀ attrs₀ rows-enough attrs-enough
 
   A-counts : c ≡ counts 3 4
-  A-counts = ap countsOf (read .answer-is ∙ ap (λ (o : Outcomes (Said Counts) ℕ ℕ). o .answer) A-stored)
+  A-counts = ap saidCounts (read .answer-is ∙ ap (λ (o : Outcomes (Said Counts) ℕ ℕ). o .answer) A-stored)
 
   A-rows : rows ≡ rowsWords rowsA ++ drop 15 rows₀
   unfolding rowWords rowsWords

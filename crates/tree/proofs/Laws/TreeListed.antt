@@ -34,7 +34,7 @@ use Rattle.links.specs.Children as children
 use Rattle.links.specs.Inside.Children.{listedInto}
 use Rattle.tree.specs.Pick.{firstFrom}
 use Rattle.tree.proofs.Laws.Pick.{first-none, first-from-is}
-use Rattle.tree.specs.Reach.{reachIn}
+use Rattle.tree.proofs.Laws.Reach.{reachIn}
 use Rattle.tree.specs.Nest.{depth, parent, deep, firstFault, firstDeep}
 use Rattle.tree.proofs.Laws.Ends.{Good, NoneCross}
 use Rattle.tree.proofs.Laws.Demand.{nests-exactly}

@@ -25,7 +25,7 @@ use Rattle.entries.specs.Section.{saidSection, readDebugSection}
 use Rattle.entries.proofs.section.read_debug_section as read
 use Rattle.links.specs.Children.{saidChildRows, childrenOfKey}
 use Rattle.links.proofs.children.children as walk
-use Rattle.tree.specs.Reach.{reachIn}
+use Rattle.tree.proofs.Laws.Reach.{reachIn}
 use Rattle.tree.specs.Nest.{depth, parent}
 use Rattle.tree.specs.Tree.{saidListing, placesFrom, listingOf, treeTests, listTree}
 use Rattle.tree.specs.Demand.{keyOf, Lies, Overlap, Depth, Parent, IsTree, Listable, Listed, Walked, Called, TreeTheorem}
@@ -57,25 +57,25 @@ module _ (settings : Settings) (vendors sizes s rows₀ attrs₀ : List ℕ) (c 
   tree-then tree = (
     λ i h bad. (let is = reach-is sound (settings .endian) attrs (tree .named i h .1) in omega (arith, is .1, is .2)),
     λ i j h l o. ⊎-elim (λ holds. inl (λ k a. (let is = lies-then sound (settings .endian) attrs (holds k (lies-when sound (settings .endian) attrs l (a .0) (a .1))) in (is .1, is .2))))
-    (λ holds. inr (λ k a. (let is = lies-then sound (settings .endian) attrs (holds k (lies-when sound (settings .endian) attrs h (a .0) (a .1))) in (is .1, is .2))))
-    (tree .nested i j (record {
-      row = o .0;
-      in-first = lies-when sound (settings .endian) attrs h (o .1 .0) (o .1 .1);
-      in-second = lies-when sound (settings .endian) attrs l (o .2 .0) (o .2 .1);
-    })),
+        (λ holds. inr (λ k a. (let is = lies-then sound (settings .endian) attrs (holds k (lies-when sound (settings .endian) attrs h (a .0) (a .1))) in (is .1, is .2))))
+        (tree .nested i j (record {
+          row = o .0;
+          in-first = lies-when sound (settings .endian) attrs h (o .1 .0) (o .1 .1);
+          in-second = lies-when sound (settings .endian) attrs l (o .2 .0) (o .2 .1);
+        })),
   )
 
   tree-when : Good n reach → NoneCross n reach → IsTree (tableRows t)
   tree-when good none = record {
     named = λ i h. (reach i, reach-named sound (settings .endian) attrs h (good i h));
     nested = λ i j o. (let a = lies-then sound (settings .endian) attrs (o .in-first) in
-      let b = lies-then sound (settings .endian) attrs (o .in-second) in
-      ⊎-elim
-      (λ holds. inl (λ k l. (let is = lies-then sound (settings .endian) attrs l in
+        let b = lies-then sound (settings .endian) attrs (o .in-second) in
+        ⊎-elim
+        (λ holds. inl (λ k l. (let is = lies-then sound (settings .endian) attrs l in
         let inside = holds k (is .1, is .2) in lies-when sound (settings .endian) attrs (a .0) (inside .0) (inside .1))))
-      (λ holds. inr (λ k l. (let is = lies-then sound (settings .endian) attrs l in
+        (λ holds. inr (λ k l. (let is = lies-then sound (settings .endian) attrs l in
         let inside = holds k (is .1, is .2) in lies-when sound (settings .endian) attrs (b .0) (inside .0) (inside .1))))
-      (none i j (a .0) (b .0) (o .row, (a .1, a .2), (b .1, b .2))));
+        (none i j (a .0) (b .0) (o .row, (a .1, a .2), (b .1, b .2))));
   }
 
   listable-then : (room : List ℕ) → Listable (tableRows t) room → ends.Listable n reach room
@@ -135,6 +135,7 @@ module _ (settings : Settings) (vendors sizes s rows₀ attrs₀ : List ℕ) (c 
     where
       says : Listable (tableRows t) (listing .room) → listing .said ≡ gives n
       says l = listed-exactly settings vendors sizes s rows₀ attrs₀ c off filled (listing .room) lists .1 (listable-then (listing .room) l)
+
       places : Listable (tableRows t) (listing .room) → (j : ℕ) → j < n
           → (getD (listing .room′) (j * 2) 0 ≡ depth n reach j) × (getD (listing .room′) (j * 2 + 1) 0 ≡ parent n reach j)
       places l j h = listing-places settings vendors sizes s rows₀ attrs₀ c off filled (listing .room) lists (says l) j h

@@ -27,7 +27,7 @@ use Rattle.links.specs.Children.{childrenMet}
 use Rattle.links.specs.Inside.Children.{listedInto}
 use Rattle.links.specs.declared.lookup.Reference.{Reference}
 use Rattle.links.specs.declared.lookup.Reference.the-variants as reference
-use Rattle.tree.specs.Pick.{allFrom}
+use Rattle.tree.proofs.Laws.Pick.{allFrom}
 use Rattle.tree.specs.Reach.{laterRow, reachBy, reachEnd}
 use Rattle.tree.specs.Nest.{parent}
 use Rattle.tree.proofs.Laws.Nested.{Nested}
