@@ -72,5 +72,6 @@ expected = open(EXPECTED, encoding='utf8').read().splitlines()
 bad = [f'new: {x}' for x in lines if x not in expected] + [f'gone: {x}' for x in expected if x not in lines] + list(missing())
 for line in bad:
     print('tables: ' + line)
-print(f"tables: the standard's numbers are those of the table, and the format's differ in {sum(x.startswith('  ') for x in lines)} lines, as said")
+if not bad:
+    print(f"tables: the standard's numbers are those of the table, and the format's differ in {sum(x.startswith('  ') for x in lines)} lines, as said")
 sys.exit(1 if bad else 0)
