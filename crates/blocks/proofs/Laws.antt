@@ -1,6 +1,7 @@
 -- Laws. `Number`: a number that was read. `Back`: what is said leads back to the code's enums. `Location` to `Subscripts`: what the code computes. `Filled`: the words
 -- of the dimensions are complete, and fill the room. `Atoms`: runs of atoms by the reader's tables; `StandardRead`: the locations that the standard writes are
--- read back; `StandardWritten`: nothing else is taken; `Vendor`: what is taken besides. `Only`: no second answer fits.
+-- read back; `StandardWritten`: nothing else is taken; `Vendor`: what is taken besides. `Placed`: bytes at a place; `StandardTypes`, `StandardTypesOnly`: both
+-- directions for types. `Only`: no second answer fits.
 pub mod Number
 pub mod Back
 pub mod Location
@@ -14,4 +15,7 @@ pub mod Only
 pub mod Atoms
 pub mod StandardRead
 pub mod Vendor
+pub mod Placed
+pub mod StandardTypes
+pub mod StandardTypesOnly
 pub mod StandardWritten

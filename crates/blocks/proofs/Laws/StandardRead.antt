@@ -2,14 +2,14 @@
 use Prim.Native.Nat.{ℕ, _^_, _<_}
 use mathlib.Core.Path.{_≡_, refl, sym, ap, _∙_}
 use mathlib.Core.Bool.{true, false}
-use mathlib.Core.List.{List, [], _∷_, _++_}
+use mathlib.Core.List.{List, [], _∷_}
 use lib.ListN.{getD}
 use Rattle.numbers.specs.Written.{bytesOf}
 use Rattle.numbers.specs.declared.Endian.{Endian}
 use Rattle.numbers.specs.declared.Endian.the-variants.{Big, Little}
 use Rattle.standard.specs.Locations.{Atom, REG, BASEREG, ADDR, CONST, DEREF2, DEREF4, ADD, writtenAtom, writtenLocation, plus}
 use Rattle.format.specs.LocationOp.{locationOpOf}
-use Rattle.format.specs.declared.location_op.LocationOp.the-variants.{Register, BaseRegister, Address, Const, Add}
+use Rattle.format.specs.declared.location_op.LocationOp.the-variants.{Address, Const, Add}
 use Rattle.format.specs.Said.{gives}
 use Rattle.blocks.specs.Location.{inRegister, atAddress, atRegisterPlus, atomNumber, operandWidth, madeOf, operandAt, isRegister, isRegisterPlus, processOffset, processAddress, processVariableLocation}
 use Rattle.blocks.specs.Standard.{opOf, opsOf, operandOf}

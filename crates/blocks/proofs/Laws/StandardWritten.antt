@@ -7,7 +7,7 @@ use mathlib.Core.Logic.{_⊎_, inl, inr}
 use Rattle.numbers.proofs.Laws.Tests.{cond-all}
 use Rattle.numbers.specs.Value.{valueOf, readAt}
 use Rattle.numbers.proofs.Laws.Value.{read-all}
-use Rattle.numbers.specs.Written.{bytesOf, Bytes}
+use Rattle.numbers.specs.Written.{Bytes}
 use Rattle.numbers.specs.declared.Endian.{Endian}
 use Rattle.numbers.specs.declared.Endian.the-variants.{Big, Little}
 use Rattle.standard.specs.Locations.{Atom, REG, BASEREG, ADDR, CONST, DEREF2, DEREF4, ADD, writtenAtom, writtenLocation, plus}
@@ -17,7 +17,7 @@ use Rattle.format.proofs.Laws.Said.{Of, of-test}
 use Rattle.blocks.specs.Location.{VariablePlace, inRegister, atAddress, atRegisterPlus, shapeOperand, atomNumber, operandWidth, madeOf, operandAt, isRegister, isRegisterPlus, processOffset, processAddress, processVariableLocation}
 use Rattle.blocks.specs.Standard.{opOf, opsOf, operandOf}
 use Rattle.blocks.specs.Vendor.{AlsoRegister}
-use Rattle.blocks.proofs.Laws.Atoms.{Piece, piece, speltPiece, spelt, numberAt, piecesAt, made-spelt, alone-spelt}
+use Rattle.blocks.proofs.Laws.Atoms.{piece, speltPiece, spelt, numberAt, piecesAt, made-spelt, alone-spelt}
 use Rattle.blocks.proofs.Laws.StandardRead.{no-bytes, asPieces, location-agrees}
 use Rattle.blocks.proofs.Laws.Vendor.{fp-spelt}
 

@@ -2,7 +2,7 @@
 use Prim.Native.Nat.{ℕ, _^_, _<_}
 use mathlib.Core.Path.{_≡_, refl, sym, ap, _∙_}
 use mathlib.Core.Bool.{or-true}
-use mathlib.Core.List.{List, [], _∷_, append-nil}
+use mathlib.Core.List.{[], _∷_, append-nil}
 use Rattle.numbers.specs.Written.{bytesOf}
 use Rattle.numbers.specs.declared.Endian.{Endian}
 use Rattle.standard.specs.Locations.{BASEREG, writtenLocation}
