@@ -11,6 +11,7 @@ pub mod Types
 pub mod Subscript
 pub mod Subscripts
 pub mod Filled
+pub mod ElementPlace
 pub mod Only
 pub mod Atoms
 pub mod StandardRead
