@@ -1,5 +1,5 @@
 -- What the theorems against the standard say of the reader. What is written, and how, the crate `standard` says.
-use Prim.Native.Nat.{ℕ, _+_, _%_, _≤_, _<_}
+use Prim.Native.Nat.{ℕ, _+_, _*_, _%_, _≤_, _<_}
 use mathlib.Core.Path.{_≡_}
 use mathlib.Core.Bool.{Bool, true, false}
 use mathlib.Core.List.{List, [], _∷_, _++_}
@@ -11,6 +11,7 @@ use Rattle.standard.specs.Entries.{Value, number, bytes, Written}
 use Rattle.standard.specs.Locations.{Atom, REG, BASEREG, ADDR, CONST, DEREF2, DEREF4, ADD}
 use Rattle.standard.specs.Types.{Modifier, pointer-to, reference-to, const, volatile, Base, fundamental, defined, Typed, Says}
 use Rattle.standard.specs.Types as standard
+use Rattle.standard.specs.Subscripts.{Dimension}
 use Rattle.format.specs.declared.location_op.LocationOp.{LocationOp}
 use Rattle.format.specs.declared.location_op.LocationOp.the-variants as op
 use Rattle.format.specs.declared.modifier.Modifier as reader
@@ -106,3 +107,19 @@ pub record OfStandard (e : Endian) (s : List ℕ) (r : «Type») : Type 0 where
 -- one endianness for all
 abbrev pub alike : Endian → Endians
 alike e = record { section = e; «data» = e }
+
+-- ---- subscripts
+
+-- dimensions begin at 0 and have a last index; 0xFFFFFFFF would be told as none
+abbrev pub FromZero : List Dimension → Type 0
+FromZero [] = Unit
+FromZero (d ∷ dims) = (d .low ≡ 0) × (d .high < 0xFFFFFFFF) × FromZero dims
+
+-- what is told of each: its index type, and one more than its last index
+unfoldable pub toldOf : List Dimension → List ℕ
+toldOf [] = []
+toldOf (d ∷ dims) = d .index ∷ (d .high + 1) ∷ toldOf dims
+
+-- where the value of the element type's attribute stands: behind dimensions of 11 bytes, the format and the attribute's number
+abbrev pub elementAt : List Dimension → ℕ
+elementAt dims = length dims * 11 + 3

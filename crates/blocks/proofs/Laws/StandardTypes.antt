@@ -148,7 +148,7 @@ unfolding numberIn
 number-there e w h q = number-answers gives (refuse reason.Block 0) e w _ _ _ h q
 
 module _ (e : Endian) (w : ℕ) {s : List ℕ} {at : ℕ} (xs : List ℕ) (q : Stands s at (block e w xs)) where
-  block-number : Stands s at (bytesOf e w (length xs))
+  pub block-number : Stands s at (bytesOf e w (length xs))
   unfolding block
   block-number = front-stands s at (bytesOf e w (length xs)) xs q
 
@@ -176,7 +176,7 @@ last-read e w xs {n} type h =
 
 -- ---- a value in the form of its attribute
 
-as-data2 : {e : Endian} {form : Form} {value : Value} {body : List ℕ} → Written e form value body → 5 ≡ formNumber form
+pub as-data2 : {e : Endian} {form : Form} {value : Value} {body : List ℕ} → Written e form value body → 5 ≡ formNumber form
     → (n : ℕ) × (n < 256 ^ 2) × (value ≡ number n) × (body ≡ bytesOf e 2 n)
 unfolding formNumber
 as-data2 (address n h) p = absurd (omega arith)
@@ -188,7 +188,7 @@ as-data2 (data4 n h) p = absurd (omega arith)
 as-data2 (data8 n h) p = absurd (omega arith)
 as-data2 (string xs t) p = absurd (omega arith)
 
-as-reference : {e : Endian} {form : Form} {value : Value} {body : List ℕ} → Written e form value body → 2 ≡ formNumber form
+pub as-reference : {e : Endian} {form : Form} {value : Value} {body : List ℕ} → Written e form value body → 2 ≡ formNumber form
     → (n : ℕ) × (n < 256 ^ 4) × (value ≡ number n) × (body ≡ bytesOf e 4 n)
 unfolding formNumber
 as-reference (address n h) p = absurd (omega arith)
@@ -200,7 +200,7 @@ as-reference (data4 n h) p = absurd (omega arith)
 as-reference (data8 n h) p = absurd (omega arith)
 as-reference (string xs t) p = absurd (omega arith)
 
-as-block2 : {e : Endian} {form : Form} {value : Value} {body : List ℕ} → Written e form value body → 3 ≡ formNumber form
+pub as-block2 : {e : Endian} {form : Form} {value : Value} {body : List ℕ} → Written e form value body → 3 ≡ formNumber form
     → (xs : List ℕ) × (length xs < 256 ^ 2) × (value ≡ bytes xs) × (body ≡ block e 2 xs)
 unfolding formNumber
 as-block2 (address n h) p = absurd (omega arith)
@@ -235,7 +235,7 @@ block2-small : {e : Endian} {form : Form} {xs body : List ℕ} → Written e for
 block2-small w p = let is = as-block2 w p in subst (λ (u : List ℕ). length u < 256 ^ 2) (same-bytes (is .2)) (is .1)
 
 module _ (e : Endian) {s : List ℕ} {at : ℕ} where
-  read-as : {t : Typed} {kind : ℕ} {value : Value} {form : Form} {body : List ℕ} → Says e t kind value → Written e form value body
+  pub read-as : {t : Typed} {kind : ℕ} {value : Value} {form : Form} {body : List ℕ} → Says e t kind value → Written e form value body
       → kind % 16 ≡ formNumber form → Stands s at body → processType (alike e) s kind at ≡ gives (typeAt (saidFrom at value) t)
   unfolding processType fundType modFundType userDefType modUDType saidFrom modifierBytes _>>=_
   read-as (fund type on) w p q =

@@ -48,7 +48,7 @@ module _ (t : List ℕ) (n index size : ℕ) where
 
 module _ (e : Endian) (el : Element) (n at : ℕ) (rest : List ℕ) where
   -- at the end nothing is read
-  at-end : (turns : ℕ) → length rest ≡ 0 → subscriptsFrom e turns el n at rest ≡ atEnd el n
+  pub at-end : (turns : ℕ) → length rest ≡ 0 → subscriptsFrom e turns el n at rest ≡ atEnd el n
   unfolding subscriptsFrom
   at-end zero h = refl
   at-end (suc turns) h = rw (eq-eqb (length rest) 0 h, subscriptsFrom)
