@@ -89,7 +89,7 @@ module _ {numbers : List ℕ} (e : Endian) (a : Attribute numbers e) where
   attribute-value {s} {at} q = rw (bytes-length e 2 (a .kind)) at (back-stands s at (bytesOf e 2 (a .kind)) (a .body) q)
 
   module _ {t : Typed} (says : Says e t (a .kind) (a .value)) where
-    attribute-read : {s : List ℕ} {at : ℕ} → Stands s at (writtenAttribute numbers e a)
+    pub attribute-read : {s : List ℕ} {at : ℕ} → Stands s at (writtenAttribute numbers e a)
         → readAttribute [] e s at ≡ attribute.Read (a .kind) (at + 2) (at + 2 + length (a .body))
     unfolding readAttribute numbered ending
     attribute-read {s} {at} q =
@@ -97,7 +97,7 @@ module _ {numbers : List ℕ} (e : Endian) (a : Attribute numbers e) where
         ∙ rw (known-type says, value-ends e says (a .written) (a .has-form) (attribute-value q))
 
     -- format 8
-    element-read : nextSubscript e (8 ∷ writtenAttribute numbers e a) ≡ gives (element (typeAt (saidFrom 3 (a .value)) t) (3 + length (a .body)))
+    pub element-read : nextSubscript e (8 ∷ writtenAttribute numbers e a) ≡ gives (element (typeAt (saidFrom 3 (a .value)) t) (3 + length (a .body)))
     unfolding subscriptFormatOf subscriptFormats lookup subscriptAs elementTypeAt elementAs _>>=_
     element-read =
         let s : List ℕ = 8 ∷ writtenAttribute numbers e a in
@@ -109,7 +109,7 @@ module _ {numbers : List ℕ} (e : Endian) (a : Attribute numbers e) where
 -- ---- a dimension
 
 module _ (e : Endian) (d : Dimension) where
-  dimension-length : length (writtenDimension e d) ≡ 11
+  pub dimension-length : length (writtenDimension e d) ≡ 11
   unfolding writtenDimension
   dimension-length =
       let index : length (bytesOf e 2 (d .index)) ≡ 2 = bytes-length e 2 (d .index) in
@@ -125,7 +125,7 @@ module _ (e : Endian) (d : Dimension) where
     unfolding writtenDimension
     bounds-stand = front-stands s 0 ((0 ∷ bytesOf e 2 (d .index)) ++ bytesOf e 4 (d .low)) (bytesOf e 4 (d .high)) q
 
-    index-stands : Stands s 1 (bytesOf e 2 (d .index))
+    pub index-stands : Stands s 1 (bytesOf e 2 (d .index))
     index-stands =
         back-stands s 0 (0 ∷ []) (bytesOf e 2 (d .index)) (front-stands s 0 (0 ∷ bytesOf e 2 (d .index)) (bytesOf e 4 (d .low)) bounds-stand)
 
@@ -133,7 +133,7 @@ module _ (e : Endian) (d : Dimension) where
     low-stands =
         rw (bytes-length e 2 (d .index)) at (back-stands s 0 (0 ∷ bytesOf e 2 (d .index)) (bytesOf e 4 (d .low)) bounds-stand)
 
-    high-stands : Stands s 7 (bytesOf e 4 (d .high))
+    pub high-stands : Stands s 7 (bytesOf e 4 (d .high))
     unfolding writtenDimension
     high-stands =
         let front : List ℕ = (0 ∷ bytesOf e 2 (d .index)) ++ bytesOf e 4 (d .low) in
@@ -179,11 +179,11 @@ value-raised at place (number n) = refl
 value-raised at place (bytes xs) = omega arith
 
 -- what a block comes to, with so many dimensions before it, at a place
-abbrev Comes : Typed → Value → ℕ → ℕ → List Dimension → Dimensions
+abbrev pub Comes : Typed → Value → ℕ → ℕ → List Dimension → Dimensions
 Comes t v n at dims = record { array = arrayOf (typeAt (saidFrom (at + elementAt dims) v) t) (n + length dims); words = toldOf dims }
 
 module _ {numbers : List ℕ} (e : Endian) (a : Attribute numbers e) {t : Typed} (says : Says e t (a .kind) (a .value)) where
-  attribute-length : length (writtenAttribute numbers e a) ≡ 2 + length (a .body)
+  pub attribute-length : length (writtenAttribute numbers e a) ≡ 2 + length (a .body)
   unfolding writtenAttribute
   attribute-length = length-append (bytesOf e 2 (a .kind)) (a .body) ∙ ap (λ (k : ℕ). k + length (a .body)) (bytes-length e 2 (a .kind))
 
@@ -224,7 +224,7 @@ module _ {numbers : List ℕ} (e : Endian) (a : Attribute numbers e) {t : Typed}
       one-turn e el n at s turns (omega arith) h ∙ rw (dimension-read e d rest (f .0) (f .1), behind, others, place, many)
 
   module _ (dims : List Dimension) (f : FromZero dims) where
-    whole-read : wholeBlock e (writtenSubscripts e dims a) ≡ gives (Comes t (a .value) 0 0 dims)
+    pub whole-read : wholeBlock e (writtenSubscripts e dims a) ≡ gives (Comes t (a .value) 0 0 dims)
     unfolding wholeBlock
     whole-read = from-read dims f (length (writtenSubscripts e dims a)) sofar.Nothing 0 0 (omega arith)
 

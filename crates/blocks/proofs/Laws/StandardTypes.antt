@@ -277,7 +277,7 @@ module _ (e : Endian) {s : List ℕ} {at : ℕ} where
   read-kind (mod-user ms key small) w p q = tt
 
 module _ {e : Endian} {s : List ℕ} {kind at : ℕ} {t : Typed} {value : Value} (w : SaysAt e s kind at t value) where
-  body-stands : Stands s at (w .body)
+  pub body-stands : Stands s at (w .body)
   body-stands =
       subst (λ (k : ℕ). Stands s k (w .body)) (w .place)
       (subst (λ (u : List ℕ). Stands u (length (w .before)) (w .body)) (sym (w .section)) (split-stands (w .before) (w .body) (w .behind)))
