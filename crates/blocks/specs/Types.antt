@@ -1,6 +1,6 @@
 -- Types (document 01, 'Types, records, sizes'; the Rust's `process_type`). A refusal is that of a block alone: bytes missing 17, a number that is
 -- not known 18.
-use Prim.Native.Nat.{ℕ, _+_, _-_}
+use Prim.Native.Nat.{ℕ, _+_, _-_, _≤_}
 use mathlib.Core.Bool.{cond}
 use mathlib.Core.List.{List, []}
 use lib.ListN.{length, take}
@@ -87,3 +87,7 @@ processType ends s number at =
     (cond (eqb number attribute.ModFundType) (modFundType (ends .section) (at + 2) (blockAt (ends .«data») 2 s at))
     (cond (eqb number attribute.UserDefType) (userDefType ends s at)
     (cond (eqb number attribute.ModUDType) (modUDType (ends .section) (at + 2) (blockAt (ends .«data») 2 s at)) (refuse reason.Block 0))))
+
+-- the modifiers of a type are a part of what it was read from
+abbrev pub ModifiersInside : List ℕ → «Type» → Type 0
+ModifiersInside s t = t .place + t .count ≤ length s

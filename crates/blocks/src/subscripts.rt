@@ -8,11 +8,11 @@ use format::refusal::Refusal;
 use lent::cells::put_cell;
 use numbers::Endian;
 ghost use mathlib.Core.Path.{_≡_};
-ghost use Prim.Native.Nat.{_*_};
+ghost use Prim.Native.Nat.{_+_, _*_, _^_, _<_};
 ghost use lib.ListN.{set};
 ghost use lib.Seq.{sets};
 ghost use Rattle.lent.specs.Outcome.{Given};
-ghost use Rattle.blocks.specs.Subscripts.{saidCounted, saidSubscripts, dimensionWords, elementOr, countSubscripts};
+ghost use Rattle.blocks.specs.Subscripts.{saidCounted, saidSubscripts, dimensionWords, elementOr, raised, countSubscripts};
 ghost use Rattle.blocks.specs.Subscripts.{processArraySubscriptData};
 ghost use Rattle.blocks.specs.Inside.Subscripts.{Walked};
 
@@ -25,7 +25,7 @@ pub enum Element {
     Nothing,
 }
 
-// The element type, and how many dimensions there are.
+// The element type, its modifiers' place counted from the block's first byte, and how many dimensions there are.
 pub enum Counted {
     Are { element: Type, dimensions: usize },
     Refused(Refusal),
@@ -60,6 +60,23 @@ fn element_or(element: Element, dimensions: usize) -> Counted
     }
 }
 
+// A type that was read out of a part which begins at a place, as one of the whole.
+fn raised(of: Type, at: usize) -> Type
+    requires { ⌜ at + of .place < 2 ^ 64 ⌝ }
+    ensures { λ r. ⌜ r ≡ raised at of ⌝ }
+{
+    let kind = of.kind;
+    let place = of.place;
+    let count = of.count;
+    let pointer = of.pointer;
+    Type {
+        kind,
+        place: at + place,
+        count,
+        pointer,
+    }
+}
+
 // Subscript after subscript, each handed the rest that the last one left; the dimensions into the room, as far as they fit.
 fn walk_subscripts(block: &[u8], e: Endian, dims: &mut [u32]) -> Counted
     ensures { λ r. ⌜ Walked e (now (block .entry)) r (now (dims .entry)) (now (dims .exit)) ⌝ }
@@ -75,7 +92,7 @@ fn walk_subscripts(block: &[u8], e: Endian, dims: &mut [u32]) -> Counted
                 rest = &rest[used..];
             }
             Subscript::Element { of, used } => {
-                element = Element::Is(of);
+                element = Element::Is(raised(of, block.len() - rest.len()));
                 rest = &rest[used..];
             }
             Subscript::Refused(why) => return Counted::Refused(why),

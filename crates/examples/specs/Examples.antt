@@ -197,8 +197,8 @@ examples =
     type-attribute number.FundType (0x01 ∷ 0x13 ∷ []) says refused-as 18 ∷
     type-attribute number.ModFundType (0x00 ∷ 0x03 ∷ 0x81 ∷ 0x00 ∷ 0x07 ∷ []) says type-is pointer ∷
     type-attribute number.ModFundType (0x00 ∷ 0x03 ∷ 0x85 ∷ 0x00 ∷ 0x07 ∷ []) says refused-as 18 ∷
-    subscripts (array-of 0 0xff) says array-is (plain 7 3) (7 ∷ 0 ∷ []) ∷
-    subscripts (array-of 0 0xfe) says array-is (plain 7 3) (7 ∷ 4294967295 ∷ []) ∷
+    subscripts (array-of 0 0xff) says array-is (plain 7 14) (7 ∷ 0 ∷ []) ∷
+    subscripts (array-of 0 0xfe) says array-is (plain 7 14) (7 ∷ 4294967295 ∷ []) ∷
     subscripts (array-of 1 0xff) says refused-as 19 ∷
     lists size-first (number.ByteSize ∷ 8 ∷ number.ElementList ∷ 14 ∷ []) says members-are (minus-one ∷ []) ∷
     lists list-first (number.ElementList ∷ 8 ∷ number.ByteSize ∷ 17 ∷ []) says members-are [] ∷ []

@@ -21,11 +21,8 @@ use blocks::location::process_variable_location;
 use blocks::modifiers::Modifiers;
 use blocks::modifiers::process_modifiers;
 use blocks::producer::parse_producer;
-use blocks::subscript::Subscript;
-use blocks::subscript::next_subscript;
 use blocks::subscripts::Subscripts;
 use blocks::subscripts::process_array_subscript_data;
-use blocks::types::Type;
 use blocks::types::Typed;
 use blocks::types::process_type;
 use format::fund_type::FundType;
@@ -92,74 +89,13 @@ fn dimensions(body: &[u8], c: Cursor, dims: &[u32], n: usize) -> Cursor {
     d
 }
 
-// The subscript at a place: where the next one is, and whether it says the element type. Its own place where it is refused.
-struct Step {
-    next: usize,
-    element: bool,
-}
-
-// What `element_at` needs of a subscript.
-fn step_at(block: &[u8], e: Endian, at: usize) -> Step {
-    if block.len() < at {
-        return Step {
-            next: at,
-            element: false,
-        };
-    }
-    match next_subscript(part(block, at, block.len() - at), e) {
-        Subscript::Dimension {
-            index: _,
-            size: _,
-            used,
-        } => Step {
-            next: wrapping_add_usize(at, used),
-            element: false,
-        },
-        Subscript::Element { of: _, used } => Step {
-            next: wrapping_add_usize(at, used),
-            element: true,
-        },
-        Subscript::Refused(_) => Step {
-            next: at,
-            element: false,
-        },
-    }
-}
-
-fn if_element(element: bool, at: usize, other: usize) -> usize {
-    if element { at } else { other }
-}
-
-// Where the subscript begins that says the element type, the last one: places in it count from there.
-fn element_at(block: &[u8], e: Endian) -> usize {
-    let mut found: usize = 0;
-    let mut at: usize = 0;
-    while at < block.len() {
-        let step = step_at(block, e, at);
-        if step.next <= at {
-            return found;
-        }
-        found = if_element(step.element, at, found);
-        at = step.next;
-    }
-    found
-}
-
-fn element(body: &[u8], c: Cursor, block: &[u8], e: Endian, of: Type) -> Cursor {
-    let at = element_at(block, e);
-    if block.len() < at {
-        return c;
-    }
-    of_type(body, c, part(block, at, block.len() - at), of)
-}
-
 fn subscripts(body: &[u8], c: Cursor, block: &[u8], e: Endian) -> Cursor {
     let mut dims = [0u32; 256];
     match process_array_subscript_data(block, e, &mut dims) {
         Subscripts::Read {
             element: of,
             dimensions: n,
-        } => dimensions(body, element(body, given(body, c), block, e, of), &dims, n),
+        } => dimensions(body, of_type(body, given(body, c), block, of), &dims, n),
         Subscripts::Refused(why) => refusal(body, c, why),
         Subscripts::Room { dimensions: _ } => no_room(body, c),
     }

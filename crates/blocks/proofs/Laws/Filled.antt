@@ -15,7 +15,7 @@ use Rattle.lent.specs.Outcome.{outcome, Given}
 use Rattle.numbers.specs.declared.Endian.{Endian}
 use Rattle.format.specs.Said.{Said, gives, refuses, wanting, _>>=_, inRoom, fillsRoom}
 use Rattle.blocks.specs.Subscript.{Part, dimension, element, nextSubscript}
-use Rattle.blocks.specs.Subscripts.{Array, dimensionWords, Dimensions, elementOr, atEnd, before, step, subscriptsFrom, wholeBlock, processArraySubscriptData}
+use Rattle.blocks.specs.Subscripts.{Array, dimensionWords, Dimensions, elementOr, atEnd, before, raised, step, subscriptsFrom, wholeBlock, processArraySubscriptData}
 use Rattle.blocks.specs.declared.subscripts.Element.{Element}
 use Rattle.blocks.specs.declared.subscripts.Element.the-variants as sofar
 use Rattle.blocks.proofs.Laws.Subscripts.{intoRoom}
@@ -38,27 +38,27 @@ one-complete n index size (gives d) h = omega (arith, h)
 one-complete n index size (refuses number place counts) h = tt
 
 step-complete : (next : Element → ℕ → ℕ → Said Dimensions) → ((el : Element) (n used : ℕ) → Of (Complete n) (next el n used))
-    → (el : Element) (n : ℕ) (p : Part) → Of (Complete n) (step next el n p)
+    → (el : Element) (n at : ℕ) (p : Part) → Of (Complete n) (step next el n at p)
 unfolding step
-step-complete next h el n (dimension index size used) = one-complete n index size (next el (suc n) used) (h el (suc n) used)
-step-complete next h el n (element t used) = h (sofar.Is t) n used
+step-complete next h el n at (dimension index size used) = one-complete n index size (next el (suc n) used) (h el (suc n) used)
+step-complete next h el n at (element t used) = h (sofar.Is (raised at t)) n used
 
-from-complete : (e : Endian) (turns : ℕ) (el : Element) (n : ℕ) (block : List ℕ) → Of (Complete n) (subscriptsFrom e turns el n block)
+from-complete : (e : Endian) (turns : ℕ) (el : Element) (n at : ℕ) (rest : List ℕ) → Of (Complete n) (subscriptsFrom e turns el n at rest)
 unfolding subscriptsFrom
-from-complete e zero el n block = end-complete n el
-from-complete e (suc turns) el n block =
-    let next : Element → ℕ → ℕ → Said Dimensions = λ el′ n′ used. subscriptsFrom e turns el′ n′ (drop used block) in
-    elim (eqb (length block) 0) as (λ b. Of (Complete n) (elim b [ true ↦ atEnd el n | false ↦ nextSubscript e block >>= step next el n ])) [
+from-complete e zero el n at rest = end-complete n el
+from-complete e (suc turns) el n at rest =
+    let next : Element → ℕ → ℕ → Said Dimensions = λ el′ n′ used. subscriptsFrom e turns el′ n′ (at + used) (drop used rest) in
+    elim (eqb (length rest) 0) as (λ b. Of (Complete n) (elim b [ true ↦ atEnd el n | false ↦ nextSubscript e rest >>= step next el n at ])) [
       | true ↦ end-complete n el
-      | false ↦ of-next (Complete n) (nextSubscript e block) (step next el n)
-          (λ p. step-complete next (λ el′ n′ used. from-complete e turns el′ n′ (drop used block)) el n p)
+      | false ↦ of-next (Complete n) (nextSubscript e rest) (step next el n at)
+          (λ p. step-complete next (λ el′ n′ used. from-complete e turns el′ n′ (at + used) (drop used rest)) el n at p)
     ]
 
 -- the theorem
 pub words-many : (e : Endian) (block : List ℕ) {d : Dimensions} → wholeBlock e block ≡ gives d → length (d .words) ≡ d .array .dimensions * 2
 unfolding wholeBlock
 words-many e block {d} p =
-    let all : 0 * 2 + length (d .words) ≡ d .array .dimensions * 2 = subst (Of (Complete 0)) p (from-complete e (length block) sofar.Nothing 0 block) in
+    let all : 0 * 2 + length (d .words) ≡ d .array .dimensions * 2 = subst (Of (Complete 0)) p (from-complete e (length block) sofar.Nothing 0 0 block) in
     omega (arith, all)
 
 -- ---- in lent room

@@ -13,7 +13,7 @@ use Rattle.numbers.specs.Value.{there}
 use Rattle.numbers.proofs.Laws.Value.{there-inside}
 use Rattle.numbers.specs.declared.Endian.{Endian}
 use Rattle.format.specs.SubscriptFormat.{subscriptFormatOf}
-use Rattle.format.specs.Said.{Said, gives, refuse, _>>=_}
+use Rattle.format.specs.Said.{Said, gives, refuse, refuses, _>>=_}
 use Rattle.format.proofs.Laws.Said.{must-passed, must-failed, Of, of-next, of-test}
 use Rattle.format.specs.declared.subscript_format.SubscriptFormat.{SubscriptFormat}
 use Rattle.format.specs.declared.subscript_format.SubscriptFormat.the-variants.{FundTypeConstConst, FundTypeConstLocation, FundTypeLocationConst, FundTypeLocationLocation, UserTypeConstConst, UserTypeConstLocation, UserTypeLocationConst, UserTypeLocationLocation, ElementType, Unknown}
@@ -25,9 +25,12 @@ use Rattle.attributes.proofs.Laws.Inside.{read-inside}
 use Rattle.attributes.specs.declared.read.Attribute.{Attribute}
 use Rattle.attributes.specs.declared.read.Attribute.the-variants as attribute
 use Rattle.blocks.specs.Location.{processOffset}
-use Rattle.blocks.specs.Subscript.{Part, dimension, oneMore, constBound, locationSize, locationBound, elementAs, elementTypeAt, subscriptAs, nextSubscript, UsesInside}
+use Rattle.blocks.specs.Subscript.{Part, dimension, element, oneMore, constBound, locationSize, locationBound, elementAs, elementTypeAt, subscriptAs, nextSubscript, UsesInside}
 use Rattle.blocks.specs.Inside.Subscript.{sizedDimension, sizedBy}
+use Rattle.blocks.specs.Types.{processType, ModifiersInside}
+use Rattle.blocks.specs.declared.types.Type.{«Type»}
 use Rattle.blocks.proofs.Laws.Number.{of-number}
+use Rattle.blocks.proofs.Laws.Types.{modifiers-inside}
 
 -- ---- format 0
 
@@ -90,30 +93,42 @@ module _ (e : Endian) (block : List ℕ) where
 
 -- ---- what a subscript takes
 
+-- what follows a value may rest on what gave it
+pub of-gave : {A B : Type 0} (P : B → Type 0) (d : Said A) (next : A → Said B) → ((x : A) → d ≡ gives x → Of P (next x)) → Of P (d >>= next)
+unfolding _>>=_
+of-gave P (gives x) next h = h x refl
+of-gave P (refuses number place counts) next h = tt
+
+-- as `UsesInside`, with the modifiers of an element type
+abbrev Takes : List ℕ → Part → Type 0
+Takes block (dimension index size used) = (1 ≤ used) × (used ≤ length block)
+Takes block (element t used) = (1 ≤ used) × (used ≤ length block) × ModifiersInside block t
+
 module _ (e : Endian) (block : List ℕ) where
-  const-takes : Of (UsesInside block) (constBound e block)
+  const-takes : Of (Takes block) (constBound e block)
   unfolding constBound
   const-takes =
-      of-next (UsesInside block) _ _
-      (λ index. of-number (UsesInside block) e 4 block 7 _ (λ high t. let k : 7 + 4 ≤ length block = there-inside block 7 4 t in (omega arith, omega arith)))
+      of-next (Takes block) _ _
+      (λ index. of-number (Takes block) e 4 block 7 _ (λ high t. let k : 7 + 4 ≤ length block = there-inside block 7 4 t in (omega arith, omega arith)))
 
-  location-takes : Of (UsesInside block) (locationBound e block)
+  location-takes : Of (Takes block) (locationBound e block)
   unfolding locationBound
   location-takes =
-      of-next (UsesInside block) _ _
-      (λ index. of-number (UsesInside block) e 2 block 7 _
-      (λ n t. of-test (UsesInside block) _ _ _ _
-      (λ h. let k : 9 + n ≤ length block = there-inside block 9 n h in of-next (UsesInside block) _ _ (λ size. (omega arith, omega arith)))))
+      of-next (Takes block) _ _
+      (λ index. of-number (Takes block) e 2 block 7 _
+      (λ n t. of-test (Takes block) _ _ _ _
+      (λ h. let k : 9 + n ≤ length block = there-inside block 9 n h in of-next (Takes block) _ _ (λ size. (omega arith, omega arith)))))
 
-  element-takes : (a : Attribute) → readAttribute [] e block 1 ≡ a → Of (UsesInside block) (elementAs e block a)
+  element-takes : (a : Attribute) → readAttribute [] e block 1 ≡ a → Of (Takes block) (elementAs e block a)
   unfolding elementAs
   element-takes (attribute.Read number value next) p =
       let inside : ReadInside [] block 1 number value next = read-inside [] e block 1 p in
-      of-next (UsesInside block) _ _ (λ t. (omega (arith, inside .forward), inside .inside))
+      of-gave (Takes block) (processType _ block number value) _
+      (λ t q. (omega (arith, inside .forward), inside .inside, modifiers-inside _ block value number q))
   element-takes (attribute.Short field) p = tt
   element-takes (attribute.Unknown field) p = tt
 
-  as-takes : (f : SubscriptFormat) → Of (UsesInside block) (subscriptAs e block f)
+  as-takes : (f : SubscriptFormat) → Of (Takes block) (subscriptAs e block f)
   unfolding subscriptAs elementTypeAt
   as-takes FundTypeConstConst = const-takes
   as-takes FundTypeConstLocation = location-takes
@@ -126,10 +141,18 @@ module _ (e : Endian) (block : List ℕ) where
   as-takes ElementType = element-takes _ refl
   as-takes Unknown = tt
 
-  takes : Of (UsesInside block) (nextSubscript e block)
+  takes : Of (Takes block) (nextSubscript e block)
   unfolding nextSubscript
-  takes = of-test (UsesInside block) _ _ _ _ (λ h. as-takes _)
+  takes = of-test (Takes block) _ _ _ _ (λ h. as-takes _)
+
+  took : (p : Part) → Takes block p → UsesInside block p
+  took (dimension index size used) h = h
+  took (element t used) h = (h .0, h .1)
 
   -- the theorem
   pub used-inside : {p : Part} → nextSubscript e block ≡ gives p → UsesInside block p
-  used-inside q = subst (Of (UsesInside block)) q takes
+  used-inside {p} q = took p (subst (Of (Takes block)) q takes)
+
+  -- and the modifiers of an element type are inside
+  pub element-modifiers : {t : «Type»} {used : ℕ} → nextSubscript e block ≡ gives (element t used) → ModifiersInside block t
+  element-modifiers q = subst (Of (Takes block)) q takes .2

@@ -17,8 +17,8 @@ use Rattle.format.specs.declared.refusal.Refusal.{Refusal}
 use Rattle.format.specs.Said.{Said, gives, refuses, refusal, _>>=_, inRoom, fillsRoom}
 use Rattle.format.proofs.Laws.Said.{case-said, given-is, given-refused, fills, wants}
 use Rattle.blocks.specs.Subscript.{Part, saidSubscript, nextSubscript, UsesInside}
-use Rattle.blocks.proofs.Laws.Subscript.{used-inside}
-use Rattle.blocks.specs.Subscripts.{Array, saidCounted, saidSubscripts, dimensionWords, Dimensions, elementOr, atEnd, before, step, subscriptsFrom, wholeBlock, countSubscripts, processArraySubscriptData}
+use Rattle.blocks.proofs.Laws.Subscript.{used-inside, element-modifiers}
+use Rattle.blocks.specs.Subscripts.{Array, saidCounted, saidSubscripts, dimensionWords, Dimensions, elementOr, atEnd, before, raised, step, subscriptsFrom, wholeBlock, countSubscripts, processArraySubscriptData}
 use Rattle.blocks.specs.Inside.Subscripts.{Stored, Walked}
 use Rattle.blocks.specs.declared.types.Type.{«Type»}
 use Rattle.blocks.specs.declared.subscript.Subscript.{Subscript}
@@ -46,20 +46,20 @@ module _ (t : List ℕ) (n index size : ℕ) where
 
 -- ---- a turn of the walk
 
-module _ (e : Endian) (el : Element) (n : ℕ) (block : List ℕ) where
+module _ (e : Endian) (el : Element) (n at : ℕ) (rest : List ℕ) where
   -- at the end nothing is read
-  at-end : (turns : ℕ) → length block ≡ 0 → subscriptsFrom e turns el n block ≡ atEnd el n
+  pub at-end : (turns : ℕ) → length rest ≡ 0 → subscriptsFrom e turns el n at rest ≡ atEnd el n
   unfolding subscriptsFrom
   at-end zero h = refl
-  at-end (suc turns) h = rw (eq-eqb (length block) 0 h, subscriptsFrom)
+  at-end (suc turns) h = rw (eq-eqb (length rest) 0 h, subscriptsFrom)
 
   -- before it, one subscript and then the rest
-  one-turn : (turns : ℕ) → 0 < length block → length block ≤ turns
-      → subscriptsFrom e turns el n block ≡ (nextSubscript e block >>= step (λ el′ n′ used. subscriptsFrom e (turns - 1) el′ n′ (drop used block)) el n)
+  pub one-turn : (turns : ℕ) → 0 < length rest → length rest ≤ turns → subscriptsFrom e turns el n at rest
+      ≡ (nextSubscript e rest >>= step (λ el′ n′ used. subscriptsFrom e (turns - 1) el′ n′ (at + used) (drop used rest)) el n at)
   unfolding subscriptsFrom
   one-turn zero h k = absurd (omega arith)
   one-turn (suc turns) h k =
-      let test : eqb (length block) 0 ≡ false = ne-eqb (length block) 0 (λ z. omega arith) in
+      let test : eqb (length rest) 0 ≡ false = ne-eqb (length rest) 0 (λ z. omega arith) in
       let place : suc turns - 1 ≡ turns = omega arith in
       rw (test, place, subscriptsFrom)
 
@@ -90,11 +90,12 @@ pub record Left (e : Endian) (block room₀ rest : List ℕ) (n : ℕ) (el : Ele
   pub kept : length room ≡ length room₀
   pub many : length done ≡ n * 2
   pub stored : room ≡ sets room₀ 0 done
-  pub whole : wholeBlock e block ≡ before done (subscriptsFrom e turns el n rest)
+  pub whole : wholeBlock e block ≡ before done (subscriptsFrom e turns el n (length block - length rest) rest)
 
 pub begin : (e : Endian) (block room : List ℕ) → Left e block room block 0 sofar.Nothing room
 unfolding wholeBlock
 begin e block room =
+    let first : 0 ≡ length block - length block = omega arith in
     record {
       turns = length block;
       done = [];
@@ -103,7 +104,9 @@ begin e block room =
       kept = refl;
       many = refl;
       stored = refl;
-      whole = sym (before-none (subscriptsFrom e (length block) sofar.Nothing 0 block));
+      whole =
+          sym (before-none (subscriptsFrom e (length block) sofar.Nothing 0 0 block))
+          ∙ ap (λ (at : ℕ). before [] (subscriptsFrom e (length block) sofar.Nothing 0 at block)) first;
     }
 
 -- the words of an array are those done
@@ -118,8 +121,12 @@ counted-end done (sofar.Is t) n = refl
 counted-end done sofar.Nothing n = refl
 
 module _ {e : Endian} {block room₀ rest : List ℕ} {n : ℕ} {el : Element} {room : List ℕ} (l : Left e block room₀ rest n el room) where
+  -- where the rest begins
+  abbrev place : ℕ
+  place = length block - length rest
+
   -- the rest decides
-  walked : {d : Said Dimensions} {r : Counted} → subscriptsFrom e (l .turns) el n rest ≡ d
+  walked : {d : Said Dimensions} {r : Counted} → subscriptsFrom e (l .turns) el n place rest ≡ d
       → saidCounted r ≡ (before (l .done) d >>= (λ d′. gives (d′ .array))) → Stored (before (l .done) d) room₀ room → Walked e block r room₀ room
   unfolding countSubscripts
   walked {d} p answer left =
@@ -131,7 +138,7 @@ module _ {e : Endian} {block room₀ rest : List ℕ} {n : ℕ} {el : Element} {
 
   pub walk-done : {r : Counted} → length rest ≤ 0 → saidCounted r ≡ elementOr n el → Walked e block r room₀ room
   walk-done h p =
-      walked (at-end e el n rest (l .turns) (omega arith)) (p ∙ counted-end (l .done) el n) (stored-end (l .done) el n room₀ (l .stored))
+      walked (at-end e el n place rest (l .turns) (omega arith)) (p ∙ counted-end (l .done) el n) (stored-end (l .done) el n room₀ (l .stored))
 
   -- the rest as a part that is handed on
   abbrev after : ℕ → List ℕ
@@ -141,7 +148,16 @@ module _ {e : Endian} {block room₀ rest : List ℕ} {n : ℕ} {el : Element} {
   is-after used = sym (take-all (length rest - used) (drop used rest) (omega (arith, length-drop used rest)))
 
   abbrev goesOn : Element → ℕ → ℕ → Said Dimensions
-  goesOn el′ n′ used = subscriptsFrom e (l .turns - 1) el′ n′ (drop used rest)
+  goesOn el′ n′ used = subscriptsFrom e (l .turns - 1) el′ n′ (place + used) (drop used rest)
+
+  -- and where what is left of it then begins
+  next-place : {used : ℕ} → used ≤ length rest → place + used ≡ length block - length (drop used rest)
+  next-place {used} h = omega (arith, l .few, length-drop used rest)
+
+  -- there it goes on
+  goes-on-at : (el′ : Element) (n′ : ℕ) {used : ℕ} → used ≤ length rest
+      → goesOn el′ n′ used ≡ subscriptsFrom e (l .turns - 1) el′ n′ (length block - length (drop used rest)) (drop used rest)
+  goes-on-at el′ n′ {used} h = ap (λ (at : ℕ). subscriptsFrom e (l .turns - 1) el′ n′ at (drop used rest)) (next-place h)
 
   shorter : {used : ℕ} → (1 ≤ used) × (used ≤ length rest) → length (drop used rest) < length rest
   shorter {used} h = omega (arith, h .0, h .1, length-drop used rest)
@@ -150,9 +166,9 @@ module _ {e : Endian} {block room₀ rest : List ℕ} {n : ℕ} {el : Element} {
   less {used} h = subst (λ (u : List ℕ). length u < length rest) (is-after used) (shorter h)
 
   module _ (more : 0 < length rest) {told : Subscript} (is : saidSubscript told ≡ nextSubscript e rest) where
-    turned : {r : Subscript} → told ≡ r → subscriptsFrom e (l .turns) el n rest ≡ (saidSubscript r >>= step goesOn el n)
+    turned : {r : Subscript} → told ≡ r → subscriptsFrom e (l .turns) el n place rest ≡ (saidSubscript r >>= step goesOn el n place)
     turned p =
-        one-turn e el n rest (l .turns) more (l .enough) ∙ ap (λ (d : Said Part). d >>= step goesOn el n) (sym (case-said saidSubscript is p))
+        one-turn e el n place rest (l .turns) more (l .enough) ∙ ap (λ (d : Said Part). d >>= step goesOn el n place) (sym (case-said saidSubscript is p))
 
     inside : {r : Subscript} {p : Part} → told ≡ r → saidSubscript r ≡ gives p → UsesInside rest p
     inside p q = used-inside e rest (sym (case-said saidSubscript is p) ∙ q)
@@ -164,6 +180,11 @@ module _ {e : Endian} {block room₀ rest : List ℕ} {n : ℕ} {el : Element} {
     element-used : {t : «Type»} {used : ℕ} → told ≡ subscript.Element t used → (1 ≤ used) × (used ≤ length rest)
     unfolding saidSubscript
     element-used p = inside p refl
+
+    -- its modifiers, raised, are inside the block
+    pub element-place : {t : «Type»} {used : ℕ} → told ≡ subscript.Element t used → place + t .place ≤ length block
+    unfolding saidSubscript
+    element-place p = omega (arith, element-modifiers e rest (sym (case-said saidSubscript is p)), l .few)
 
     pub dimension-inside : {index size used : ℕ} → told ≡ subscript.Dimension index size used → used ≤ length rest
     dimension-inside p = dimension-used p .1
@@ -183,7 +204,7 @@ module _ {e : Endian} {block room₀ rest : List ℕ} {n : ℕ} {el : Element} {
     again-dimension {index} {size} {used} {room′} p q =
         let fewer : length (drop used rest) < length rest = shorter (dimension-used p) in
         let words : List ℕ = dimensionWords index size in
-        let turn : subscriptsFrom e (l .turns) el n rest ≡ before words (goesOn el (suc n) used) = turned p in
+        let turn : subscriptsFrom e (l .turns) el n place rest ≡ before words (goesOn el (suc n) used) = turned p in
         let next : suc n ≡ n + 1 = omega arith in
         let place : n * 2 ≡ 0 + length (l .done) = omega (arith, l .many) in
         subst (λ (u : List ℕ). Left e block room₀ u (n + 1) el room′) (is-after used)
@@ -199,15 +220,17 @@ module _ {e : Endian} {block room₀ rest : List ℕ} {n : ℕ} {el : Element} {
               ∙ sym (sets-append room₀ 0 (l .done) words);
           whole =
               l .whole ∙ ap (before (l .done)) turn ∙ before-before (l .done) words (goesOn el (suc n) used)
-              ∙ ap (λ (k : ℕ). before (l .done ++ words) (goesOn el k used)) next;
+              ∙ ap (λ (k : ℕ). before (l .done ++ words) (goesOn el k used)) next
+              ∙ ap (before (l .done ++ words)) (goes-on-at el (n + 1) (dimension-used p .1));
         })
 
-    pub again-element : {t : «Type»} {used : ℕ} → told ≡ subscript.Element t used → Left e block room₀ (after used) n (sofar.Is t) room
+    pub again-element : {t t′ : «Type»} {used : ℕ} → told ≡ subscript.Element t used → t′ ≡ raised place t
+        → Left e block room₀ (after used) n (sofar.Is t′) room
     unfolding saidSubscript step _>>=_
-    again-element {t} {used} p =
+    again-element {t} {t′} {used} p q =
         let fewer : length (drop used rest) < length rest = shorter (element-used p) in
-        let turn : subscriptsFrom e (l .turns) el n rest ≡ goesOn (sofar.Is t) n used = turned p in
-        subst (λ (u : List ℕ). Left e block room₀ u n (sofar.Is t) room) (is-after used)
+        let turn : subscriptsFrom e (l .turns) el n place rest ≡ goesOn (sofar.Is (raised place t)) n used = turned p in
+        subst (λ (u : List ℕ). Left e block room₀ u n (sofar.Is t′) room) (is-after used)
         (record {
           turns = l .turns - 1;
           done = l .done;
@@ -216,13 +239,16 @@ module _ {e : Endian} {block room₀ rest : List ℕ} {n : ℕ} {el : Element} {
           kept = l .kept;
           many = l .many;
           stored = l .stored;
-          whole = l .whole ∙ ap (before (l .done)) turn;
+          whole =
+              l .whole
+              ∙ ap (before (l .done))
+              (turn ∙ ap (λ (x : «Type»). goesOn (sofar.Is x) n used) (sym q) ∙ goes-on-at (sofar.Is t′) n (element-used p .1));
         })
 
     pub walk-refused : {why : Refusal} → told ≡ subscript.Refused why → Walked e block (counted.Refused why) room₀ room
     unfolding saidSubscript saidCounted before _>>=_
     walk-refused {why} p =
-        let turn : subscriptsFrom e (l .turns) el n rest ≡ refusal why = turned p in
+        let turn : subscriptsFrom e (l .turns) el n place rest ≡ refusal why = turned p in
         walked {r = counted.Refused why} turn refl tt
 
 -- ---- into lent room

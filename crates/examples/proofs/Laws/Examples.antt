@@ -20,7 +20,7 @@ use Rattle.attributes.specs.Parts.{partAt, blockAt, textAt}
 use Rattle.blocks.specs.Modifiers.{isKnown, isPointer, allKnown, anyPointer, processModifiers}
 use Rattle.blocks.specs.Types.{numberIn, knownNumber, modified, fundamental, fundType, lastBytes, modFundType, processType}
 use Rattle.blocks.specs.Subscript.{indexAt, oneMore, constBound, elementAs, elementTypeAt, subscriptAs, nextSubscript}
-use Rattle.blocks.specs.Subscripts.{dimensionWords, elementOr, atEnd, before, step, subscriptsFrom, wholeBlock}
+use Rattle.blocks.specs.Subscripts.{dimensionWords, elementOr, atEnd, before, raised, step, subscriptsFrom, wholeBlock}
 use Rattle.tables.specs.Row.{attrAt}
 use Rattle.links.specs.Typed.{asValue, wordAt}
 use Rattle.records.specs.Taken.{takenBy, roleTaken, takes, special}
@@ -38,5 +38,5 @@ use Rattle.examples.specs.Examples.{answer, examples}
 
 -- the definitions answer what document 01 says, in every row
 pub examples-hold : map (λ e. answer (e .asked)) examples ≡ map (λ e. e .said) examples
-unfolding answer examples numberOf parseInt fundTypeOf fundTypes modifierOf modifiers valueOf there readAt isOn indexOf lookup tags used alsoKnown attributeKinds known forms formOf zeroFrom fixedEnd blockEnd textEnd valueEnd ending numbered readAttribute textAt nullEnd tagHead sizeHead headAt plays runEnds readOn readRun flip littleFlag flagOf flagsOf rootKind attributes rootEndian entryFrom readEntry entriesThen wholeEntry entriesFrom readTags wholeWalk _>>=_ placed subscriptFormats subscriptFormatOf partAt blockAt isKnown isPointer allKnown anyPointer processModifiers must _>>_ modified numberIn knownNumber fundamental fundType lastBytes modFundType processType indexAt oneMore constBound elementAs elementTypeAt subscriptAs nextSubscript dimensionWords elementOr atEnd before step subscriptsFrom wholeBlock asValue wordAt takenBy roleTaken takes special attributeAt attrAt expectedForms expected expectedForm isType faultOf contentFault attributeFault faultAt numberAt formNumber isForm isSought lastFrom asWord wordIn wordBy listWidth valueAt namedFrom nameFrom valued element.elementAt elementThen elementsFrom elementsIn signedOf signedBelow sizeBefore listAt listsFrom
+unfolding answer examples numberOf parseInt fundTypeOf fundTypes modifierOf modifiers valueOf there readAt isOn indexOf lookup tags used alsoKnown attributeKinds known forms formOf zeroFrom fixedEnd blockEnd textEnd valueEnd ending numbered readAttribute textAt nullEnd tagHead sizeHead headAt plays runEnds readOn readRun flip littleFlag flagOf flagsOf rootKind attributes rootEndian entryFrom readEntry entriesThen wholeEntry entriesFrom readTags wholeWalk _>>=_ placed subscriptFormats subscriptFormatOf partAt blockAt isKnown isPointer allKnown anyPointer processModifiers must _>>_ modified numberIn knownNumber fundamental fundType lastBytes modFundType processType indexAt oneMore constBound elementAs elementTypeAt subscriptAs nextSubscript dimensionWords elementOr atEnd before raised step subscriptsFrom wholeBlock asValue wordAt takenBy roleTaken takes special attributeAt attrAt expectedForms expected expectedForm isType faultOf contentFault attributeFault faultAt numberAt formNumber isForm isSought lastFrom asWord wordIn wordBy listWidth valueAt namedFrom nameFrom valued element.elementAt elementThen elementsFrom elementsIn signedOf signedBelow sizeBefore listAt listsFrom
 examples-hold = refl

@@ -1,6 +1,6 @@
 use borrow.Author.Needs.{needs}
 use lib.ListN.{length}
-use Rattle.blocks.proofs.Laws.Subscripts.{Left, begin, walk-done, dimension-inside, element-inside, dimension-less, element-less, again-dimension, again-element, walk-refused}
+use Rattle.blocks.proofs.Laws.Subscripts.{Left, begin, walk-done, dimension-inside, element-inside, element-place, dimension-less, element-less, again-dimension, again-element, walk-refused}
 use Rattle.blocks.proofs.subscripts.walk_subscripts.Statement.{statement}
 use Rattle.blocks.proofs.subscripts.walk_subscripts.Tie as tie
 
@@ -28,17 +28,23 @@ loop-less c = dimension-less (c .before .before .before .before .before .before 
 loop-again : tie.Need-loop-again Inv-loop μ-loop
 loop-again c = again-dimension (c .before .before .before .before .before .before .before .before .before .before .loop .inv) (c .before .before .before .before .before .before .before .before .before .loop-test .taken) (c .before .before .before .before .before .before .before .before .next-subscript .ensures) (c .before .before .before .before .before .before .index .given .1) (c .before .before .before .put-dimension .ensures)
 
+sub-raised : tie.Need-sub-raised Inv-loop μ-loop
+sub-raised c = search (needs, c .before .before .before .before .before .loop .inv .few)
+
+raised-requires : tie.Need-raised-requires Inv-loop μ-loop
+raised-requires c κs = let h = element-place (c .before .before .before .before .before .loop .inv) (c .before .before .before .before .loop-test .taken) (c .before .before .before .next-subscript .ensures) (c .before .of .given .1) in search (needs, h)
+
 sub-rest-2 : tie.Need-sub-rest-2 Inv-loop μ-loop
-sub-rest-2 c = element-inside (c .before .before .before .before .before .loop .inv) (c .before .before .before .before .loop-test .taken) (c .before .before .before .next-subscript .ensures) (c .before .of .given .1)
+sub-rest-2 c = element-inside (c .before .before .before .before .before .before .loop .inv) (c .before .before .before .before .before .loop-test .taken) (c .before .before .before .before .next-subscript .ensures) (c .before .before .of .given .1)
 
 part-rest-start-2 : tie.Need-part-rest-start-2 Inv-loop μ-loop
-part-rest-start-2 c = element-inside (c .before .before .before .before .before .loop .inv) (c .before .before .before .before .loop-test .taken) (c .before .before .before .next-subscript .ensures) (c .before .of .given .1)
+part-rest-start-2 c = element-inside (c .before .before .before .before .before .before .loop .inv) (c .before .before .before .before .before .loop-test .taken) (c .before .before .before .before .next-subscript .ensures) (c .before .before .of .given .1)
 
 loop-less-2 : tie.Need-loop-less-2 Inv-loop μ-loop
-loop-less-2 c = element-less (c .before .before .before .before .before .before .loop .inv) (c .before .before .before .before .before .loop-test .taken) (c .before .before .before .before .next-subscript .ensures) (c .before .before .of .given .1)
+loop-less-2 c = element-less (c .before .before .before .before .before .before .before .loop .inv) (c .before .before .before .before .before .before .loop-test .taken) (c .before .before .before .before .before .next-subscript .ensures) (c .before .before .before .of .given .1)
 
 loop-again-2 : tie.Need-loop-again-2 Inv-loop μ-loop
-loop-again-2 c = again-element (c .before .before .before .before .before .before .loop .inv) (c .before .before .before .before .before .loop-test .taken) (c .before .before .before .before .next-subscript .ensures) (c .before .before .of .given .1)
+loop-again-2 c = again-element (c .before .before .before .before .before .before .before .loop .inv) (c .before .before .before .before .before .before .loop-test .taken) (c .before .before .before .before .before .next-subscript .ensures) (c .before .before .before .of .given .1) (c .before .raised .ensures)
 
 same-length : tie.Need-same-length Inv-loop μ-loop
 same-length c = c .before .before .before .before .before .loop .inv .kept
@@ -69,6 +75,8 @@ walk-subscripts-spec =
     loop-less
     loop-again
     (λ c. search needs)
+    sub-raised
+    raised-requires
     sub-rest-2
     part-rest-start-2
     (λ c. search needs)
