@@ -8,4 +8,5 @@ pub mod Sixteen
 pub mod Computed
 pub mod Form
 pub mod Settings
+pub mod Presets
 pub mod Only

@@ -1,5 +1,5 @@
 -- The format's numbers, the limits, the refusals and the settings. The tables (`TagKind` to `SubscriptFormat`) are named as in the Rust; `Known`,
--- `Limits`, `Refusal` and `Settings` are document 01's; `Lookup` has the three ways to ask a table; `InputA` is document 01's example, for the crates
+-- `Limits`, `Refusal` and `Settings` are document 01's; `Presets` completes the Rust's settings; `Lookup` has the three ways to ask a table; `InputA` is document 01's example, for the crates
 -- above.
 pub mod Lookup
 pub mod TagKind
@@ -14,6 +14,7 @@ pub mod Limits
 pub mod Refusal
 pub mod Said
 pub mod Settings
+pub mod Presets
 pub mod InputA
 -- What functions inside promise. Nothing public rests on it.
 pub mod Inside

@@ -7,6 +7,7 @@ pub mod limits;
 pub mod location_op;
 pub mod lookup;
 pub mod modifier;
+pub mod presets;
 pub mod refusal;
 pub mod settings;
 pub mod subscript_format;

@@ -1,11 +1,13 @@
--- What the program `layouts` reads a section with: settings that two words of its arguments choose. The vendor numbers and the sizes themselves are
--- the constants VENDORS and SIZES of src/presets.rt.
+-- What the program `layouts` reads a section with: settings that two words of its arguments choose. The vendor numbers, roles and
+-- sizes are the presets of `format`.
 use Prim.Native.Nat.{ℕ}
 use mathlib.Core.Bool.{Bool, true, false, cond}
 use mathlib.Core.List.{List, [], _∷_}
+use lib.ListN.{length}
 use lib.Dec.{eqb}
 use Rattle.numbers.specs.declared.Endian.{Endian}
 use Rattle.numbers.specs.declared.Endian.the-variants as endian
+use Rattle.format.specs.Presets.{mwVendors, mwRoles, noRoles}
 use Rattle.format.specs.declared.settings.Producer.the-variants as producer
 use Rattle.layouts.specs.declared.presets.Preset.{Preset}
 
@@ -24,23 +26,8 @@ endianChosen little = cond little endian.Little endian.Big
 unfoldable pub presetOf : Bool → Bool → Preset
 presetOf little true =
     record {
-      settings =
-          record {
-            endian = endianChosen little;
-            erased = false;
-            producer = producer.Mwcc;
-            roles = record { «global_ref» = 0x2022; mangled = 0x2008; «overlay_name» = 0x22a8; «overlay_id» = 0x2296 };
-          };
-      vendors = 47;
+      settings = record { endian = endianChosen little; erased = false; producer = producer.Mwcc; roles = mwRoles };
+      vendors = length mwVendors;
     }
 presetOf little false =
-    record {
-      settings =
-          record {
-            endian = endianChosen little;
-            erased = false;
-            producer = producer.Other;
-            roles = record { «global_ref» = 0; mangled = 0; «overlay_name» = 0; «overlay_id» = 0 };
-          };
-      vendors = 0;
-    }
+    record { settings = record { endian = endianChosen little; erased = false; producer = producer.Other; roles = noRoles }; vendors = 0 }

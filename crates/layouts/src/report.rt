@@ -6,19 +6,23 @@
 //       hole 4 4
 //       member 8 16 load
 //
-// or `refused N at KEY` in place of the size. Numbers are decimal but for keys; `member`, `hole` and `padding` are followed by offset and size in bytes.
+// or `refused N at KEY` in place of the size. Numbers are decimal but for keys; `member`, `hole` and `padding` are followed by offset and size in bytes. Where
+// a base or another child that is no member may take bytes, a stretch without members is `no member`. A structure without ByteSize has `largest end` in place
+// of `size`, or is `declared only` where it has no children either.
 use crate::gaps::Gap;
+use crate::gaps::Stretch;
 use crate::gaps::gap_between;
+use crate::gaps::is_byteless;
 use crate::gaps::reach_with;
+use crate::gaps::stretch_of;
 use crate::out::flush;
 use crate::out::put_decimal;
 use crate::out::put_hex;
 use crate::out::put_name;
 use crate::out::put_text;
 use crate::presets::Preset;
-use crate::presets::SIZES;
-use crate::presets::VENDORS;
 use crate::rooms::attribute_room;
+use crate::rooms::child_room;
 use crate::rooms::member_room;
 use crate::rooms::row_room;
 use crate::rooms::structure_room;
@@ -28,12 +32,24 @@ use crate::words::placed_at;
 use crate::words::structure_at;
 use entries::section::Section;
 use entries::section::read_debug_section;
+use format::attribute_kind::BYTE_SIZE;
+use format::limits::ATTRIBUTE_LIMIT;
+use format::limits::ENTRY_LIMIT;
+use format::presets::mw_vendors;
+use format::presets::rust_sizes;
 use format::refusal::Reason;
 use format::refusal::Refusal;
 use format::refusal::number_of;
 use format::tag_kind::CLASS_TYPE;
 use layout::all::AllLayouts;
+use layout::all::STRUCTURE_WIDTH;
 use layout::all::all_layouts;
+use layout::one::LAID_WIDTH;
+use lent::cells::cell;
+use links::children::ChildRows;
+use links::children::children;
+use links::typed::Value;
+use links::typed::data4_attribute;
 use tables::row::Counts;
 use tables::row::row_at;
 
@@ -65,12 +81,35 @@ fn report_refusal(why: Refusal) {
     flush(&buffer, used);
 }
 
+// ' WORD NEEDED of ALLOWED'
+fn put_need(buffer: &mut [u8], used: usize, word: &[u8], needed: u64, allowed: u64) -> usize {
+    let at = put_text(buffer, used, b" ");
+    let at = put_text(buffer, at, word);
+    let at = put_text(buffer, at, b" ");
+    let at = put_decimal(buffer, at, needed);
+    let at = put_text(buffer, at, b" of ");
+    put_decimal(buffer, at, allowed)
+}
+
+// Refusal 8, and on a line of its own what is needed, each of so many that are allowed.
+fn report_room(first: &[u8], needed: u64, allowed: u64, second: &[u8], more: u64, most: u64) {
+    let mut buffer = [0u8; 256];
+    let reason = Reason::Room;
+    let at = put_refusal(&mut buffer, 0, number_of(reason) as u64, 0);
+    let at = put_text(&mut buffer, at, b"  needed");
+    let at = put_need(&mut buffer, at, first, needed, allowed);
+    let at = put_need(&mut buffer, at, second, more, most);
+    let used = put_text(&mut buffer, at, b"\n");
+    flush(&buffer, used);
+}
+
 // An input that is longer than the program's room.
 pub fn report_long() {
-    report_refusal(Refusal {
-        reason: Reason::Room,
-        place: 0,
-    });
+    let mut buffer = [0u8; 128];
+    let reason = Reason::Room;
+    let at = put_refusal(&mut buffer, 0, number_of(reason) as u64, 0);
+    let used = put_text(&mut buffer, at, b"  needed more than 1048576 bytes\n");
+    flush(&buffer, used);
 }
 
 // A row that has a layout is a class or a structure.
@@ -123,16 +162,25 @@ fn put_member(s: &[u8], member: Placed, buffer: &mut [u8], used: usize) -> usize
     put_text(buffer, end, b"\n")
 }
 
+// The line of a stretch without members, by what it is called.
+fn put_stretch(buffer: &mut [u8], used: usize, others: bool, last: bool, gap: Gap) -> usize {
+    match stretch_of(others, last) {
+        Stretch::Hole => put_gap(buffer, used, b"  hole ", gap),
+        Stretch::Padding => put_gap(buffer, used, b"  padding ", gap),
+        Stretch::Bare => put_gap(buffer, used, b"  no member ", gap),
+    }
+}
+
 // How many bytes of the buffer are used, and what the members have reached.
 struct Shown {
     used: usize,
     reached: u64,
 }
 
-// A member, and the hole before it.
-fn show_member(s: &[u8], member: Placed, buffer: &mut [u8], shown: Shown) -> Shown {
+// A member, and the stretch before it.
+fn show_member(s: &[u8], member: Placed, others: bool, buffer: &mut [u8], shown: Shown) -> Shown {
     let gap = gap_between(shown.reached, member.offset);
-    let used = put_gap(buffer, shown.used, b"  hole ", gap);
+    let used = put_stretch(buffer, shown.used, others, false, gap);
     Shown {
         used: put_member(s, member, buffer, used),
         reached: reach_with(shown.reached, member.offset, member.size),
@@ -145,6 +193,7 @@ fn show_members(
     members: &[u64],
     first: u32,
     count: u32,
+    others: bool,
     buffer: &mut [u8],
     used: usize,
 ) -> Shown {
@@ -152,34 +201,148 @@ fn show_members(
     let mut k: u32 = 0;
     while k < count {
         let member = placed_at(members, first, k);
-        shown = show_member(s, member, buffer, shown);
+        shown = show_member(s, member, others, buffer, shown);
         k += 1;
     }
     shown
+}
+
+// What a structure's row says beside its members: whether it has a ByteSize, whether it has children, whether some that are no members may take bytes.
+struct Around {
+    sized: bool,
+    children: bool,
+    others: bool,
+}
+
+// A size that the compiler says, or the largest member end, which the compiler does not say.
+fn put_size_word(buffer: &mut [u8], used: usize, sized: bool) -> usize {
+    if sized {
+        put_text(buffer, used, b"  size ")
+    } else {
+        put_text(buffer, used, b"  largest end ")
+    }
+}
+
+fn put_size(buffer: &mut [u8], used: usize, sized: bool, size: u32) -> usize {
+    let end = put_size_word(buffer, used, sized);
+    let end = put_decimal(buffer, end, size as u64);
+    put_text(buffer, end, b"\n")
+}
+
+// The same, or that there is only a declaration.
+fn put_measure(buffer: &mut [u8], used: usize, around: Around, size: u32) -> usize {
+    if around.sized | around.children {
+        put_size(buffer, used, around.sized, size)
+    } else {
+        put_text(buffer, used, b"  declared only\n")
+    }
 }
 
 // The size, the members with their holes, the padding.
 fn put_layout(
     s: &[u8],
     structure: Structure,
+    around: Around,
     members: &[u64],
     buffer: &mut [u8],
     used: usize,
 ) -> usize {
-    let end = put_text(buffer, used, b"  size ");
-    let end = put_decimal(buffer, end, structure.size as u64);
-    let end = put_text(buffer, end, b"\n");
-    let shown = show_members(s, members, structure.first, structure.members, buffer, end);
+    let end = put_measure(buffer, used, around, structure.size);
+    let others = around.others;
+    let shown = show_members(
+        s,
+        members,
+        structure.first,
+        structure.members,
+        others,
+        buffer,
+        end,
+    );
     let gap = gap_between(shown.reached, structure.size);
-    put_gap(buffer, shown.used, b"  padding ", gap)
+    put_stretch(buffer, shown.used, others, true, gap)
+}
+
+// May a child of this row's kind take bytes?
+fn may_take(rows: &[u32], c: u32) -> bool {
+    let row = row_at(rows, c as usize);
+    !is_byteless((row.kind % 65536) as u16)
+}
+
+// May one of the first k children?
+fn some_take(rows: &[u32], children: &[u32], k: usize) -> bool {
+    let mut i = 0;
+    while i < k {
+        if may_take(rows, cell(children, i)) {
+            return true;
+        }
+        i += 1;
+    }
+    false
+}
+
+// What a structure's row says beside its members.
+fn look_around(
+    s: &[u8],
+    preset: Preset,
+    rows: &[u32],
+    attrs: &[u32],
+    counts: Counts,
+    key: u32,
+    room: &mut [u32],
+) -> Around {
+    let vendors = mw_vendors();
+    let sizes = rust_sizes(0);
+    let settings = preset.settings;
+    let list = part_of(&vendors, preset.vendors);
+    let size = data4_attribute(
+        s,
+        settings,
+        list,
+        &sizes,
+        rows,
+        attrs,
+        counts,
+        key,
+        BYTE_SIZE,
+    );
+    let sized = is_number(size);
+    match children(s, settings, list, &sizes, rows, attrs, counts, key, room) {
+        ChildRows::Listed(k) => Around {
+            sized,
+            children: 0 < k,
+            others: some_take(rows, room, k),
+        },
+        ChildRows::Refused(_) => Around {
+            sized,
+            children: true,
+            others: true,
+        },
+        ChildRows::Room(_) => Around {
+            sized,
+            children: true,
+            others: true,
+        },
+    }
+}
+
+fn is_number(value: Value) -> bool {
+    match value {
+        Value::Is(_) => true,
+        Value::Nothing => false,
+        Value::Refused(_) => false,
+    }
 }
 
 // Its head, then its layout, or why it has none.
 fn put_structure(
     s: &[u8],
+    preset: Preset,
     rows: &[u32],
+    attrs: &[u32],
+    counts: Counts,
     structure: Structure,
     members: &[u64],
+    room: &mut [u32],
     buffer: &mut [u8],
     used: usize,
 ) -> usize {
@@ -187,20 +350,42 @@ fn put_structure(
     let name = part(s, structure.name_place, structure.name_length);
     let end = put_head(buffer, used, row.key, row.kind, name);
     if structure.number == 0 {
-        return put_layout(s, structure, members, buffer, end);
+        let around = look_around(s, preset, rows, attrs, counts, row.key, room);
+        return put_layout(s, structure, around, members, buffer, end);
     }
     let end = put_text(buffer, end, b"  ");
     put_refusal(buffer, end, structure.number as u64, structure.place)
 }
 
 // One buffer for all of them, which is written out where it is full and at the end.
-fn report_structures(s: &[u8], rows: &[u32], structures: &[u64], members: &[u64], n: u32) {
+fn report_structures(
+    s: &[u8],
+    preset: Preset,
+    rows: &[u32],
+    attrs: &[u32],
+    counts: Counts,
+    structures: &[u64],
+    members: &[u64],
+    n: u32,
+) {
     let mut buffer = [0u8; 4096];
+    let mut room = child_room();
     let mut used = 0;
     let mut k: u32 = 0;
     while k < n {
         let structure = structure_at(structures, k);
-        used = put_structure(s, rows, structure, members, &mut buffer, used);
+        used = put_structure(
+            s,
+            preset,
+            rows,
+            attrs,
+            counts,
+            structure,
+            members,
+            &mut room,
+            &mut buffer,
+            used,
+        );
         k += 1;
     }
     flush(&buffer, used);
@@ -210,8 +395,8 @@ fn report_structures(s: &[u8], rows: &[u32], structures: &[u64], members: &[u64]
 fn report_layouts(s: &[u8], preset: Preset, rows: &[u32], attrs: &[u32], counts: Counts) {
     let mut structures = structure_room();
     let mut members = member_room();
-    let vendors = VENDORS;
-    let sizes = SIZES;
+    let vendors = mw_vendors();
+    let sizes = rust_sizes(0);
     let settings = preset.settings;
     let many = preset.vendors;
     match all_layouts(
@@ -228,10 +413,17 @@ fn report_layouts(s: &[u8], preset: Preset, rows: &[u32], attrs: &[u32], counts:
         AllLayouts::Are(found) => {
             // There are no more structures than rows.
             let n = (found.structures % 4294967296) as u32;
-            report_structures(s, rows, &structures, &members, n)
+            report_structures(s, preset, rows, attrs, counts, &structures, &members, n)
         }
         AllLayouts::Refused(why) => report_refusal(why),
-        AllLayouts::Room(_) => report_long(),
+        AllLayouts::Room(found) => report_room(
+            b"structures",
+            found.structures as u64,
+            (structures.len() / STRUCTURE_WIDTH) as u64,
+            b"members",
+            found.members as u64,
+            (members.len() / LAID_WIDTH) as u64,
+        ),
     }
 }
 
@@ -248,8 +440,8 @@ fn part_of(vendors: &[u16], n: usize) -> &[u16] {
 pub fn report(s: &[u8], preset: Preset) {
     let mut rows = row_room();
     let mut attrs = attribute_room();
-    let vendors = VENDORS;
-    let sizes = SIZES;
+    let vendors = mw_vendors();
+    let sizes = rust_sizes(0);
     let settings = preset.settings;
     let many = preset.vendors;
     match read_debug_section(
@@ -262,6 +454,13 @@ pub fn report(s: &[u8], preset: Preset) {
     ) {
         Section::Read(counts) => report_layouts(s, preset, &rows, &attrs, counts),
         Section::Refused(why) => report_refusal(why),
-        Section::Room(_) => report_long(),
+        Section::Room(found) => report_room(
+            b"entries",
+            found.rows as u64,
+            ENTRY_LIMIT as u64,
+            b"attributes",
+            found.attrs as u64,
+            ATTRIBUTE_LIMIT as u64,
+        ),
     }
 }

@@ -37,3 +37,10 @@ pub fn member_room() -> [u64; 65536]
 {
     [0; 65536]
 }
+
+// The children of one structure, of 4,096 rows.
+pub fn child_room() -> [u32; 4096]
+    ensures { λ r. ⌜ 4096 ≡ length r ⌝ }
+{
+    [0; 4096]
+}

@@ -11,6 +11,7 @@ use Rattle.format.proofs.location_op as location_op
 use Rattle.format.proofs.subscript_format as subscript_format
 use Rattle.format.proofs.refusal as refusal
 use Rattle.format.proofs.settings as settings
+use Rattle.format.proofs.presets as presets
 
 -- `tag_kind::is_tag`
 pub only-is-tag : OneAnswer tag_kind.is_tag.Kinds.ps tag_kind.is_tag.Kinds.r tag_kind.is_tag.Reads.Post
@@ -71,3 +72,19 @@ only-number-of κs a z z′ e e′ p q = cc
 -- `settings::settings_hold`
 pub only-settings-hold : OneAnswer settings.settings_hold.Kinds.ps settings.settings_hold.Kinds.r settings.settings_hold.Reads.Post
 only-settings-hold κs a z z′ e e′ p q = cc
+
+-- `presets::mw_vendors`
+pub only-mw-vendors : OneAnswer presets.mw_vendors.Kinds.ps presets.mw_vendors.Kinds.r presets.mw_vendors.Reads.Post
+only-mw-vendors κs a z z′ e e′ p q = cc
+
+-- `presets::mw_roles`
+pub only-mw-roles : OneAnswer presets.mw_roles.Kinds.ps presets.mw_roles.Kinds.r presets.mw_roles.Reads.Post
+only-mw-roles κs a z z′ e e′ p q = cc
+
+-- `presets::no_roles`
+pub only-no-roles : OneAnswer presets.no_roles.Kinds.ps presets.no_roles.Kinds.r presets.no_roles.Reads.Post
+only-no-roles κs a z z′ e e′ p q = cc
+
+-- `presets::rust_sizes`
+pub only-rust-sizes : OneAnswer presets.rust_sizes.Kinds.ps presets.rust_sizes.Kinds.r presets.rust_sizes.Reads.Post
+only-rust-sizes κs a z z′ e e′ p q = cc

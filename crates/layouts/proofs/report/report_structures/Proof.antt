@@ -6,10 +6,11 @@ use Rattle.layouts.proofs.report.report_structures.Statement.{statement
 use Rattle.layouts.proofs.report.report_structures.Tie as tie
 
 abbrev Inv-loop : tie.InvT-loop
-Inv-loop s rows structures members n buffer₀ used₀ k₀ buffer used k = 4096 ≡ length buffer
+Inv-loop s preset rows attrs counts structures members n buffer₀ room₀ used₀ k₀ buffer room used k =
+    (4096 ≡ length buffer) × (4096 ≡ length room)
 
 abbrev μ-loop : tie.MeasureT-loop
-μ-loop s rows structures members n buffer₀ used₀ k₀ buffer used k = n - k
+μ-loop s preset rows attrs counts structures members n buffer₀ room₀ used₀ k₀ buffer room used k = n - k
 
 pub report-structures-spec : {M : Type 1} → statement M
 report-structures-spec =
@@ -17,8 +18,10 @@ report-structures-spec =
     (tie.spec
     Inv-loop
     μ-loop
+    (λ c κs. search needs)
     (λ c. search needs)
     (λ c κs. search needs)
+    (λ c. search needs)
     (λ c. search needs)
     (λ c κs. search needs)
     (λ c. search needs)

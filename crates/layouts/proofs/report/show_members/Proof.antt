@@ -6,10 +6,10 @@ use Rattle.layouts.proofs.report.show_members.Statement.{statement}
 use Rattle.layouts.proofs.report.show_members.Tie as tie
 
 abbrev Inv-loop : tie.InvT-loop
-Inv-loop s members first count buffer₀ used shown₀ k₀ buffer shown k = length buffer ≡ length buffer₀
+Inv-loop s members first count others buffer₀ used shown₀ k₀ buffer shown k = length buffer ≡ length buffer₀
 
 abbrev μ-loop : tie.MeasureT-loop
-μ-loop s members first count buffer₀ used shown₀ k₀ buffer shown k = count - k
+μ-loop s members first count others buffer₀ used shown₀ k₀ buffer shown k = count - k
 
 pub show-members-spec : {M : Type 1} → statement M
 show-members-spec =
