@@ -18,4 +18,5 @@ pub mod Back
 pub mod Only
 pub mod TreeListed
 pub mod TreeTheorem
+pub mod Shape
 pub mod ShutOut
