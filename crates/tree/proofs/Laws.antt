@@ -19,4 +19,6 @@ pub mod Only
 pub mod TreeListed
 pub mod TreeTheorem
 pub mod Shape
+pub mod StandardReach
+pub mod StandardForest
 pub mod ShutOut
