@@ -12,9 +12,9 @@ use Rattle.format.specs.Said.{gives}
 use Rattle.tree.specs.Demand.{Called}
 
 module _ {numbers : List ℕ} {e : Endian} where
-  -- two words for each entry, the first being row `row`: its depth, and its parent's row plus one, 0 for none. An entry's children, with the null that
-  -- ends them, lie one deeper than it and have it for a parent; its siblings lie as deep as it and have its parent
-  unfoldable pub forestPlaces : {closed : Bool} {at : ℕ} {dies : List (Die numbers e)} → Forest numbers e closed at dies → (row depth parent : ℕ) → List ℕ
+  -- two words for each entry from row `row` on: its depth, and its parent's row plus one, 0 for none. A null that ends children is one of them
+  unfoldable pub forestPlaces : {closed : Bool} {at : ℕ} {dies : List (Die numbers e)} → Forest numbers e closed at dies
+      → (row depth parent : ℕ) → List ℕ
   forestPlaces (done at) row depth parent = []
   forestPlaces (ended at fill few small) row depth parent = depth ∷ parent ∷ []
   forestPlaces (alone closed at d rest r siblings) row depth parent = depth ∷ parent ∷ forestPlaces siblings (suc row) depth parent
