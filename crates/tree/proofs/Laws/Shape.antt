@@ -1,13 +1,12 @@
--- Forests of rows as first child and next sibling. Where each row's reach ends behind what lies below it, the reaches nest, and depth and parent of each row
--- are those of the forest.
+-- Forests of rows as first child and next sibling. Where each row's reach ends behind what lies below it, the reaches nest, and depth and parent of
+-- each row are those of the forest.
 use Prim.Native.Nat.{ℕ, zero, suc, _+_, _≤_, _<_}
 use native.Mathlib.Nat.{le-refl}
 use native.Mathlib.Decide.{ℕ-discrete, decLt}
 use native.Mathlib.Omega.{arith}
-use mathlib.Core.Path.{_≡_, refl, sym, ap, ap₂, _∙_}
+use mathlib.Core.Path.{_≡_, refl, ap, _∙_}
 use mathlib.Core.Bool.{Bool, true, false, not, _&&_}
 use mathlib.Core.List.{List, [], _∷_, _++_}
-use lib.ListN.{length}
 use lib.Dec.{eqb}
 use borrow.Author.Tests.{lt-ltb, le-ltb, le-leb, lt-leb, eq-eqb, ne-eqb}
 use Rattle.tree.specs.Pick.{countBelow, nearestBelow}

@@ -1,11 +1,11 @@
--- A forest that the standard writes is listed as that forest: every entry once, in its order, with its depth and its parent. First of the definition of the
--- listing, then of the calls, over their own contracts.
-use Prim.Native.Nat.{ℕ, suc, _+_, _*_, _≤_, _<_}
+-- A forest that the standard writes is listed as that forest: every entry once, in its order, with its depth and its parent. First of the definition
+-- of the listing, then of the calls, over their own contracts.
+use Prim.Native.Nat.{ℕ, suc, _+_, _*_}
 use native.Mathlib.Nat.{add-zero}
 use native.Mathlib.Omega.{arith}
 use mathlib.Core.Path.{_≡_, refl, sym, ap, subst, _∙_}
 use mathlib.Core.Bool.{Bool, false}
-use mathlib.Core.List.{List, [], _∷_, _++_}
+use mathlib.Core.List.{List}
 use lib.ListN.{length, getD}
 use lib.Seq.{sets}
 use borrow.Fn.Kinds.{Dens, resT, endedOf}
@@ -21,7 +21,6 @@ use Rattle.format.specs.Limits.{erasedLimit}
 use Rattle.format.specs.Said.{Said, gives}
 use Rattle.format.specs.declared.settings.Settings.{Settings}
 use Rattle.tables.specs.Table.{Table, table}
-use Rattle.tables.specs.Row.{rowsFrom, attrsFrom}
 use Rattle.tables.specs.declared.row.Row.{Row}
 use Rattle.tables.specs.declared.row.Attr.{Attr}
 use Rattle.tables.specs.declared.row.Counts.{Counts}

@@ -1,21 +1,19 @@
--- The table of entries that the standard wrote without padding: row i is entry i, its key is where the entry begins, and its sibling reference is what its
--- first AT_sibling names. So in the table of a forest each row's reach ends behind the rows below it.
+-- The table of entries that the standard wrote without padding: row i is entry i, its key is where the entry begins, and its sibling reference is what
+-- its first AT_sibling names. So in the table of a forest each row's reach ends behind the rows below it.
 use Prim.Native.Nat.{ℕ, suc, _+_, _%_, _<_}
 use native.Mathlib.Nat.{add-zero, le-refl}
 use native.Mathlib.Omega.{arith}
 use mathlib.Core.Path.{_≡_, refl, sym, ap, subst, _∙_}
 use mathlib.Core.Logic.{_⊎_, inl, inr, ⊎-elim}
-use mathlib.Core.Bool.{Bool, true, false}
+use mathlib.Core.Bool.{Bool}
 use mathlib.Core.List.{List, [], _∷_, _++_, append-assoc, append-nil}
 use lib.ListN.{length, length-append}
 use lib.Dec.{eqb}
 use borrow.Author.Tests.{eqb-true}
 use Rattle.numbers.specs.declared.Endian.{Endian}
-use Rattle.numbers.specs.declared.unsigned.Read32.the-variants as read32
 use Rattle.numbers.proofs.Laws.Stands.{Stands, all-stands, front-stands, back-stands}
-use Rattle.standard.specs.Numbers.{Form, REF, formNumber}
-use Rattle.standard.specs.Entries.{Value, number, bytes, Written, Attribute, writtenAttribute, writtenAttributes, Die, null, padding, entry, writtenDie, writtenDies}
-use Rattle.standard.specs.Entries as written
+use Rattle.standard.specs.Numbers.{Form, formNumber}
+use Rattle.standard.specs.Entries.{Value, number, bytes, Attribute, writtenAttribute, writtenAttributes, Die, null, padding, entry, writtenDie, writtenDies}
 use Rattle.standard.specs.Forest.{siblingsIn, References, Forest, done, ended, alone, childless, family}
 use Rattle.attributes.specs.Decode.{referenceAt}
 use Rattle.tables.specs.Table.{Rows, lentRows}
