@@ -1,5 +1,5 @@
--- How the standard flattens a tree: in prefix order; AT_sibling refers to the entry behind an entry's children; a chain of children is ended by a null
--- entry; an entry without AT_sibling has no children. No padding stands among these entries.
+-- How the standard flattens a tree: in prefix order; AT_sibling refers to the entry behind an entry's children; a chain of children is ended by a
+-- null entry; an entry without AT_sibling has no children. No padding stands among these entries.
 use Prim.Native.Nat.{ℕ, _+_, _≤_}
 use mathlib.Core.Path.{_≡_}
 use mathlib.Core.Bool.{Bool, true, false, cond}

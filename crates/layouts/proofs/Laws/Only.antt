@@ -12,6 +12,14 @@ only-gap-between κs a z z′ e e′ p q = cc
 pub only-reach-with : OneAnswer gaps.reach_with.Kinds.ps gaps.reach_with.Kinds.r gaps.reach_with.Reads.Post
 only-reach-with κs a z z′ e e′ p q = cc
 
+-- `gaps::stretch_of`
+pub only-stretch-of : OneAnswer gaps.stretch_of.Kinds.ps gaps.stretch_of.Kinds.r gaps.stretch_of.Reads.Post
+only-stretch-of κs a z z′ e e′ p q = cc
+
+-- `gaps::is_byteless`
+pub only-is-byteless : OneAnswer gaps.is_byteless.Kinds.ps gaps.is_byteless.Kinds.r gaps.is_byteless.Reads.Post
+only-is-byteless κs a z z′ e e′ p q = cc
+
 -- `presets::preset_of`
 pub only-preset-of : OneAnswer presets.preset_of.Kinds.ps presets.preset_of.Kinds.r presets.preset_of.Reads.Post
 only-preset-of κs a z z′ e e′ p q = cc

@@ -38,7 +38,7 @@ module _ (test : ℕ → Bool) where
   passing-nearest (suc k) = cond-map nearest (test k) (k ∷ passing test k) (passing test k) ∙ rw (passing-nearest k)
 
   -- only numbers below j pass
-  count-below : (j n : ℕ) → j ≤ n → ((i : ℕ) → j ≤ i → i < n → test i ≡ false) → countBelow test n ≡ countBelow test j
+  pub count-below : (j n : ℕ) → j ≤ n → ((i : ℕ) → j ≤ i → i < n → test i ≡ false) → countBelow test n ≡ countBelow test j
   unfolding countBelow
   count-below j zero h none = let last : j ≡ 0 = omega arith in rw last
   count-below j (suc n) h none =

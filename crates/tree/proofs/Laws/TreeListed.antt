@@ -81,7 +81,7 @@ none-first p n h = let all : firstFrom p 0 n ≡ n = first-none p n .1 h in le-l
 
 -- ---- the places, read back
 
-places-depth : (n : ℕ) (reach : ℕ → ℕ) (i k j : ℕ) → j < k
+pub places-depth : (n : ℕ) (reach : ℕ → ℕ) (i k j : ℕ) → j < k
     → (getD (placesFrom n reach i k) (j * placeWidth) 0 ≡ depth n reach (i + j)) × (getD (placesFrom n reach i k) (j * placeWidth + 1) 0 ≡ parent n reach (i + j))
 unfolding placesFrom
 places-depth n reach i (suc k) zero h =
