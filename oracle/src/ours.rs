@@ -1,6 +1,6 @@
 //! Our archive, through its C functions, with the settings that complete the Rust's `AttributeKind`.
 use crate::{
-    known::{ATTRIBUTES, ROWS, vendors},
+    known::{ATTRIBUTES, ROWS, preset_vendors, vendors},
     util::{dwarf::AttributeKind, reader::Endian},
 };
 
@@ -72,7 +72,7 @@ impl Reader {
     /// Lends tables of the largest size, with `fill` in every word.
     pub fn new(fill: u32) -> Self {
         let vendors = vendors();
-        assert_eq!(vendors.len(), 47);
+        assert_eq!(vendors, preset_vendors());
         Reader {
             vendors,
             sizes: [4; 28],

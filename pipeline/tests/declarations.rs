@@ -85,3 +85,45 @@ fn numbers_are_those_of_the_archive() {
         }
     }
 }
+
+/// The numbers of a list of the definitions, hexadecimal or decimal.
+fn list(text: &str, name: &str) -> Vec<u32> {
+    let rest = text.split(&format!("\n{name} ")).nth(1).unwrap_or_else(|| panic!("no {name}"));
+    let body = rest.split('=').nth(1).and_then(|body| body.split("[]").next()).expect("a list");
+    let number = |word: &str| match word.strip_prefix("0x") {
+        Some(hex) => u32::from_str_radix(hex, 16).ok(),
+        None => word.parse().ok(),
+    };
+    // A size that the Rust does not have is `other`, and 0 here.
+    body.split('∷')
+        .map(str::trim)
+        .filter(|word| !word.is_empty())
+        .map(|word| number(word).unwrap_or(0))
+        .collect()
+}
+
+#[test]
+fn presets_are_those_of_the_definitions() {
+    let presets = text(below("../crates/format/specs/Presets.antt"));
+    let ours = text(below("src/settings.rs"));
+    let constant = |name: &str| -> Vec<u32> {
+        let rest = ours.split(&format!("const {name}: ")).nth(1).unwrap_or_else(|| panic!("no {name}"));
+        let body = rest.split('=').nth(1).and_then(|body| body.split(';').next()).expect("a constant");
+        let words = body
+            .split(|c: char| !c.is_ascii_alphanumeric())
+            .filter(|word| word.starts_with(|c: char| c.is_ascii_digit()));
+        words
+            .map(|word| {
+                word.strip_prefix("0x")
+                    .map_or(word.parse(), |hex| u32::from_str_radix(hex, 16))
+                    .expect("a number")
+            })
+            .collect()
+    };
+    assert_eq!(list(&presets, "mwVendors"), constant("MW_VENDORS"));
+    assert_eq!(list(&presets, "rustSizes other"), constant("SIZES"));
+    let roles = presets.split("\nmwRoles =").nth(1).and_then(|rest| rest.lines().next()).expect("mwRoles");
+    let roles: Vec<u32> =
+        roles.split("0x").skip(1).map(|n| u32::from_str_radix(&n[..4], 16).expect("a number")).collect();
+    assert_eq!(roles, constant("MW_ROLES"));
+}

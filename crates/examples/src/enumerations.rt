@@ -9,8 +9,8 @@ use crate::cursor::signed;
 use crate::cursor::word;
 use crate::fields::name;
 use crate::settings::SIZES;
-use crate::settings::VENDORS;
 use attributes::decode::part;
+use format::presets::MW_VENDORS;
 use format::settings::Settings;
 use records::enumeration::Enumeration;
 use records::enumeration::EnumerationRead;
@@ -75,7 +75,7 @@ fn large_enumeration(
     match process_enumeration_tag(
         s,
         settings,
-        &VENDORS,
+        &MW_VENDORS,
         &SIZES,
         rows,
         attrs,
@@ -107,7 +107,7 @@ pub fn enumeration(
     match process_enumeration_tag(
         s,
         settings,
-        &VENDORS,
+        &MW_VENDORS,
         &SIZES,
         rows,
         attrs,

@@ -19,7 +19,6 @@ use crate::relations::next;
 use crate::relations::sibling;
 use crate::relations::size;
 use crate::settings::SIZES;
-use crate::settings::VENDORS;
 use crate::settings::settings_by;
 use crate::single::label;
 use crate::single::member;
@@ -35,6 +34,7 @@ use crate::values::table;
 use attributes::decode::part;
 use entries::section::Section;
 use entries::section::read_debug_section;
+use format::presets::MW_VENDORS;
 use format::settings::Settings;
 use numbers::unsigned::bytes_there;
 use std::num::wrapping_add_usize;
@@ -207,7 +207,7 @@ fn large_section(
     let body = body_at(packet, at);
     let mut rows = [0u32; 20480];
     let mut attrs = [0u32; 65536];
-    match read_debug_section(s, settings, &VENDORS, &SIZES, &mut rows, &mut attrs) {
+    match read_debug_section(s, settings, &MW_VENDORS, &SIZES, &mut rows, &mut attrs) {
         Section::Read(counts) => {
             section_read(packet, at, t, c, s, settings, &rows, &attrs, counts)
         }
@@ -228,7 +228,7 @@ fn small_section(
     let body = body_at(packet, at);
     let mut rows = [0u32; 320];
     let mut attrs = [0u32; 512];
-    match read_debug_section(s, settings, &VENDORS, &SIZES, &mut rows, &mut attrs) {
+    match read_debug_section(s, settings, &MW_VENDORS, &SIZES, &mut rows, &mut attrs) {
         Section::Read(counts) => {
             section_read(packet, at, t, c, s, settings, &rows, &attrs, counts)
         }

@@ -1,10 +1,10 @@
 // Refusals that the comparison with the Rust does not show: it never ends there, or needs no room. What is answered is printed, as of document 01's examples.
 use crate::settings::SIZES;
-use crate::settings::VENDORS;
 use crate::settings::settings_by;
 use crate::tally::text;
 use entries::section::Section;
 use entries::section::read_debug_section;
+use format::presets::MW_VENDORS;
 use format::refusal::Refusal;
 use format::refusal::number_of;
 use layout::one::LayoutRead;
@@ -40,7 +40,7 @@ fn no_room(needed: usize) {
 
 // A section's rows and attributes; an unread one has none.
 fn read(s: &[u8], rows: &mut [u32], attrs: &mut [u32]) -> Counts {
-    match read_debug_section(s, settings_by(0), &VENDORS, &SIZES, rows, attrs) {
+    match read_debug_section(s, settings_by(0), &MW_VENDORS, &SIZES, rows, attrs) {
         Section::Read(counts) => counts,
         _ => Counts { rows: 0, attrs: 0 },
     }
@@ -55,7 +55,7 @@ fn typedef_of_itself() {
     match process_typedef_tag(
         s,
         settings_by(0),
-        &VENDORS,
+        &MW_VENDORS,
         &SIZES,
         &rows,
         &attrs,
@@ -76,7 +76,7 @@ fn array_of_itself() {
     match size_of_key(
         s,
         settings_by(0),
-        &VENDORS,
+        &MW_VENDORS,
         &SIZES,
         &rows,
         &attrs,
@@ -100,7 +100,7 @@ fn union_with_no_room() {
     match process_union_tag(
         s,
         settings_by(0),
-        &VENDORS,
+        &MW_VENDORS,
         &SIZES,
         &rows,
         &attrs,
@@ -127,7 +127,7 @@ fn enumeration_with_no_room() {
     match process_enumeration_tag(
         s,
         settings_by(0),
-        &VENDORS,
+        &MW_VENDORS,
         &SIZES,
         &rows,
         &attrs,
@@ -154,7 +154,7 @@ fn layout_with_no_room() {
     match layout_of_key(
         s,
         settings_by(0),
-        &VENDORS,
+        &MW_VENDORS,
         &SIZES,
         &rows,
         &attrs,

@@ -8,9 +8,9 @@ use crate::cursor::no_room;
 use crate::cursor::refusal;
 use crate::cursor::word;
 use crate::settings::SIZES;
-use crate::settings::VENDORS;
 use crate::values::attribute as attribute_words;
 use crate::values::ends_by;
+use format::presets::MW_VENDORS;
 use format::refusal::Refusal;
 use format::refusal::reason_of;
 use format::settings::Settings;
@@ -61,7 +61,7 @@ fn many_children(
     match children(
         s,
         settings,
-        &VENDORS,
+        &MW_VENDORS,
         &SIZES,
         rows,
         attrs,
@@ -89,7 +89,7 @@ pub fn child_walk(
     match children(
         s,
         settings,
-        &VENDORS,
+        &MW_VENDORS,
         &SIZES,
         rows,
         attrs,
@@ -124,7 +124,7 @@ pub fn next(
     counts: Counts,
     key: u32,
 ) -> Cursor {
-    let found = next_tag(s, settings, &VENDORS, &SIZES, rows, attrs, counts, key);
+    let found = next_tag(s, settings, &MW_VENDORS, &SIZES, rows, attrs, counts, key);
     neighbour(body, c, rows, found)
 }
 
@@ -138,7 +138,7 @@ pub fn sibling(
     counts: Counts,
     key: u32,
 ) -> Cursor {
-    let found = next_sibling(s, settings, &VENDORS, &SIZES, rows, attrs, counts, key);
+    let found = next_sibling(s, settings, &MW_VENDORS, &SIZES, rows, attrs, counts, key);
     neighbour(body, c, rows, found)
 }
 
@@ -152,7 +152,7 @@ pub fn first_type(
     counts: Counts,
     key: u32,
 ) -> Cursor {
-    match type_attribute(s, settings, &VENDORS, &SIZES, rows, attrs, counts, key) {
+    match type_attribute(s, settings, &MW_VENDORS, &SIZES, rows, attrs, counts, key) {
         Looked::At(attr) => word(body, word(body, given(body, c), 1), attr.number),
         Looked::Nothing => word(body, given(body, c), 0),
         Looked::Refused(why) => refusal(body, c, why),
@@ -203,7 +203,7 @@ fn looked_string(
     let ours = string_attribute(
         s,
         settings,
-        &VENDORS,
+        &MW_VENDORS,
         &SIZES,
         rows,
         attrs,
@@ -230,7 +230,7 @@ fn looked_block(
     let ours = block_attribute(
         s,
         settings,
-        &VENDORS,
+        &MW_VENDORS,
         &SIZES,
         rows,
         attrs,
@@ -257,7 +257,7 @@ fn looked_at(
     match attribute(
         s,
         settings,
-        &VENDORS,
+        &MW_VENDORS,
         &SIZES,
         rows,
         attrs,
@@ -312,7 +312,7 @@ fn value_of(
         return address_attribute(
             s,
             settings,
-            &VENDORS,
+            &MW_VENDORS,
             &SIZES,
             rows,
             attrs,
@@ -325,7 +325,7 @@ fn value_of(
         return reference_attribute(
             s,
             settings,
-            &VENDORS,
+            &MW_VENDORS,
             &SIZES,
             rows,
             attrs,
@@ -338,7 +338,7 @@ fn value_of(
         return data2_attribute(
             s,
             settings,
-            &VENDORS,
+            &MW_VENDORS,
             &SIZES,
             rows,
             attrs,
@@ -350,7 +350,7 @@ fn value_of(
     data4_attribute(
         s,
         settings,
-        &VENDORS,
+        &MW_VENDORS,
         &SIZES,
         rows,
         attrs,
@@ -396,7 +396,7 @@ pub fn size(
     counts: Counts,
     key: u32,
 ) -> Cursor {
-    match size_of_key(s, settings, &VENDORS, &SIZES, rows, attrs, counts, key) {
+    match size_of_key(s, settings, &MW_VENDORS, &SIZES, rows, attrs, counts, key) {
         Sized::Is(n) => word(body, given(body, c), n),
         Sized::Refused(why) => refusal(body, c, why),
     }

@@ -9,7 +9,7 @@ use crate::fields::name;
 use crate::fields::of_type;
 use crate::fields::option;
 use crate::settings::SIZES;
-use crate::settings::VENDORS;
+use format::presets::MW_VENDORS;
 use format::settings::Settings;
 use records::fields::Visibility;
 use records::fields::text_part;
@@ -75,7 +75,7 @@ pub fn member(
     counts: Counts,
     key: u32,
 ) -> Cursor {
-    match process_structure_member_tag(s, settings, &VENDORS, &SIZES, rows, attrs, counts, key) {
+    match process_structure_member_tag(s, settings, &MW_VENDORS, &SIZES, rows, attrs, counts, key) {
         MemberRead::Is(found) => member_words(body, given(body, c), s, found),
         MemberRead::Refused(why) => refusal(body, c, why),
     }
@@ -97,7 +97,7 @@ pub fn typedef(
     counts: Counts,
     key: u32,
 ) -> Cursor {
-    match process_typedef_tag(s, settings, &VENDORS, &SIZES, rows, attrs, counts, key) {
+    match process_typedef_tag(s, settings, &MW_VENDORS, &SIZES, rows, attrs, counts, key) {
         TypedefRead::Is(found) => typedef_words(body, given(body, c), s, found),
         TypedefRead::Refused(why) => refusal(body, c, why),
     }
@@ -123,7 +123,7 @@ pub fn variable(
     counts: Counts,
     key: u32,
 ) -> Cursor {
-    match process_variable_tag(s, settings, &VENDORS, &SIZES, rows, attrs, counts, key) {
+    match process_variable_tag(s, settings, &MW_VENDORS, &SIZES, rows, attrs, counts, key) {
         VariableRead::Is(found) => variable_words(body, given(body, c), s, found),
         VariableRead::Refused(why) => refusal(body, c, why),
     }
@@ -144,7 +144,7 @@ pub fn label(
     counts: Counts,
     key: u32,
 ) -> Cursor {
-    match process_subroutine_label_tag(s, settings, &VENDORS, &SIZES, rows, attrs, counts, key) {
+    match process_subroutine_label_tag(s, settings, &MW_VENDORS, &SIZES, rows, attrs, counts, key) {
         LabelRead::Is(found) => label_words(body, given(body, c), s, found),
         LabelRead::Refused(why) => refusal(body, c, why),
     }
@@ -165,7 +165,7 @@ pub fn ptr_to_member(
     counts: Counts,
     key: u32,
 ) -> Cursor {
-    match process_ptr_to_member_tag(s, settings, &VENDORS, &SIZES, rows, attrs, counts, key) {
+    match process_ptr_to_member_tag(s, settings, &MW_VENDORS, &SIZES, rows, attrs, counts, key) {
         PtrToMemberRead::Is(found) => ptr_words(body, given(body, c), s, found),
         PtrToMemberRead::Refused(why) => refusal(body, c, why),
     }
@@ -189,7 +189,7 @@ pub fn overlay_branch(
     counts: Counts,
     key: u32,
 ) -> Cursor {
-    match process_overlay_branch(s, settings, &VENDORS, &SIZES, rows, attrs, counts, key) {
+    match process_overlay_branch(s, settings, &MW_VENDORS, &SIZES, rows, attrs, counts, key) {
         OverlayBranchRead::Is(found) => overlay_words(body, given(body, c), s, found),
         OverlayBranchRead::Refused(why) => refusal(body, c, why),
     }

@@ -10,8 +10,8 @@ use crate::cursor::word;
 use crate::fields::modifiers;
 use crate::fields::name;
 use crate::settings::SIZES;
-use crate::settings::VENDORS;
 use attributes::decode::part;
+use format::presets::MW_VENDORS;
 use format::settings::Settings;
 use records::unions::Union;
 use records::unions::UnionRead;
@@ -122,7 +122,7 @@ fn large_union(
     match process_union_tag(
         s,
         settings,
-        &VENDORS,
+        &MW_VENDORS,
         &SIZES,
         rows,
         attrs,
@@ -150,7 +150,7 @@ pub fn union_type(
     match process_union_tag(
         s,
         settings,
-        &VENDORS,
+        &MW_VENDORS,
         &SIZES,
         rows,
         attrs,

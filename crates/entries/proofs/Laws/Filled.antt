@@ -65,7 +65,7 @@ module _ (settings : Settings) (vendors s : List ℕ) {rs : List Row} {xs : List
 -- ---- the table test
 
 -- attributes that a table holds, and those behind them
-held-apart : (t : List ℕ) (i : ℕ) (xs ys : List Attr) → attrsFrom t i (length (xs ++ ys)) ≡ xs ++ ys
+pub held-apart : (t : List ℕ) (i : ℕ) (xs ys : List Attr) → attrsFrom t i (length (xs ++ ys)) ≡ xs ++ ys
     → (attrsFrom t i (length xs) ≡ xs) × (attrsFrom t (i + length xs) (length ys) ≡ ys)
 unfolding attrsFrom
 held-apart t i [] ys p = (refl, rw add-zero p)

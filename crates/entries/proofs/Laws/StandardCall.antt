@@ -55,7 +55,7 @@ unfolding sectionEntries must _>>_
 section-given settings vendors sizes s h k p = rw (h, lt-ltb (length s) sectionLimit k) p
 
 -- the walk with the erased flag off
-off-walk : (settings : Settings) (vendors s : List ℕ) → settings .erased ≡ false
+pub off-walk : (settings : Settings) (vendors s : List ℕ) → settings .erased ≡ false
     → wholeWalk settings vendors s ≡ readTags (source vendors (settings .roles .«global_ref») s) false erasedLimit (mode false (settings .endian)) (length s) 0 0
 unfolding wholeWalk
 off-walk settings vendors s off = rw off

@@ -29,6 +29,7 @@ use Rattle.entries.specs.Walk.{Entries, entries, readTags}
 use Rattle.entries.specs.Section.{saidSection, wholeWalk, readDebugSection}
 use Rattle.entries.specs.Filled.{TableFilled}
 use Rattle.entries.specs.Standard.{taken, attrsOf, rowsOf, Call, Dies, WrittenLent}
+use Rattle.entries.proofs.Laws.StandardCall.{off-walk}
 use Rattle.entries.proofs.Laws.Filled.{answer-read}
 use Rattle.entries.proofs.Laws.StandardRead.{standard-read}
 use Rattle.entries.proofs.section.read_debug_section as read
@@ -56,12 +57,6 @@ shape-places (alone closed at x rest r siblings) row d p = rw (add-zero (suc row
 shape-places (childless closed at x rest r siblings) row d p = rw (add-zero (suc row), shape-places siblings (suc row) d p)
 shape-places (family closed at x children rest r below siblings) row d p =
     rw (shape-size below, shape-places below (suc row) (suc d) (suc row), shape-places siblings (suc row + length children) d p)
-
--- the walk with the erased flag off
-off-walk : (settings : Settings) (vendors s : List ℕ) → settings .erased ≡ false
-    → wholeWalk settings vendors s ≡ readTags (source vendors (settings .roles .«global_ref») s) false erasedLimit (mode false (settings .endian)) (length s) 0 0
-unfolding wholeWalk
-off-walk settings vendors s off = rw off
 
 -- ---- over the definitions
 

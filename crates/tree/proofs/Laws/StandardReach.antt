@@ -20,6 +20,7 @@ use Rattle.tables.specs.Table.{Rows, lentRows}
 use Rattle.tables.specs.Row.{rowAt, attrAt, rowsFrom, attrsFrom}
 use Rattle.tables.specs.declared.row.Row.{Row}
 use Rattle.tables.specs.declared.row.Attr.{Attr}
+use Rattle.entries.proofs.Laws.Filled.{held-apart}
 use Rattle.entries.specs.Standard.{writtenFrom, dieAttrs, dieRows, attrsOf, rowsOf, Decoded, both}
 use Rattle.entries.specs.Standard as decoded
 use Rattle.entries.proofs.Laws.KnownRun.{by-test}
@@ -124,17 +125,6 @@ module _ {numbers : List ℕ} {e : Endian} where
       run-sibling e s attrs (b ∷ rest) a (at + 6) (tagged e s at (length body + 6) tag body q .body-stands) h
 
 -- ---- entries that the table holds
-
--- attributes that a table holds, and those behind them
-held-apart : (t : List ℕ) (i : ℕ) (xs ys : List Attr) → attrsFrom t i (length (xs ++ ys)) ≡ xs ++ ys
-    → (attrsFrom t i (length xs) ≡ xs) × (attrsFrom t (i + length xs) (length ys) ≡ ys)
-unfolding attrsFrom
-held-apart t i [] ys p = (refl, rw add-zero p)
-held-apart t i (x ∷ xs) ys p =
-    let later : attrsFrom t (suc i) (length (xs ++ ys)) ≡ xs ++ ys = cc in
-    let parts = held-apart t (suc i) xs ys later in
-    let place : i + suc (length xs) ≡ suc i + length xs = omega arith in
-    (cc (parts .0), rw place (parts .1))
 
 module _ {numbers : List ℕ} {e : Endian} where
   abbrev AllRowed : List (Die numbers e) → Type 0
