@@ -180,8 +180,11 @@ unsafe extern "C" {
     ) -> u32;
 }
 
-/// A number (0 for given, else the refusal's), the place of a refusal, and up to three results.
-#[derive(Debug, Clone, Copy, Default, PartialEq, Eq)]
+/// What results hold before a call. A refusal leaves them so, but for the counts that 8 needs.
+pub const HELD: u64 = 0x5a5a_5a5a_5a5a_5a5a;
+
+/// A number (0 for given, else the refusal's), the place of a refusal (0 where nothing is refused), and up to three results.
+#[derive(Debug, Clone, Copy, PartialEq, Eq)]
 pub struct Answer {
     pub number: u32,
     pub place: u64,
@@ -189,6 +192,11 @@ pub struct Answer {
 }
 
 impl Answer {
+    /// Before the call.
+    fn open() -> Self {
+        Answer { number: 0, place: HELD, results: [HELD; 3] }
+    }
+
     /// The results, or the refusal; `needed` says which results tell what 8 needs.
     pub fn given(self, needed: impl Fn([u64; 3]) -> Needed) -> Result<[u64; 3], Error> {
         match self.number {
@@ -247,7 +255,7 @@ macro_rules! call {
 
 /// How many rows and attributes a section has.
 pub fn count(s: &[u8], settings: &Settings) -> Answer {
-    let mut answer = Answer::default();
+    let mut answer = Answer::open();
     let [rows, attrs, _] = &mut answer.results;
     answer.number = call!(capbeacon_count_debug_section, s, settings, &mut answer.place, rows, attrs);
     answer
@@ -255,7 +263,7 @@ pub fn count(s: &[u8], settings: &Settings) -> Answer {
 
 /// The same, and both tables filled.
 pub fn read(s: &[u8], settings: &Settings, rows: &mut [u32], attrs: &mut [u32]) -> Answer {
-    let mut answer = Answer::default();
+    let mut answer = Answer::open();
     let [row_count, attr_count, _] = &mut answer.results;
     answer.number = call!(
         capbeacon_read_debug_section,
@@ -274,7 +282,7 @@ pub fn read(s: &[u8], settings: &Settings, rows: &mut [u32], attrs: &mut [u32]) 
 
 /// How many rows were listed, each with depth and parent in the room.
 pub fn tree(s: &[u8], settings: &Settings, table: Table, room: &mut [u32]) -> Answer {
-    let mut answer = Answer::default();
+    let mut answer = Answer::open();
     let [listed, ..] = &mut answer.results;
     answer.number = call!(
         capbeacon_list_tree,
@@ -296,7 +304,7 @@ pub fn tree(s: &[u8], settings: &Settings, table: Table, room: &mut [u32]) -> An
 
 /// The size of a key's entry.
 pub fn size(s: &[u8], settings: &Settings, table: Table, key: u32) -> Answer {
-    let mut answer = Answer::default();
+    let mut answer = Answer::open();
     let [size, ..] = &mut answer.results;
     answer.number = call!(
         capbeacon_size_of_key,
@@ -317,7 +325,7 @@ pub fn size(s: &[u8], settings: &Settings, table: Table, key: u32) -> Answer {
 
 /// Row, size and number of members of a key's entry, the members in the room.
 pub fn layout(s: &[u8], settings: &Settings, table: Table, key: u32, room: &mut [u64]) -> Answer {
-    let mut answer = Answer::default();
+    let mut answer = Answer::open();
     let [row, size, members] = &mut answer.results;
     answer.number = call!(
         capbeacon_layout_of_key,
@@ -348,7 +356,7 @@ pub fn layouts(
     structures: &mut [u64],
     members: &mut [u64],
 ) -> Answer {
-    let mut answer = Answer::default();
+    let mut answer = Answer::open();
     let [structure_count, member_count, _] = &mut answer.results;
     answer.number = call!(
         capbeacon_all_layouts,
@@ -373,7 +381,7 @@ pub fn layouts(
 
 /// The offset that a location block says.
 pub fn offset(block: &[u8], endian: Endian) -> Answer {
-    let mut answer = Answer::default();
+    let mut answer = Answer::open();
     let [offset, ..] = &mut answer.results;
     // SAFETY: the pointer and the length are those of a live slice.
     answer.number = unsafe {

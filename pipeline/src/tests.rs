@@ -1,7 +1,7 @@
 //! What the safe functions cannot do: forged tables, and tables and rooms of any length.
 use crate::{
     Endian, Settings,
-    raw::{self, Answer, Table},
+    raw::{self, Answer, HELD, Table},
 };
 
 /// Document 01's input A, and its table.
@@ -47,20 +47,26 @@ fn given(results: [u64; 3]) -> Answer {
     Answer { number: 0, place: 0, results }
 }
 
+/// With 8 the counts that are needed.
+fn wanting(results: [u64; 3]) -> Answer {
+    Answer { number: 8, place: 0, results }
+}
+
+/// The results hold what they held.
 fn refused(number: u32, place: u64) -> Answer {
-    Answer { number, place, results: [0; 3] }
+    Answer { number, place, results: [HELD; 3] }
 }
 
 #[test]
 fn reading_fills_the_table() {
     let (mut rows, mut attrs) = ([FILL; 16], [FILL; 9]);
-    assert_eq!(raw::count(&INPUT_A, &settings()), given([3, 4, 0]));
-    assert_eq!(raw::read(&INPUT_A, &settings(), &mut rows, &mut attrs), given([3, 4, 0]));
+    assert_eq!(raw::count(&INPUT_A, &settings()), given([3, 4, HELD]));
+    assert_eq!(raw::read(&INPUT_A, &settings(), &mut rows, &mut attrs), given([3, 4, HELD]));
     assert_eq!((&rows[..15], rows[15]), (&ROWS[..], FILL));
     assert_eq!((&attrs[..8], attrs[8]), (&ATTRS[..], FILL));
     assert_eq!(
         asked(&INPUT_A, table(&rows, &attrs, 3, 4)),
-        [given([3, 0, 0]), given([4, 0, 0]), given([0, 4, 1]), given([1, 1, 0])]
+        [given([3, HELD, HELD]), given([4, HELD, HELD]), given([0, 4, 1]), given([1, 1, HELD])]
     );
 }
 
@@ -69,7 +75,7 @@ fn tables_too_small() {
     for (row_words, attr_words) in [(14, 8), (15, 7), (0, 0), (0, 100), (100, 0)] {
         let (mut rows, mut attrs) = (vec![FILL; row_words], vec![FILL; attr_words]);
         let answer = raw::read(&INPUT_A, &settings(), &mut rows, &mut attrs);
-        assert_eq!(answer, Answer { number: 8, place: 0, results: [3, 4, 0] });
+        assert_eq!(answer, wanting([3, 4, HELD]));
         assert!(rows.iter().chain(&attrs).all(|word| *word == FILL));
     }
 }
@@ -79,16 +85,26 @@ fn rooms_too_small() {
     let lent = table(&ROWS, &ATTRS, 3, 4);
     let mut places = [FILL; 5];
     let answer = raw::tree(&INPUT_A, &settings(), lent, &mut places);
-    assert_eq!((answer, places), (Answer { number: 8, place: 0, results: [3, 0, 0] }, [FILL; 5]));
+    assert_eq!((answer, places), (wanting([3, HELD, HELD]), [FILL; 5]));
     let mut members = [7; 3];
     let answer = raw::layout(&INPUT_A, &settings(), lent, 0, &mut members);
-    assert_eq!((answer, members), (Answer { number: 8, place: 0, results: [0, 0, 1] }, [7; 3]));
+    assert_eq!((answer, members), (wanting([HELD, HELD, 1]), [7; 3]));
     for (structure_words, member_words) in [(7, 4), (8, 3), (0, 0)] {
         let (mut structures, mut members) = (vec![7; structure_words], vec![7; member_words]);
         let answer = raw::layouts(&INPUT_A, &settings(), lent, &mut structures, &mut members);
-        assert_eq!(answer, Answer { number: 8, place: 0, results: [1, 1, 0] });
+        assert_eq!(answer, wanting([1, 1, HELD]));
         assert!(structures.iter().chain(&members).all(|word| *word == 7));
     }
+}
+
+#[test]
+fn refusals_leave_results_alone() {
+    let (mut rows, mut attrs) = ([FILL; 16], [FILL; 9]);
+    assert_eq!(raw::count(&INPUT_A[..0x16], &settings()), refused(4, 0x12));
+    assert_eq!(raw::read(&INPUT_A[..0x16], &settings(), &mut rows, &mut attrs), refused(4, 0x12));
+    assert_eq!((rows, attrs), ([FILL; 16], [FILL; 9]));
+    assert_eq!(raw::offset(&INPUT_A[32..37], Endian::Big), refused(17, 0));
+    assert_eq!(raw::offset(&INPUT_A[32..38], Endian::Big), given([0, HELD, HELD]));
 }
 
 #[test]
@@ -120,7 +136,10 @@ fn forged_tables() {
 fn an_empty_table_is_one() {
     for bytes in [&INPUT_A[..], &[]] {
         let lent = table(&[], &[], 0, 0);
-        assert_eq!(asked(bytes, lent), [given([0; 3]), refused(11, 0), refused(11, 0), given([0; 3])]);
+        assert_eq!(
+            asked(bytes, lent),
+            [given([0, HELD, HELD]), refused(11, 0), refused(11, 0), given([0, 0, HELD])]
+        );
     }
 }
 

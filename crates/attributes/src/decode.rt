@@ -1,4 +1,5 @@
-// What a value says, by its form. Strings and blocks come back as that part of the caller's section.
+// What a value says, by its form. Strings and blocks come back as that part of the caller's section. A contract says the bytes of a reference that is returned, not
+// where it points: beside each such function one with `_at` tells place and length, or that the value is cut, which an empty part alone does not show.
 use crate::text::zero_from;
 use numbers::Endian;
 use numbers::unsigned::Read16;
@@ -10,7 +11,7 @@ use numbers::unsigned::u32_at;
 use numbers::unsigned::u64_at;
 ghost use mathlib.Core.Path.{_≡_};
 ghost use Rattle.attributes.specs.Decode.{addressAt, referenceAt, data2At, data4At, data8At};
-ghost use Rattle.attributes.specs.Parts.{partAt, blockAt, textAt};
+ghost use Rattle.attributes.specs.Parts.{partAt, blockAt, textAt, partLies, blockLies, textLies};
 
 // Addresses and references are in the section's endianness, all else in the entry's own, its data endianness.
 pub struct Endians {
@@ -56,6 +57,66 @@ pub fn data8(s: &[u8], at: usize, ends: Endians) -> Read64
 {
     let e = ends.data;
     u64_at(s, at, e)
+}
+
+// Where a part of a section lies: the place of its first byte, and how many there are.
+pub struct Extent {
+    pub place: usize,
+    pub length: usize,
+}
+
+// Where the part lies that is asked for; or it is cut, not wholly inside.
+pub enum Lying {
+    At(Extent),
+    Cut,
+}
+
+// Where n bytes from a place on lie.
+pub fn part_at(s: &[u8], place: usize, n: usize) -> Lying
+    ensures { λ r. ⌜ r ≡ partLies (now (s .entry)) place n ⌝ }
+{
+    if bytes_there(s, place, n) {
+        Lying::At(Extent { place, length: n })
+    } else {
+        Lying::Cut
+    }
+}
+
+// Where the bytes of a block with a 2-byte length lie.
+pub fn block2_at(s: &[u8], at: usize, ends: Endians) -> Lying
+    ensures { λ r. ⌜ r ≡ blockLies (ends .«data») 2 (now (s .entry)) at ⌝ }
+{
+    let e = ends.data;
+    match u16_at(s, at, e) {
+        Read16::Value(n) => part_at(s, at + 2, n as usize),
+        Read16::Short => Lying::Cut,
+    }
+}
+
+// The same with a 4-byte length.
+pub fn block4_at(s: &[u8], at: usize, ends: Endians) -> Lying
+    ensures { λ r. ⌜ r ≡ blockLies (ends .«data») 4 (now (s .entry)) at ⌝ }
+{
+    let e = ends.data;
+    match u32_at(s, at, e) {
+        Read32::Value(n) => part_at(s, at + 4, n as usize),
+        Read32::Short => Lying::Cut,
+    }
+}
+
+// Where the bytes of a text before its zero lie.
+pub fn string_at(s: &[u8], at: usize) -> Lying
+    ensures { λ r. ⌜ r ≡ textLies (now (s .entry)) at ⌝ }
+{
+    let end = zero_from(s, at);
+    if end < s.len() {
+        Lying::At(Extent {
+            place: at,
+            length: end - at,
+        })
+    } else {
+        Lying::Cut
+    }
 }
 
 // n bytes from a place on, or nothing where they are not all there.

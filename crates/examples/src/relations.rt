@@ -3,7 +3,6 @@ use crate::cursor::Cursor;
 use crate::cursor::bytes;
 use crate::cursor::count;
 use crate::cursor::given;
-use crate::cursor::low_word;
 use crate::cursor::no_room;
 use crate::cursor::refusal;
 use crate::cursor::word;
@@ -11,8 +10,6 @@ use crate::settings::SIZES;
 use crate::values::attribute as attribute_words;
 use crate::values::ends_by;
 use format::presets::MW_VENDORS;
-use format::refusal::Refusal;
-use format::refusal::reason_of;
 use format::settings::Settings;
 use lent::cells::cell;
 use links::children::ChildRows;
@@ -21,14 +18,17 @@ use links::neighbour::Neighbour;
 use links::neighbour::next_sibling;
 use links::neighbour::next_tag;
 use links::typed::Looked;
+use links::typed::PartPlace;
 use links::typed::Value;
 use links::typed::address_attribute;
 use links::typed::attribute;
 use links::typed::block_attribute;
+use links::typed::block_place;
 use links::typed::data2_attribute;
 use links::typed::data4_attribute;
 use links::typed::reference_attribute;
 use links::typed::string_attribute;
+use links::typed::string_place;
 use links::typed::type_attribute;
 use sizes::size::size_of_key;
 use sizes::sized::Sized;
@@ -172,19 +172,12 @@ fn looked_word(body: &[u8], c: Cursor, number: u16, value: Value) -> Cursor {
     }
 }
 
-// A text or a block, and the three words that say whether it is there.
-fn looked_part(body: &[u8], c: Cursor, number: u16, ours: &[u8], told: &[u64; 3]) -> Cursor {
-    match told[0] {
-        0 => word(body, given(body, c), 0),
-        1 => bytes(body, found(body, c, number), ours),
-        _ => refusal(
-            body,
-            c,
-            Refusal {
-                reason: reason_of(low_word(told[1])),
-                place: told[2],
-            },
-        ),
+// A text or a block, and where it lies.
+fn looked_part(body: &[u8], c: Cursor, number: u16, ours: &[u8], placed: PartPlace) -> Cursor {
+    match placed {
+        PartPlace::At(x) => bytes(body, found(body, c, number), ours),
+        PartPlace::Nothing => word(body, given(body, c), 0),
+        PartPlace::Refused(why) => refusal(body, c, why),
     }
 }
 
@@ -199,7 +192,6 @@ fn looked_string(
     key: u32,
     number: u16,
 ) -> Cursor {
-    let mut told = [0u64; 3];
     let ours = string_attribute(
         s,
         settings,
@@ -210,9 +202,19 @@ fn looked_string(
         counts,
         key,
         number,
-        &mut told,
     );
-    looked_part(body, c, number, ours, &told)
+    let placed = string_place(
+        s,
+        settings,
+        &MW_VENDORS,
+        &SIZES,
+        rows,
+        attrs,
+        counts,
+        key,
+        number,
+    );
+    looked_part(body, c, number, ours, placed)
 }
 
 fn looked_block(
@@ -226,7 +228,6 @@ fn looked_block(
     key: u32,
     number: u16,
 ) -> Cursor {
-    let mut told = [0u64; 3];
     let ours = block_attribute(
         s,
         settings,
@@ -237,9 +238,19 @@ fn looked_block(
         counts,
         key,
         number,
-        &mut told,
     );
-    looked_part(body, c, number, ours, &told)
+    let placed = block_place(
+        s,
+        settings,
+        &MW_VENDORS,
+        &SIZES,
+        rows,
+        attrs,
+        counts,
+        key,
+        number,
+    );
+    looked_part(body, c, number, ours, placed)
 }
 
 // An attribute whose form has no lookup of its own.

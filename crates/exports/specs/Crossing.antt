@@ -3,7 +3,7 @@
 use Prim.Native.Nat.{ℕ}
 use mathlib.Core.Path.{_≡_}
 use mathlib.Core.Bool.{Bool, not, cond}
-use mathlib.Core.List.{List}
+use mathlib.Core.List.{List, [], _∷_}
 use lib.ListN.{getD}
 use lib.Dec.{eqb}
 use Rattle.lent.specs.Outcome.{Outcome, Outcomes}
@@ -16,6 +16,7 @@ use Rattle.format.specs.declared.settings.Settings.{Settings}
 use Rattle.tables.specs.declared.row.Counts.{Counts}
 use Rattle.layout.specs.declared.one.Layout.{Layout}
 use Rattle.layout.specs.declared.all.LayoutCounts.{LayoutCounts}
+use Rattle.exports.specs.declared.told.Results.{Results}
 use Rattle.exports.specs.declared.told.Told.{Told}
 
 -- ---- settings
@@ -46,15 +47,9 @@ settingsFrom endian erased producer global mangled name id =
 abbrev pub countsFrom : ℕ → ℕ → Counts
 countsFrom rows attrs = record { rows = rows; attrs = attrs }
 
--- ---- answers: a number (0 for given, else the refusal's), a place (0 where nothing is refused), up to three results (0 where there is none)
+-- ---- answers: a number (0 for given, else the refusal's), a place (0 where nothing is refused), up to three results
 
--- up to three results
-pub record Results : Type 0 where
-  pub first : ℕ
-  pub second : ℕ
-  pub third : ℕ
-
--- the same, in short
+-- up to three results, in short; 0 where a call has fewer
 abbrev pub results : ℕ → ℕ → ℕ → Results
 results a b c = record { first = a; second = b; third = c }
 
@@ -62,30 +57,33 @@ results a b c = record { first = a; second = b; third = c }
 abbrev pub toldWith : ℕ → ℕ → Results → Told
 toldWith number place r = record { number = number; place = place; first = r .first; second = r .second; third = r .third }
 
--- an answer as it crosses: `given` has the results of a value, `wanted` those of the counts that 8 needs
-unfoldable pub crossed : {A : Type 0} → (A → Results) → (List ℕ → Results) → Said A → Told
-crossed given wanted (gives x) = toldWith 0 0 (given x)
-crossed given wanted (refuses number place counts) = toldWith number place (wanted counts)
+-- an answer as it crosses: `given` has the results of a value, `wanted` those of the counts that 8 needs; at any other refusal the results hold what
+-- they held before
+unfoldable pub crossed : {A : Type 0} → (A → Results) → (List ℕ → Results) → Results → Said A → Told
+crossed given wanted held (gives x) = toldWith 0 0 (given x)
+crossed given wanted held (refuses number place []) = toldWith number place held
+crossed given wanted held (refuses number place (n ∷ more)) = toldWith number place (wanted (n ∷ more))
 
 -- the counts that are needed, in their order
 unfoldable pub inOrder : List ℕ → Results
 inOrder counts = results (getD counts 0 0) (getD counts 1 0) (getD counts 2 0)
 
 -- of counting and reading: rows and attributes
-unfoldable pub countsTold : Said Counts → Told
-countsTold d = crossed (λ c. results (c .rows) (c .attrs) 0) inOrder d
+unfoldable pub countsTold : Results → Said Counts → Told
+countsTold held d = crossed (λ c. results (c .rows) (c .attrs) 0) inOrder held d
 
 -- of a size, an offset, and a listing's rows: the number itself
-unfoldable pub numberTold : Said ℕ → Told
-numberTold d = crossed (λ n. results n 0 0) inOrder d
+unfoldable pub numberTold : Results → Said ℕ → Told
+numberTold held d = crossed (λ n. results n 0 0) inOrder held d
 
--- of a layout: row, size and how many members; with 8 only how many members there are
-unfoldable pub layoutTold : Said Layout → Told
-layoutTold d = crossed (λ x. results (x .row) (x .size) (x .members)) (λ counts. results 0 0 (getD counts 0 0)) d
+-- of a layout: row, size and how many members; with 8 only how many members there are, and row and size hold what they held
+unfoldable pub layoutTold : Results → Said Layout → Told
+layoutTold held d =
+    crossed (λ x. results (x .row) (x .size) (x .members)) (λ counts. results (held .first) (held .second) (getD counts 0 0)) held d
 
 -- of all layouts: how many structures and classes, and how many members
-unfoldable pub layoutsTold : Said LayoutCounts → Told
-layoutsTold d = crossed (λ c. results (c .structures) (c .members) 0) inOrder d
+unfoldable pub layoutsTold : Results → Said LayoutCounts → Told
+layoutsTold held d = crossed (λ c. results (c .structures) (c .members) 0) inOrder held d
 
 -- ---- what the functions hand back
 
@@ -105,25 +103,25 @@ pub record SaysThree (told : Told) (number place first second third : ℕ) : Typ
   pub says : SaysTwo told number place first second
   pub third-is : third ≡ told .third
 
--- what is handed back says what reading answered, and the lent tables hold what its outcome has
-pub record SectionCrosses (o : Outcomes (Said Counts) ℕ ℕ) (number place rows attrs : ℕ) (rowTable attrTable : List ℕ) : Type 0 where
-  pub says : SaysTwo (countsTold (o .answer)) number place rows attrs
+-- what is handed back says what reading answered, from results that held this before; the lent tables hold what its outcome has
+pub record SectionCrosses (held : Results) (o : Outcomes (Said Counts) ℕ ℕ) (number place rows attrs : ℕ) (rowTable attrTable : List ℕ) : Type 0 where
+  pub says : SaysTwo (countsTold held (o .answer)) number place rows attrs
   pub row-table : rowTable ≡ o .first
   pub attr-table : attrTable ≡ o .second
 
 -- the same of the tree listing
-pub record TreeCrosses (o : Outcome (Said ℕ) ℕ) (number place rows : ℕ) (room : List ℕ) : Type 0 where
-  pub says : SaysOne (numberTold (o .answer)) number place rows
+pub record TreeCrosses (held : Results) (o : Outcome (Said ℕ) ℕ) (number place rows : ℕ) (room : List ℕ) : Type 0 where
+  pub says : SaysOne (numberTold held (o .answer)) number place rows
   pub room-is : room ≡ o .room
 
 -- the same of a layout
-pub record LayoutCrosses (o : Outcome (Said Layout) ℕ) (number place row size members : ℕ) (room : List ℕ) : Type 0 where
-  pub says : SaysThree (layoutTold (o .answer)) number place row size members
+pub record LayoutCrosses (held : Results) (o : Outcome (Said Layout) ℕ) (number place row size members : ℕ) (room : List ℕ) : Type 0 where
+  pub says : SaysThree (layoutTold held (o .answer)) number place row size members
   pub room-is : room ≡ o .room
 
 -- the same of all layouts, with both lent rooms
-pub record LayoutsCross (o : Outcomes (Said LayoutCounts) ℕ ℕ) (number place structures members : ℕ) (structureRoom memberRoom : List ℕ)
-    : Type 0 where
-  pub says : SaysTwo (layoutsTold (o .answer)) number place structures members
+pub record LayoutsCross (held : Results) (o : Outcomes (Said LayoutCounts) ℕ ℕ) (number place structures members : ℕ)
+    (structureRoom memberRoom : List ℕ) : Type 0 where
+  pub says : SaysTwo (layoutsTold held (o .answer)) number place structures members
   pub structure-room : structureRoom ≡ o .first
   pub member-room : memberRoom ≡ o .second

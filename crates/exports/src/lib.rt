@@ -1,6 +1,6 @@
 // What a program in Rust or C calls: thin functions over the crates below, nothing else. Numbers, slices (a pointer, then a length) and results through `&mut` cross;
-// enums do not. An answer is a number: 0 for given, else the refusal's; the results that it has are 64 bits wide, and 0 where it has none. `settings` and `told` are
-// what goes in and comes out, then a module for each kind of call.
+// enums do not. An answer is a number (0 for given, else the refusal's), a place (0 where nothing is refused) and results, each 64 bits wide. Results hold what they
+// held where the call refuses, but for the counts that 8 needs. `settings` and `told` are what goes in and comes out, then a module for each kind of call.
 pub mod all_layouts;
 pub mod block;
 pub mod listing;

@@ -1,6 +1,7 @@
-// The tree listing. One result: how many rows were listed or, with 8, are to be.
+// The tree listing. One result: how many rows were listed or, with 8, are to be; at any other refusal it holds what it held.
 use crate::settings::counts_from;
 use crate::settings::settings_from;
+use crate::told::Results;
 use crate::told::Told;
 use crate::told::refused_as;
 use crate::told::told_as;
@@ -11,14 +12,14 @@ use tree::listing::list_tree;
 ghost use mathlib.Core.Path.{_≡_};
 ghost use Rattle.tables.specs.Table.{table};
 ghost use Rattle.tree.specs.Tree.{saidListing, listTree};
-ghost use Rattle.exports.specs.Crossing.{settingsFrom, countsFrom, numberTold, TreeCrosses};
+ghost use Rattle.exports.specs.Crossing.{results, settingsFrom, countsFrom, numberTold, TreeCrosses};
 
-fn tree_told(answer: Listing) -> Told
-    ensures { λ r. ⌜ r ≡ numberTold (saidListing answer) ⌝ }
+fn tree_told(answer: Listing, held: Results) -> Told
+    ensures { λ r. ⌜ r ≡ numberTold held (saidListing answer) ⌝ }
 {
     match answer {
         Listing::Listed(n) => told_as(0, n as u64, 0, 0),
-        Listing::Refused(why) => refused_as(why),
+        Listing::Refused(why) => refused_as(why, held),
         Listing::Room(n) => told_as(number_of(Reason::Room), n as u64, 0, 0),
     }
 }
@@ -45,7 +46,8 @@ pub extern "C" fn capbeacon_list_tree(
     listed: &mut u64,
 ) -> u32
     ensures { λ r. ⌜
-        TreeCrosses (listTree (table (now (s .entry)) (settingsFrom endian erased producer «global_ref» mangled «overlay_name» «overlay_id»)
+        TreeCrosses (results (now (listed .entry)) 0 0)
+        (listTree (table (now (s .entry)) (settingsFrom endian erased producer «global_ref» mangled «overlay_name» «overlay_id»)
         (now (vendors .entry)) (now (sizes .entry)) (now (rows .entry)) (now (attrs .entry)) (countsFrom «row_count» «attr_count»))
         (now (room .entry))) r (now (place .exit)) (now (listed .exit)) (now (room .exit))
         ⌝ }
@@ -60,7 +62,15 @@ pub extern "C" fn capbeacon_list_tree(
         overlay_id,
     );
     let counts = counts_from(row_count, attr_count);
-    let told = tree_told(list_tree(s, settings, vendors, sizes, rows, attrs, counts, room));
+    let held = Results {
+        first: *listed,
+        second: 0,
+        third: 0,
+    };
+    let told = tree_told(
+        list_tree(s, settings, vendors, sizes, rows, attrs, counts, room),
+        held,
+    );
     *place = told.place;
     *listed = told.first;
     told.number

@@ -1,6 +1,7 @@
-// Layouts. Results: the row, its size, how many members were laid or, with 8, are to be.
+// Layouts. Results: the row, its size, how many members were laid or, with 8, are to be; with 8 row and size, at any other refusal all three hold what they held.
 use crate::settings::counts_from;
 use crate::settings::settings_from;
+use crate::told::Results;
 use crate::told::Told;
 use crate::told::refused_as;
 use crate::told::told_as;
@@ -12,7 +13,7 @@ use layout::one::layout_of_key;
 ghost use mathlib.Core.Path.{_≡_};
 ghost use Rattle.tables.specs.Table.{table};
 ghost use Rattle.layout.specs.Layout.{saidLayoutRead, layoutOfKey};
-ghost use Rattle.exports.specs.Crossing.{settingsFrom, countsFrom, layoutTold, LayoutCrosses};
+ghost use Rattle.exports.specs.Crossing.{results, settingsFrom, countsFrom, layoutTold, LayoutCrosses};
 ghost use Rattle.exports.specs.Inside.Told.{toldAs};
 
 // A layout that is given.
@@ -27,14 +28,21 @@ fn laid_as(layout: Layout) -> Told
     )
 }
 
-// With 8 only how many members there are.
-fn layout_told(answer: LayoutRead) -> Told
-    ensures { λ r. ⌜ r ≡ layoutTold (saidLayoutRead answer) ⌝ }
+// With 8 only how many members there are; row and size hold what they held.
+fn layout_told(answer: LayoutRead, held: Results) -> Told
+    ensures { λ r. ⌜ r ≡ layoutTold held (saidLayoutRead answer) ⌝ }
 {
     match answer {
         LayoutRead::Is(layout) => laid_as(layout),
-        LayoutRead::Refused(why) => refused_as(why),
-        LayoutRead::Room(members) => told_as(number_of(Reason::Room), 0, 0, members as u64),
+        LayoutRead::Refused(why) => refused_as(why, held),
+        LayoutRead::Room(members) => {
+            told_as(
+                number_of(Reason::Room),
+                held.first,
+                held.second,
+                members as u64,
+            )
+        }
     }
 }
 
@@ -63,7 +71,8 @@ pub extern "C" fn capbeacon_layout_of_key(
     members: &mut u64,
 ) -> u32
     ensures { λ r. ⌜
-        LayoutCrosses (layoutOfKey (table (now (s .entry)) (settingsFrom endian erased producer «global_ref» mangled «overlay_name» «overlay_id»)
+        LayoutCrosses (results (now (row .entry)) (now (size .entry)) (now (members .entry)))
+        (layoutOfKey (table (now (s .entry)) (settingsFrom endian erased producer «global_ref» mangled «overlay_name» «overlay_id»)
         (now (vendors .entry)) (now (sizes .entry)) (now (rows .entry)) (now (attrs .entry)) (countsFrom «row_count» «attr_count»)) key
         (now (room .entry))) r (now (place .exit)) (now (row .exit)) (now (size .exit)) (now (members .exit)) (now (room .exit))
         ⌝ }
@@ -78,17 +87,15 @@ pub extern "C" fn capbeacon_layout_of_key(
         overlay_id,
     );
     let counts = counts_from(row_count, attr_count);
-    let told = layout_told(layout_of_key(
-        s,
-        settings,
-        vendors,
-        sizes,
-        rows,
-        attrs,
-        counts,
-        key,
-        room,
-    ));
+    let held = Results {
+        first: *row,
+        second: *size,
+        third: *members,
+    };
+    let told = layout_told(
+        layout_of_key(s, settings, vendors, sizes, rows, attrs, counts, key, room),
+        held,
+    );
     *place = told.place;
     *row = told.first;
     *size = told.second;

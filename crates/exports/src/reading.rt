@@ -1,5 +1,6 @@
-// Reading and counting. Results: how many rows and attributes were read or, with 8, are needed.
+// Reading and counting. Results: how many rows and attributes were read or, with 8, are needed; at any other refusal they hold what they held.
 use crate::settings::settings_from;
+use crate::told::Results;
 use crate::told::Told;
 use crate::told::refused_as;
 use crate::told::told_as;
@@ -12,7 +13,7 @@ use format::refusal::number_of;
 use tables::row::Counts;
 ghost use mathlib.Core.Path.{_≡_};
 ghost use Rattle.entries.specs.Section.{saidCount, saidSection, countDebugSection, readDebugSection};
-ghost use Rattle.exports.specs.Crossing.{settingsFrom, countsTold, SaysTwo, SectionCrosses};
+ghost use Rattle.exports.specs.Crossing.{results, settingsFrom, countsTold, SaysTwo, SectionCrosses};
 ghost use Rattle.exports.specs.Inside.Told.{toldAs};
 
 // The counts that were read, or are needed.
@@ -22,21 +23,21 @@ fn counted_as(number: u32, counts: Counts) -> Told
     told_as(number, counts.rows as u64, counts.attrs as u64, 0)
 }
 
-fn count_told(answer: Count) -> Told
-    ensures { λ r. ⌜ r ≡ countsTold (saidCount answer) ⌝ }
+fn count_told(answer: Count, held: Results) -> Told
+    ensures { λ r. ⌜ r ≡ countsTold held (saidCount answer) ⌝ }
 {
     match answer {
         Count::Counted(counts) => counted_as(0, counts),
-        Count::Refused(why) => refused_as(why),
+        Count::Refused(why) => refused_as(why, held),
     }
 }
 
-fn section_told(answer: Section) -> Told
-    ensures { λ r. ⌜ r ≡ countsTold (saidSection answer) ⌝ }
+fn section_told(answer: Section, held: Results) -> Told
+    ensures { λ r. ⌜ r ≡ countsTold held (saidSection answer) ⌝ }
 {
     match answer {
         Section::Read(counts) => counted_as(0, counts),
-        Section::Refused(why) => refused_as(why),
+        Section::Refused(why) => refused_as(why, held),
         Section::Room(counts) => counted_as(number_of(Reason::Room), counts),
     }
 }
@@ -59,9 +60,9 @@ pub extern "C" fn capbeacon_count_debug_section(
     attr_count: &mut u64,
 ) -> u32
     ensures { λ r. ⌜
-        SaysTwo (countsTold (countDebugSection (settingsFrom endian erased producer «global_ref» mangled «overlay_name» «overlay_id»)
-        (now (vendors .entry)) (now (sizes .entry)) (now (s .entry)))) r (now (place .exit)) (now («row_count» .exit))
-        (now («attr_count» .exit))
+        SaysTwo (countsTold (results (now («row_count» .entry)) (now («attr_count» .entry)) 0)
+        (countDebugSection (settingsFrom endian erased producer «global_ref» mangled «overlay_name» «overlay_id»)
+        (now (vendors .entry)) (now (sizes .entry)) (now (s .entry)))) r (now (place .exit)) (now («row_count» .exit)) (now («attr_count» .exit))
         ⌝ }
 {
     let settings = settings_from(
@@ -73,7 +74,12 @@ pub extern "C" fn capbeacon_count_debug_section(
         overlay_name,
         overlay_id,
     );
-    let counted = count_told(count_debug_section(s, settings, vendors, sizes));
+    let held = Results {
+        first: *row_count,
+        second: *attr_count,
+        third: 0,
+    };
+    let counted = count_told(count_debug_section(s, settings, vendors, sizes), held);
     *place = counted.place;
     *row_count = counted.first;
     *attr_count = counted.second;
@@ -100,7 +106,8 @@ pub extern "C" fn capbeacon_read_debug_section(
     attr_count: &mut u64,
 ) -> u32
     ensures { λ r. ⌜
-        SectionCrosses (readDebugSection (settingsFrom endian erased producer «global_ref» mangled «overlay_name» «overlay_id») (now (vendors .entry))
+        SectionCrosses (results (now («row_count» .entry)) (now («attr_count» .entry)) 0)
+        (readDebugSection (settingsFrom endian erased producer «global_ref» mangled «overlay_name» «overlay_id») (now (vendors .entry))
         (now (sizes .entry)) (now (s .entry)) (now (rows .entry)) (now (attrs .entry))) r (now (place .exit)) (now («row_count» .exit))
         (now («attr_count» .exit)) (now (rows .exit)) (now (attrs .exit))
         ⌝ }
@@ -114,7 +121,15 @@ pub extern "C" fn capbeacon_read_debug_section(
         overlay_name,
         overlay_id,
     );
-    let told = section_told(read_debug_section(s, settings, vendors, sizes, rows, attrs));
+    let held = Results {
+        first: *row_count,
+        second: *attr_count,
+        third: 0,
+    };
+    let told = section_told(
+        read_debug_section(s, settings, vendors, sizes, rows, attrs),
+        held,
+    );
     *place = told.place;
     *row_count = told.first;
     *attr_count = told.second;

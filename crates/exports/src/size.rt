@@ -1,6 +1,7 @@
-// The size of a key's entry. One result: the size.
+// The size of a key's entry. One result: the size; at a refusal it holds what it held.
 use crate::settings::counts_from;
 use crate::settings::settings_from;
+use crate::told::Results;
 use crate::told::Told;
 use crate::told::refused_as;
 use crate::told::told_as;
@@ -9,14 +10,14 @@ use sizes::sized::Sized;
 ghost use mathlib.Core.Path.{_≡_};
 ghost use Rattle.tables.specs.Table.{table};
 ghost use Rattle.sizes.specs.Size.{saidSized, sizeOfKey};
-ghost use Rattle.exports.specs.Crossing.{settingsFrom, countsFrom, numberTold, SaysOne};
+ghost use Rattle.exports.specs.Crossing.{results, settingsFrom, countsFrom, numberTold, SaysOne};
 
-fn size_told(answer: Sized) -> Told
-    ensures { λ r. ⌜ r ≡ numberTold (saidSized answer) ⌝ }
+fn size_told(answer: Sized, held: Results) -> Told
+    ensures { λ r. ⌜ r ≡ numberTold held (saidSized answer) ⌝ }
 {
     match answer {
         Sized::Is(size) => told_as(0, size as u64, 0, 0),
-        Sized::Refused(why) => refused_as(why),
+        Sized::Refused(why) => refused_as(why, held),
     }
 }
 
@@ -42,7 +43,8 @@ pub extern "C" fn capbeacon_size_of_key(
     size: &mut u64,
 ) -> u32
     ensures { λ r. ⌜
-        SaysOne (numberTold (sizeOfKey (table (now (s .entry)) (settingsFrom endian erased producer «global_ref» mangled «overlay_name» «overlay_id»)
+        SaysOne (numberTold (results (now (size .entry)) 0 0)
+        (sizeOfKey (table (now (s .entry)) (settingsFrom endian erased producer «global_ref» mangled «overlay_name» «overlay_id»)
         (now (vendors .entry)) (now (sizes .entry)) (now (rows .entry)) (now (attrs .entry)) (countsFrom «row_count» «attr_count»)) key)) r
         (now (place .exit)) (now (size .exit))
         ⌝ }
@@ -57,7 +59,15 @@ pub extern "C" fn capbeacon_size_of_key(
         overlay_id,
     );
     let counts = counts_from(row_count, attr_count);
-    let told = size_told(size_of_key(s, settings, vendors, sizes, rows, attrs, counts, key));
+    let held = Results {
+        first: *size,
+        second: 0,
+        third: 0,
+    };
+    let told = size_told(
+        size_of_key(s, settings, vendors, sizes, rows, attrs, counts, key),
+        held,
+    );
     *place = told.place;
     *size = told.first;
     told.number

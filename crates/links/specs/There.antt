@@ -1,5 +1,5 @@
 -- What a typed lookup finds, told as the bytes that are there.
-use Prim.Native.Nat.{ℕ, _+_, _-_, _≤_, _<_}
+use Prim.Native.Nat.{ℕ, _+_, _≤_, _<_}
 use mathlib.Core.Path.{_≡_}
 use mathlib.Core.Logic.{_⊎_}
 use mathlib.Core.Bool.{false}
@@ -11,6 +11,7 @@ use Rattle.format.specs.FormKind.{isForm}
 use Rattle.format.specs.declared.form_kind.FormKind.{FormKind}
 use Rattle.format.specs.declared.form_kind.FormKind.the-variants.{Addr, Ref, Block2, Block4, Data2, Data4, Data8, String, Undefined}
 use Rattle.attributes.specs.Text.{zeroFrom}
+use Rattle.attributes.specs.declared.decode.Extent.{Extent}
 use Rattle.tables.specs.Row.{rowAt}
 use Rattle.tables.specs.declared.find.Found.the-variants.{Nothing}
 use Rattle.links.specs.Maybe.{Maybe, some}
@@ -32,21 +33,35 @@ IsNumber String = ⊥
 IsNumber Undefined = ⊥
 
 -- a number is told
-pub record TextTold (v : Maybe ℕ) : Type 0 where
+pub record NumberTold (v : Maybe ℕ) : Type 0 where
   pub number : ℕ
   pub is-number : v ≡ some number
 
 -- ---- texts and blocks
 
--- a text of which all is there: it ends inside, and is what lies before its zero
-pub record WholeText (s : List ℕ) (at : ℕ) (part : List ℕ) : Type 0 where
-  pub inside : zeroFrom s at < length s
-  pub whole : at + length part ≡ zeroFrom s at
+-- the forms of the lookups that hand back a part
+abbrev pub IsPart : FormKind → Type 0
+IsPart String = Unit
+IsPart Block2 = Unit
+IsPart Block4 = Unit
+IsPart Addr = ⊥
+IsPart Ref = ⊥
+IsPart Data2 = ⊥
+IsPart Data4 = ⊥
+IsPart Data8 = ⊥
+IsPart Undefined = ⊥
 
--- a block of which all is there: as many bytes as its length says, behind the length's w bytes
-pub record WholeBlock (e : Endian) (w : ℕ) (s : List ℕ) (at : ℕ) (part : List ℕ) : Type 0 where
-  pub inside : at + w + length part ≤ length s
-  pub whole : length part ≡ valueOf e w s at
+-- a text of which all is there: from its place on up to its zero, which stands in the section
+pub record WholeText (s : List ℕ) (at : ℕ) (x : Extent) : Type 0 where
+  pub begins : x .place ≡ at
+  pub ends : x .place + x .length ≡ zeroFrom s at
+  pub inside : zeroFrom s at < length s
+
+-- a block of which all is there: behind the w bytes of its length as many bytes as that says, all in the section
+pub record WholeBlock (e : Endian) (w : ℕ) (s : List ℕ) (at : ℕ) (x : Extent) : Type 0 where
+  pub begins : x .place ≡ at + w
+  pub many : x .length ≡ valueOf e w s at
+  pub inside : x .place + x .length ≤ length s
 
 -- ---- the place that a lookup comes to
 

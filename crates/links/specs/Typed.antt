@@ -1,8 +1,7 @@
 -- The typed lookups (document 01, 'Links'; the Rust's `impl Tag`): 1, 2, 3; 11 for a key without a row; then the row's first attribute of a kind.
 use Prim.Native.Nat.{ℕ}
-use mathlib.Core.Path.{_≡_}
 use mathlib.Core.Bool.{cond}
-use mathlib.Core.List.{List, [], _∷_}
+use mathlib.Core.List.{List, []}
 use Rattle.tables.specs.Table.{Table}
 use Rattle.numbers.specs.declared.Endian.{Endian}
 use Rattle.numbers.specs.declared.unsigned.Read16.{Read16}
@@ -14,8 +13,11 @@ use Rattle.format.specs.Said.{Said, gives, refuses, refusal, _>>=_}
 use Rattle.format.specs.declared.form_kind.FormKind.{FormKind}
 use Rattle.format.specs.declared.form_kind.FormKind.the-variants.{Addr, Ref, Block2, Block4, Data2, Data4, Data8, String, Undefined}
 use Rattle.attributes.specs.Decode.{addressAt, referenceAt, data2At, data4At}
-use Rattle.attributes.specs.Parts.{blockAt, textAt}
+use Rattle.attributes.specs.Parts.{partAt, blockLies, textLies}
 use Rattle.attributes.specs.declared.decode.Endians.{Endians}
+use Rattle.attributes.specs.declared.decode.Extent.{Extent}
+use Rattle.attributes.specs.declared.decode.Lying.{Lying}
+use Rattle.attributes.specs.declared.decode.Lying.the-variants as lying
 use Rattle.tables.specs.Row.{attrAt, endsOf}
 use Rattle.tables.specs.declared.row.Attr.{Attr}
 use Rattle.tables.specs.declared.find.Found.{Found}
@@ -29,6 +31,8 @@ use Rattle.links.specs.declared.typed.Looked.{Looked}
 use Rattle.links.specs.declared.typed.Looked.the-variants as looked
 use Rattle.links.specs.declared.typed.Value.{Value}
 use Rattle.links.specs.declared.typed.Value.the-variants as value
+use Rattle.links.specs.declared.typed.PartPlace.{PartPlace}
+use Rattle.links.specs.declared.typed.PartPlace.the-variants as partPlace
 use Rattle.links.specs.declared.typed.Spot.{Spot}
 
 -- what the answers say
@@ -42,6 +46,12 @@ unfoldable pub saidValue : Value → Said (Maybe ℕ)
 saidValue (value.Is x) = gives (some x)
 saidValue value.Nothing = gives none
 saidValue (value.Refused why) = refusal why
+
+-- of a part: place and length
+unfoldable pub saidPartPlace : PartPlace → Said (Maybe Extent)
+saidPartPlace (partPlace.At x) = gives (some x)
+saidPartPlace partPlace.Nothing = gives none
+saidPartPlace (partPlace.Refused why) = refusal why
 
 -- the attribute that was found
 unfoldable pub attrFound : List ℕ → Found → Maybe Attr
@@ -112,35 +122,40 @@ valueOfKey t key number form = do
 
 -- ---- parts of the section
 
--- the text or block at a spot, by its form
-unfoldable pub partAs : FormKind → List ℕ → Spot → List ℕ
-partAs String s spot = textAt s (spot .at)
-partAs Block2 s spot = blockAt (spot .ends .«data») 2 s (spot .at)
-partAs Block4 s spot = blockAt (spot .ends .«data») 4 s (spot .at)
-partAs Addr s spot = []
-partAs Ref s spot = []
-partAs Data2 s spot = []
-partAs Data4 s spot = []
-partAs Data8 s spot = []
-partAs Undefined s spot = []
+-- where the text or block at a spot lies, by its form; a value of another form is none
+unfoldable pub liesAt : FormKind → List ℕ → Spot → Lying
+liesAt String s spot = textLies s (spot .at)
+liesAt Block2 s spot = blockLies (spot .ends .«data») 2 s (spot .at)
+liesAt Block4 s spot = blockLies (spot .ends .«data») 4 s (spot .at)
+liesAt Addr s spot = lying.Cut
+liesAt Ref s spot = lying.Cut
+liesAt Data2 s spot = lying.Cut
+liesAt Data4 s spot = lying.Cut
+liesAt Data8 s spot = lying.Cut
+liesAt Undefined s spot = lying.Cut
 
--- the part at a place, if there is one
-unfoldable pub partOf : FormKind → List ℕ → Said (Maybe Spot) → List ℕ
-partOf form s (gives (some spot)) = partAs form s spot
-partOf form s (gives none) = []
-partOf form s (refuses number place counts) = []
+-- its place and length; in a table that was tested no value is cut
+unfoldable pub asExtent : Lying → Maybe Extent
+asExtent (lying.At x) = some x
+asExtent lying.Cut = none
 
--- whether there is a part: 1; 0 for none; 2 for a refusal, with its number and its place
-unfoldable pub toldWords : Said (Maybe Spot) → List ℕ
-toldWords (gives (some spot)) = 1 ∷ 0 ∷ 0 ∷ []
-toldWords (gives none) = 0 ∷ 0 ∷ 0 ∷ []
-toldWords (refuses number place counts) = 2 ∷ number ∷ place ∷ []
+-- the same, if there is a spot
+unfoldable pub extentOfPlace : FormKind → List ℕ → Maybe Spot → Maybe Extent
+extentOfPlace form s (some spot) = asExtent (liesAt form s spot)
+extentOfPlace form s none = none
+
+-- place and length of what the first attribute of this number in the row of a key says, if it has this form
+unfoldable pub extentOfKey : Table → ℕ → ℕ → FormKind → Said (Maybe Extent)
+extentOfKey t key number form = do
+  spot ← placeOfKey t key number form
+  gives (extentOfPlace form (t .section) spot)
+
+-- that part of the section; nothing where none is told
+unfoldable pub partOf : List ℕ → Said (Maybe Extent) → List ℕ
+partOf s (gives (some x)) = partAt s (x .place) (x .length)
+partOf s (gives none) = []
+partOf s (refuses number place counts) = []
 
 -- a block has a 2-byte length where the number says so, else a 4-byte one
 unfoldable pub blockForm : ℕ → FormKind
 blockForm number = cond (isForm Block2 number) Block2 Block4
-
--- the part and the words told are those of a place
-pub record Handed (form : FormKind) (s : List ℕ) (place : Said (Maybe Spot)) (part told : List ℕ) : Type 0 where
-  pub part-is : part ≡ partOf form s place
-  pub told-is : told ≡ toldWords place

@@ -2,17 +2,19 @@
 use crate::lookup::Wanted;
 use crate::lookup::attribute_of;
 use attributes::decode::Endians;
+use attributes::decode::Extent;
+use attributes::decode::Lying;
 use attributes::decode::address;
-use attributes::decode::block2;
-use attributes::decode::block4;
+use attributes::decode::block2_at;
+use attributes::decode::block4_at;
 use attributes::decode::data2;
 use attributes::decode::data4;
+use attributes::decode::part;
 use attributes::decode::reference;
-use attributes::decode::string;
+use attributes::decode::string_at;
 use format::form_kind::FormKind;
 use format::form_kind::is_form;
 use format::refusal::Refusal;
-use format::refusal::number_of;
 use format::settings::Settings;
 use numbers::Endian;
 use numbers::unsigned::Read16;
@@ -29,7 +31,7 @@ ghost use Rattle.tables.specs.Table.{table};
 ghost use Rattle.format.specs.Said.{gives};
 ghost use Rattle.links.specs.Attribute.{attributeOf};
 ghost use Rattle.links.specs.Typed.{saidLooked, saidValue, attrFound, attributeOfKey, blockForm, spotAt, spotIn, placeOfKey};
-ghost use Rattle.links.specs.Typed.{asValue, asWidened, wordAt, valueOfKey, partAs, partOf, toldWords, Handed};
+ghost use Rattle.links.specs.Typed.{asValue, asWidened, wordAt, valueOfKey, saidPartPlace, asExtent, liesAt, extentOfKey, partOf};
 ghost use Rattle.links.specs.Inside.Typed.{saidSpotted};
 
 // The attribute that was looked for; or the row has none.
@@ -42,6 +44,13 @@ pub enum Looked {
 // What an attribute of the wanted form says; or the row has none.
 pub enum Value {
     Is(u32),
+    Nothing,
+    Refused(Refusal),
+}
+
+// Where a text or a block lies in the section; or the row has none.
+pub enum PartPlace {
+    At(Extent),
     Nothing,
     Refused(Refusal),
 }
@@ -398,54 +407,35 @@ pub fn data4_attribute(
     )
 }
 
-// The bytes of the text or block at a spot, by its form.
-fn part_as(s: &[u8], spot: Spot, form: FormKind) -> &[u8]
-    ensures { λ r. ⌜ now r ≡ partAs form (now (s .entry)) spot ⌝ }
+fn as_place(lying: Lying) -> PartPlace
+    ensures { λ r. ⌜ saidPartPlace r ≡ gives (asExtent lying) ⌝ }
+{
+    match lying {
+        Lying::At(x) => PartPlace::At(x),
+        Lying::Cut => PartPlace::Nothing,
+    }
+}
+
+// Where the text or block at a spot lies, by its form.
+fn part_spot(s: &[u8], spot: Spot, form: FormKind) -> PartPlace
+    ensures { λ r. ⌜ saidPartPlace r ≡ gives (asExtent (liesAt form (now (s .entry)) spot)) ⌝ }
 {
     let ends = spot.ends;
     match form {
-        FormKind::String => string(s, spot.at),
-        FormKind::Block2 => block2(s, spot.at, ends),
-        FormKind::Block4 => block4(s, spot.at, ends),
-        FormKind::Addr => &s[..0],
-        FormKind::Ref => &s[..0],
-        FormKind::Data2 => &s[..0],
-        FormKind::Data4 => &s[..0],
-        FormKind::Data8 => &s[..0],
-        FormKind::Undefined => &s[..0],
+        FormKind::String => as_place(string_at(s, spot.at)),
+        FormKind::Block2 => as_place(block2_at(s, spot.at, ends)),
+        FormKind::Block4 => as_place(block4_at(s, spot.at, ends)),
+        FormKind::Addr => PartPlace::Nothing,
+        FormKind::Ref => PartPlace::Nothing,
+        FormKind::Data2 => PartPlace::Nothing,
+        FormKind::Data4 => PartPlace::Nothing,
+        FormKind::Data8 => PartPlace::Nothing,
+        FormKind::Undefined => PartPlace::Nothing,
     }
 }
 
-fn part_of(s: &[u8], placed: Spotted, form: FormKind) -> &[u8]
-    ensures { λ r. ⌜ now r ≡ partOf form (now (s .entry)) (saidSpotted placed) ⌝ }
-{
-    match placed {
-        Spotted::At(spot) => part_as(s, spot, form),
-        Spotted::Nothing => &s[..0],
-        Spotted::Refused(why) => &s[..0],
-    }
-}
-
-// Whether there is a part, in three words: 1; 0 for none; 2 for a refusal, then its number and its place.
-fn tell(placed: Spotted, told: &mut [u64; 3])
-    ensures { λ r. ⌜ now (told .exit) ≡ toldWords (saidSpotted placed) ⌝ }
-{
-    match placed {
-        Spotted::At(spot) => {
-            *told = [1, 0, 0];
-        }
-        Spotted::Nothing => {
-            *told = [0, 0, 0];
-        }
-        Spotted::Refused(why) => {
-            let reason = why.reason;
-            *told = [2, number_of(reason) as u64, why.place];
-        }
-    }
-}
-
-fn hand<'a>(
-    s: &'a [u8],
+fn part_place(
+    s: &[u8],
     settings: Settings,
     vendors: &[u16],
     sizes: &[u32],
@@ -455,14 +445,13 @@ fn hand<'a>(
     key: u32,
     number: u16,
     form: FormKind,
-    told: &mut [u64; 3],
-) -> &'a [u8]
+) -> PartPlace
     ensures { λ r. ⌜
-        Handed form (now (s .entry)) (placeOfKey (table (now (s .entry)) settings (now (vendors .entry)) (now (sizes .entry)) (now (rows .entry))
-        (now (attrs .entry)) counts) key number form) (now r) (now (told .exit))
+        saidPartPlace r ≡ extentOfKey (table (now (s .entry)) settings (now (vendors .entry)) (now (sizes .entry)) (now (rows .entry))
+        (now (attrs .entry)) counts) key number form
         ⌝ }
 {
-    let placed = place_of(
+    match place_of(
         s,
         settings,
         vendors,
@@ -473,14 +462,16 @@ fn hand<'a>(
         key,
         number,
         form,
-    );
-    tell(placed, told);
-    part_of(s, placed, form)
+    ) {
+        Spotted::At(spot) => part_spot(s, spot, form),
+        Spotted::Nothing => PartPlace::Nothing,
+        Spotted::Refused(why) => PartPlace::Refused(why),
+    }
 }
 
-// The text that the first attribute of this number in the row of a key says, as that part of the section; `told` tells whether there is one.
-pub fn string_attribute<'a>(
-    s: &'a [u8],
+// Where the text lies that the first attribute of this number in the row of a key says: its place in the section, and its length without the zero.
+pub fn string_place(
+    s: &[u8],
     settings: Settings,
     vendors: &[u16],
     sizes: &[u32],
@@ -489,15 +480,13 @@ pub fn string_attribute<'a>(
     counts: Counts,
     key: u32,
     number: u16,
-    told: &mut [u64; 3],
-) -> &'a [u8]
+) -> PartPlace
     ensures { λ r. ⌜
-        Handed FormKind.String (now (s .entry)) (placeOfKey
-        (table (now (s .entry)) settings (now (vendors .entry)) (now (sizes .entry)) (now (rows .entry)) (now (attrs .entry)) counts) key number
-        FormKind.String) (now r) (now (told .exit))
+        saidPartPlace r ≡ extentOfKey (table (now (s .entry)) settings (now (vendors .entry)) (now (sizes .entry)) (now (rows .entry))
+        (now (attrs .entry)) counts) key number FormKind.String
         ⌝ }
 {
-    hand(
+    part_place(
         s,
         settings,
         vendors,
@@ -508,7 +497,6 @@ pub fn string_attribute<'a>(
         key,
         number,
         FormKind::String,
-        told,
     )
 }
 
@@ -522,9 +510,9 @@ fn block_form(number: u16) -> FormKind
     }
 }
 
-// The bytes of its block.
-pub fn block_attribute<'a>(
-    s: &'a [u8],
+// Where the bytes of its block lie.
+pub fn block_place(
+    s: &[u8],
     settings: Settings,
     vendors: &[u16],
     sizes: &[u32],
@@ -533,16 +521,14 @@ pub fn block_attribute<'a>(
     counts: Counts,
     key: u32,
     number: u16,
-    told: &mut [u64; 3],
-) -> &'a [u8]
+) -> PartPlace
     ensures { λ r. ⌜
-        Handed (blockForm number) (now (s .entry))
-        (placeOfKey (table (now (s .entry)) settings (now (vendors .entry)) (now (sizes .entry)) (now (rows .entry)) (now (attrs .entry)) counts) key
-        number (blockForm number)) (now r) (now (told .exit))
+        saidPartPlace r ≡ extentOfKey (table (now (s .entry)) settings (now (vendors .entry)) (now (sizes .entry)) (now (rows .entry))
+        (now (attrs .entry)) counts) key number (blockForm number)
         ⌝ }
 {
     let form = block_form(number);
-    hand(
+    part_place(
         s,
         settings,
         vendors,
@@ -553,6 +539,78 @@ pub fn block_attribute<'a>(
         key,
         number,
         form,
-        told,
     )
+}
+
+// The bytes that stand there.
+fn part_in(s: &[u8], placed: PartPlace) -> &[u8]
+    ensures { λ r. ⌜ now r ≡ partOf (now (s .entry)) (saidPartPlace placed) ⌝ }
+{
+    match placed {
+        PartPlace::At(x) => part(s, x.place, x.length),
+        PartPlace::Nothing => &s[..0],
+        PartPlace::Refused(why) => &s[..0],
+    }
+}
+
+// The text itself, as that part of the section; nothing where `string_place` tells none. Where it lies, and whether an empty one is there, tells `string_place`.
+pub fn string_attribute<'a>(
+    s: &'a [u8],
+    settings: Settings,
+    vendors: &[u16],
+    sizes: &[u32],
+    rows: &[u32],
+    attrs: &[u32],
+    counts: Counts,
+    key: u32,
+    number: u16,
+) -> &'a [u8]
+    ensures { λ r. ⌜
+        now r ≡ partOf (now (s .entry)) (extentOfKey (table (now (s .entry)) settings (now (vendors .entry)) (now (sizes .entry)) (now (rows .entry))
+        (now (attrs .entry)) counts) key number FormKind.String)
+        ⌝ }
+{
+    let placed = string_place(
+        s,
+        settings,
+        vendors,
+        sizes,
+        rows,
+        attrs,
+        counts,
+        key,
+        number,
+    );
+    part_in(s, placed)
+}
+
+// The bytes of its block, likewise by `block_place`.
+pub fn block_attribute<'a>(
+    s: &'a [u8],
+    settings: Settings,
+    vendors: &[u16],
+    sizes: &[u32],
+    rows: &[u32],
+    attrs: &[u32],
+    counts: Counts,
+    key: u32,
+    number: u16,
+) -> &'a [u8]
+    ensures { λ r. ⌜
+        now r ≡ partOf (now (s .entry)) (extentOfKey (table (now (s .entry)) settings (now (vendors .entry)) (now (sizes .entry)) (now (rows .entry))
+        (now (attrs .entry)) counts) key number (blockForm number))
+        ⌝ }
+{
+    let placed = block_place(
+        s,
+        settings,
+        vendors,
+        sizes,
+        rows,
+        attrs,
+        counts,
+        key,
+        number,
+    );
+    part_in(s, placed)
 }

@@ -54,3 +54,19 @@ only-block4 κs a z z′ e e′ p q = cc
 -- `decode::string`
 pub only-string : One decode.string.Kinds.ps decode.string.Kinds.r (λ κs z e. now z) decode.string.Reads.Post
 only-string κs a z z′ e e′ p q = cc
+
+-- `decode::part_at`
+pub only-part-at : OneAnswer decode.part_at.Kinds.ps decode.part_at.Kinds.r decode.part_at.Reads.Post
+only-part-at κs a z z′ e e′ p q = cc
+
+-- `decode::block2_at`
+pub only-block2-at : OneAnswer decode.block2_at.Kinds.ps decode.block2_at.Kinds.r decode.block2_at.Reads.Post
+only-block2-at κs a z z′ e e′ p q = cc
+
+-- `decode::block4_at`
+pub only-block4-at : OneAnswer decode.block4_at.Kinds.ps decode.block4_at.Kinds.r decode.block4_at.Reads.Post
+only-block4-at κs a z z′ e e′ p q = cc
+
+-- `decode::string_at`
+pub only-string-at : OneAnswer decode.string_at.Kinds.ps decode.string_at.Kinds.r decode.string_at.Reads.Post
+only-string-at κs a z z′ e e′ p q = cc

@@ -4,13 +4,14 @@ use mathlib.Core.Path.{_≡_, refl, ap}
 use mathlib.Core.List.{[], _∷_}
 use Rattle.format.specs.Said.{Said, gives, refuses}
 use Rattle.format.proofs.Laws.Said.{Back, refusalOf, refusal-same}
+use Rattle.attributes.specs.declared.decode.Extent.{Extent}
 use Rattle.tables.specs.declared.row.Attr.{Attr}
 use Rattle.tables.specs.declared.find.Found.{Found}
 use Rattle.tables.specs.declared.find.Found.the-variants as found
 use Rattle.links.specs.Maybe.{Maybe, none, some}
 use Rattle.links.specs.Neighbour.{saidNeighbour}
 use Rattle.links.specs.Children.{saidChildRows}
-use Rattle.links.specs.Typed.{saidLooked, saidValue}
+use Rattle.links.specs.Typed.{saidLooked, saidValue, saidPartPlace}
 use Rattle.links.specs.declared.neighbour.Neighbour.{Neighbour}
 use Rattle.links.specs.declared.neighbour.Neighbour.the-variants as neighbour
 use Rattle.links.specs.declared.children.ChildRows.{ChildRows}
@@ -19,6 +20,8 @@ use Rattle.links.specs.declared.typed.Looked.{Looked}
 use Rattle.links.specs.declared.typed.Looked.the-variants as looked
 use Rattle.links.specs.declared.typed.Value.{Value}
 use Rattle.links.specs.declared.typed.Value.the-variants as value
+use Rattle.links.specs.declared.typed.PartPlace.{PartPlace}
+use Rattle.links.specs.declared.typed.PartPlace.the-variants as partPlace
 
 abbrev asNeighbour : Said Found → Neighbour
 asNeighbour (gives (found.At j)) = neighbour.Row j
@@ -75,3 +78,17 @@ value-same (value.Refused why) = ap value.Refused (refusal-same why)
 
 pub value-back : Back saidValue
 value-back = record { back = asValue; same = value-same }
+
+abbrev asPartPlace : Said (Maybe Extent) → PartPlace
+asPartPlace (gives (some x)) = partPlace.At x
+asPartPlace (gives none) = partPlace.Nothing
+asPartPlace (refuses number place counts) = partPlace.Refused (refusalOf number place)
+
+part-place-same : (r : PartPlace) → asPartPlace (saidPartPlace r) ≡ r
+unfolding saidPartPlace
+part-place-same (partPlace.At x) = refl
+part-place-same partPlace.Nothing = refl
+part-place-same (partPlace.Refused why) = ap partPlace.Refused (refusal-same why)
+
+pub part-place-back : Back saidPartPlace
+part-place-back = record { back = asPartPlace; same = part-place-same }

@@ -3,7 +3,7 @@
 use denote.Ref.{now}
 use Rattle.lent.specs.OneAnswer.{One, OneAnswer, OneRoom}
 use Rattle.format.proofs.Laws.Said.{one-answer}
-use Rattle.links.proofs.Laws.Back.{looked-back, value-back, neighbour-back, child-rows-back}
+use Rattle.links.proofs.Laws.Back.{looked-back, value-back, part-place-back, neighbour-back, child-rows-back}
 use Rattle.links.proofs.typed as typed
 use Rattle.links.proofs.neighbour as neighbour
 use Rattle.links.proofs.children as children
@@ -32,19 +32,21 @@ only-data2-attribute κs a z z′ e e′ p q = one-answer value-back p q
 pub only-data4-attribute : OneAnswer typed.data4_attribute.Kinds.ps typed.data4_attribute.Kinds.r typed.data4_attribute.Reads.Post
 only-data4-attribute κs a z z′ e e′ p q = one-answer value-back p q
 
+-- `typed::string_place`
+pub only-string-place : OneAnswer typed.string_place.Kinds.ps typed.string_place.Kinds.r typed.string_place.Reads.Post
+only-string-place κs a z z′ e e′ p q = one-answer part-place-back p q
+
+-- `typed::block_place`
+pub only-block-place : OneAnswer typed.block_place.Kinds.ps typed.block_place.Kinds.r typed.block_place.Reads.Post
+only-block-place κs a z z′ e e′ p q = one-answer part-place-back p q
+
 -- `typed::string_attribute`
 pub only-string-attribute : One typed.string_attribute.Kinds.ps typed.string_attribute.Kinds.r (λ κs z e. now z) typed.string_attribute.Reads.Post
 only-string-attribute κs a z z′ e e′ p q = cc
 
-pub only-string-attribute-told : OneRoom typed.string_attribute.Kinds.ps typed.string_attribute.Kinds.r (λ κs e. now (e .1 .1 .1 .1 .1 .1 .1 .1 .1 .0)) typed.string_attribute.Reads.Post
-only-string-attribute-told κs a z z′ e e′ p q = cc
-
 -- `typed::block_attribute`
 pub only-block-attribute : One typed.block_attribute.Kinds.ps typed.block_attribute.Kinds.r (λ κs z e. now z) typed.block_attribute.Reads.Post
 only-block-attribute κs a z z′ e e′ p q = cc
-
-pub only-block-attribute-told : OneRoom typed.block_attribute.Kinds.ps typed.block_attribute.Kinds.r (λ κs e. now (e .1 .1 .1 .1 .1 .1 .1 .1 .1 .0)) typed.block_attribute.Reads.Post
-only-block-attribute-told κs a z z′ e e′ p q = cc
 
 -- `neighbour::next_tag`
 pub only-next-tag : OneAnswer neighbour.next_tag.Kinds.ps neighbour.next_tag.Kinds.r neighbour.next_tag.Reads.Post

@@ -1,18 +1,17 @@
 -- What follows from `Typed`, for each way that the code comes to an answer.
 use Prim.Native.Nat.{ℕ}
-use mathlib.Core.Path.{_≡_, sym, ap, _∙_, subst}
+use mathlib.Core.Path.{_≡_, sym, ap, _∙_}
 use mathlib.Core.Bool.{Bool, true, false}
-use mathlib.Core.List.{List, [], _∷_}
+use mathlib.Core.List.{List}
 use Rattle.tables.specs.Table.{table}
 use Rattle.numbers.specs.declared.Endian.{Endian}
 use Rattle.format.specs.FormKind.{isForm}
-use Rattle.format.specs.Refusal.{numberOf}
 use Rattle.format.specs.Said.{Said, gives}
 use Rattle.format.specs.declared.form_kind.FormKind.{FormKind}
 use Rattle.format.specs.declared.form_kind.FormKind.the-variants.{Block2, Block4}
 use Rattle.format.specs.declared.settings.Settings.{Settings}
-use Rattle.format.specs.declared.refusal.Refusal.{Refusal}
 use Rattle.attributes.specs.declared.decode.Endians.{Endians}
+use Rattle.attributes.specs.declared.decode.Extent.{Extent}
 use Rattle.tables.specs.Row.{attrAt, endsOf}
 use Rattle.tables.specs.declared.row.Attr.{Attr}
 use Rattle.tables.specs.Holds.{TableHolds}
@@ -30,12 +29,11 @@ use Rattle.links.specs.Inside.Children.{Asked}
 use Rattle.links.specs.Inside.Links.{AtRow}
 use Rattle.links.specs.Inside.Typed.{saidSpotted}
 use Rattle.links.specs.Maybe.{Maybe, some}
-use Rattle.links.specs.Typed.{saidLooked, attrFound, blockForm, spotFound, spotAt, spotIn, placeOfKey, wordAt, partAs, partOf, toldWords, Handed}
+use Rattle.links.specs.Typed.{saidLooked, attrFound, blockForm, spotFound, spotAt, spotIn, wordAt, liesAt, asExtent}
 use Rattle.links.specs.declared.lookup.Wanted.{Wanted}
 use Rattle.links.specs.declared.lookup.Wanted.the-variants as wanted
 use Rattle.links.specs.declared.typed.Looked.the-variants as looked
 use Rattle.links.specs.declared.typed.Spot.{Spot}
-use Rattle.links.specs.declared.typed.Spotted.{Spotted}
 use Rattle.links.specs.declared.typed.Spotted.the-variants as placed
 
 -- ---- in the row of a key
@@ -107,20 +105,5 @@ module _ {form f : FormKind} (is : form ≡ f) (s : List ℕ) (at : Spot) where
   pub word-formed : {z : Said (Maybe ℕ)} → z ≡ gives (wordAt f s at) → z ≡ gives (wordAt form s at)
   word-formed h = h ∙ ap (λ (x : FormKind). gives (wordAt x s at)) (sym is)
 
-  pub part-formed : {r : List ℕ} → r ≡ partAs f s at → r ≡ partAs form s at
-  part-formed h = h ∙ ap (λ (x : FormKind). partAs x s at) (sym is)
-
-pub handed : (form : FormKind) (s : List ℕ) {told place : Said (Maybe Spot)} {part words : List ℕ} → told ≡ place → part ≡ partOf form s told
-    → words ≡ toldWords told → Handed form s place part words
-handed form s is p q = record { part-is = p ∙ ap (partOf form s) is; told-is = q ∙ ap toldWords is }
-
-pub told-refused : {told : Spotted} (why : Refusal) {n : ℕ} → n ≡ numberOf (why .reason) → told ≡ placed.Refused why
-    → 2 ∷ n ∷ why .place ∷ [] ≡ toldWords (saidSpotted told)
-unfolding toldWords saidSpotted
-told-refused why h p = ap (λ (x : ℕ). 2 ∷ x ∷ why .place ∷ []) h ∙ ap (λ (x : Spotted). toldWords (saidSpotted x)) (sym p)
-
-pub handed-block : (settings : Settings) (vendors sizes s rows attrs : List ℕ) (counts : Counts) (key number : ℕ) {form : FormKind} {part words : List ℕ}
-    → form ≡ blockForm number → Handed form s (placeOfKey (table s settings vendors sizes rows attrs counts) key number form) part words
-    → Handed (blockForm number) s (placeOfKey (table s settings vendors sizes rows attrs counts) key number (blockForm number)) part words
-handed-block settings vendors sizes s rows attrs counts key number {part = part} {words = words} p =
-    subst (λ (x : FormKind). Handed x s (placeOfKey (table s settings vendors sizes rows attrs counts) key number x) part words) p
+  pub lies-formed : {z : Said (Maybe Extent)} → z ≡ gives (asExtent (liesAt f s at)) → z ≡ gives (asExtent (liesAt form s at))
+  lies-formed h = h ∙ ap (λ (x : FormKind). gives (asExtent (liesAt x s at))) (sym is)

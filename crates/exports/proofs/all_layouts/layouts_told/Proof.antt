@@ -9,15 +9,15 @@ use Rattle.exports.proofs.all_layouts.layouts_told.Tie as tie
 
 returns : tie.Need-returns
 unfolding layoutsTold crossed inOrder saidAllLayouts
-returns c = c .layouts-as .ensures ∙ ap (λ x. layoutsTold (saidAllLayouts x)) (sym (c .before .before .answer .given .1))
+returns c = c .layouts-as .ensures ∙ ap (λ x. layoutsTold (c .before .before .before .before .args .held) (saidAllLayouts x)) (sym (c .before .before .answer .given .1))
 
 returns-2 : tie.Need-returns-2
 unfolding layoutsTold crossed inOrder saidAllLayouts
-returns-2 c = c .refused-as .ensures ∙ ap (λ x. layoutsTold (saidAllLayouts x)) (sym (c .before .before .answer2 .given .1))
+returns-2 c = c .refused-as .ensures ∙ ap (λ x. layoutsTold (c .before .before .before .before .args .held) (saidAllLayouts x)) (sym (c .before .before .answer2 .given .1))
 
 returns-3 : tie.Need-returns-3
 unfolding layoutsTold crossed inOrder saidAllLayouts
-returns-3 c = c .layouts-as2 .ensures ∙ ap (λ (n : ℕ). toldAs n ((c .before .before .before .answer3 .given .0 .0) .structures) ((c .before .before .before .answer3 .given .0 .0) .members) 0) (c .before .number-of .ensures) ∙ ap (λ x. layoutsTold (saidAllLayouts x)) (sym (c .before .before .before .answer3 .given .1))
+returns-3 c = c .layouts-as2 .ensures ∙ ap (λ (n : ℕ). toldAs n ((c .before .before .before .answer3 .given .0 .0) .structures) ((c .before .before .before .answer3 .given .0 .0) .members) 0) (c .before .number-of .ensures) ∙ ap (λ x. layoutsTold (c .before .before .before .before .before .args .held) (saidAllLayouts x)) (sym (c .before .before .before .answer3 .given .1))
 
 pub layouts-told-spec : {M : Type 1} → statement M
 layouts-told-spec =

@@ -4,7 +4,7 @@ use Rattle.exports.proofs.block.capbeacon_process_offset.Statement.{sta
 use Rattle.exports.proofs.block.capbeacon_process_offset.Tie as tie
 
 returns : tie.Need-returns
-returns c = offset-crosses (c .before .before .endian-from .ensures) _ (c .before .process-offset .ensures) (c .offset-told .ensures)
+returns c = offset-crosses _ (c .before .before .endian-from .ensures) _ (c .before .process-offset .ensures) (c .offset-told .ensures)
 
 pub capbeacon-process-offset-spec : {M : Type 1} → statement M
 capbeacon-process-offset-spec =

@@ -7,11 +7,11 @@ use Rattle.exports.proofs.block.offset_told.Tie as tie
 
 returns : tie.Need-returns
 unfolding numberTold crossed inOrder saidLocated
-returns c = c .told-as .ensures ∙ ap (λ x. numberTold (saidLocated x)) (sym (c .before .before .answer .given .1))
+returns c = c .told-as .ensures ∙ ap (λ x. numberTold (c .before .before .before .before .args .held) (saidLocated x)) (sym (c .before .before .answer .given .1))
 
 returns-2 : tie.Need-returns-2
 unfolding numberTold crossed inOrder saidLocated
-returns-2 c = c .refused-as .ensures ∙ ap (λ x. numberTold (saidLocated x)) (sym (c .before .before .answer2 .given .1))
+returns-2 c = c .refused-as .ensures ∙ ap (λ x. numberTold (c .before .before .before .before .args .held) (saidLocated x)) (sym (c .before .before .answer2 .given .1))
 
 pub offset-told-spec : {M : Type 1} → statement M
 offset-told-spec =

@@ -4,7 +4,7 @@ use Rattle.exports.proofs.one_layout.capbeacon_layout_of_key.Statement.
 use Rattle.exports.proofs.one_layout.capbeacon_layout_of_key.Tie as tie
 
 returns : tie.Need-returns
-returns c = layout-crosses (c .before .before .before .before .before .before .settings-from .ensures) _ _ _ _ _ (c .before .before .before .before .before .counts-from .ensures) _ _ (c .before .before .before .layout-of-key .ensures) (c .layout-told .ensures)
+returns c = layout-crosses _ (c .before .before .before .before .before .before .before .before .before .settings-from .ensures) _ _ _ _ _ (c .before .before .before .before .before .before .before .before .counts-from .ensures) _ _ (c .before .before .before .layout-of-key .ensures) (c .layout-told .ensures)
 
 pub capbeacon-layout-of-key-spec : {M : Type 1} → statement M
 capbeacon-layout-of-key-spec =

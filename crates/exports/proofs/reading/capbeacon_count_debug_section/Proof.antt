@@ -4,7 +4,7 @@ use Rattle.exports.proofs.reading.capbeacon_count_debug_section.Stateme
 use Rattle.exports.proofs.reading.capbeacon_count_debug_section.Tie as tie
 
 returns : tie.Need-returns
-returns c = count-crosses (c .before .before .settings-from .ensures) _ _ _ (c .before .count-debug-section .ensures) (c .count-told .ensures)
+returns c = count-crosses _ (c .before .before .before .before .settings-from .ensures) _ _ _ (c .before .count-debug-section .ensures) (c .count-told .ensures)
 
 pub capbeacon-count-debug-section-spec : {M : Type 1} → statement M
 capbeacon-count-debug-section-spec =

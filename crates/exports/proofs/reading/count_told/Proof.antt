@@ -7,11 +7,11 @@ use Rattle.exports.proofs.reading.count_told.Tie as tie
 
 returns : tie.Need-returns
 unfolding countsTold crossed inOrder saidCount
-returns c = c .counted-as .ensures ∙ ap (λ x. countsTold (saidCount x)) (sym (c .before .before .answer .given .1))
+returns c = c .counted-as .ensures ∙ ap (λ x. countsTold (c .before .before .before .before .args .held) (saidCount x)) (sym (c .before .before .answer .given .1))
 
 returns-2 : tie.Need-returns-2
 unfolding countsTold crossed inOrder saidCount
-returns-2 c = c .refused-as .ensures ∙ ap (λ x. countsTold (saidCount x)) (sym (c .before .before .answer2 .given .1))
+returns-2 c = c .refused-as .ensures ∙ ap (λ x. countsTold (c .before .before .before .before .args .held) (saidCount x)) (sym (c .before .before .answer2 .given .1))
 
 pub count-told-spec : {M : Type 1} → statement M
 count-told-spec =

@@ -9,15 +9,15 @@ use Rattle.exports.proofs.reading.section_told.Tie as tie
 
 returns : tie.Need-returns
 unfolding countsTold crossed inOrder saidSection
-returns c = c .counted-as .ensures ∙ ap (λ x. countsTold (saidSection x)) (sym (c .before .before .answer .given .1))
+returns c = c .counted-as .ensures ∙ ap (λ x. countsTold (c .before .before .before .before .args .held) (saidSection x)) (sym (c .before .before .answer .given .1))
 
 returns-2 : tie.Need-returns-2
 unfolding countsTold crossed inOrder saidSection
-returns-2 c = c .refused-as .ensures ∙ ap (λ x. countsTold (saidSection x)) (sym (c .before .before .answer2 .given .1))
+returns-2 c = c .refused-as .ensures ∙ ap (λ x. countsTold (c .before .before .before .before .args .held) (saidSection x)) (sym (c .before .before .answer2 .given .1))
 
 returns-3 : tie.Need-returns-3
 unfolding countsTold crossed inOrder saidSection
-returns-3 c = c .counted-as2 .ensures ∙ ap (λ (n : ℕ). toldAs n ((c .before .before .before .answer3 .given .0 .0) .rows) ((c .before .before .before .answer3 .given .0 .0) .attrs) 0) (c .before .number-of .ensures) ∙ ap (λ x. countsTold (saidSection x)) (sym (c .before .before .before .answer3 .given .1))
+returns-3 c = c .counted-as2 .ensures ∙ ap (λ (n : ℕ). toldAs n ((c .before .before .before .answer3 .given .0 .0) .rows) ((c .before .before .before .answer3 .given .0 .0) .attrs) 0) (c .before .number-of .ensures) ∙ ap (λ x. countsTold (c .before .before .before .before .before .args .held) (saidSection x)) (sym (c .before .before .before .answer3 .given .1))
 
 pub section-told-spec : {M : Type 1} → statement M
 section-told-spec =

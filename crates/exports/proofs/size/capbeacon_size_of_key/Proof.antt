@@ -4,7 +4,7 @@ use Rattle.exports.proofs.size.capbeacon_size_of_key.Statement.{stateme
 use Rattle.exports.proofs.size.capbeacon_size_of_key.Tie as tie
 
 returns : tie.Need-returns
-returns c = size-crosses (c .before .before .before .settings-from .ensures) _ _ _ _ _ (c .before .before .counts-from .ensures) _ (c .before .size-of-key .ensures) (c .size-told .ensures)
+returns c = size-crosses _ (c .before .before .before .before .settings-from .ensures) _ _ _ _ _ (c .before .before .before .counts-from .ensures) _ (c .before .size-of-key .ensures) (c .size-told .ensures)
 
 pub capbeacon-size-of-key-spec : {M : Type 1} → statement M
 capbeacon-size-of-key-spec =
