@@ -1,122 +1,90 @@
--- The starred examples of document 01 ('Examples on each side'), big-endian: what is asked, and what it says. `examples-hold` computes every row.
+-- The starred examples of document 01 ('Examples on each side'), big-endian: what is asked of the public calls' definitions, and what they say, with
+-- number and place of a refusal and what lent memory then holds. `examples-hold` computes every row.
 use Prim.Native.Nat.{ℕ}
 use mathlib.Core.Bool.{Bool, true, false}
 use mathlib.Core.List.{List, [], _∷_}
-use lib.IntN.{negsuc}
-use Rattle.numbers.specs.Value.{valueOf}
-use Rattle.numbers.specs.declared.Endian.the-variants.{Big, Little}
+use lib.ListN.{replicate}
+use lib.IntN.{ℤ, pos, negsuc}
+use Rattle.lent.specs.Outcome.{Outcome, outcome, Outcomes, outcomes}
+use Rattle.numbers.specs.declared.Endian.the-variants.{Big}
 use Rattle.format.specs.TagKind as tag
 use Rattle.format.specs.AttributeKind as number
 use Rattle.format.specs.FundType.{parseInt}
 use Rattle.format.specs.Modifier.{modifierOf}
-use Rattle.format.specs.Refusal.{numberOf}
 use Rattle.format.specs.Said.{Said, gives, refuses}
+use Rattle.format.specs.Presets.{noRoles, rustSizes}
+use Rattle.format.specs.declared.form_kind.FormKind.the-variants as form
 use Rattle.format.specs.declared.fund_type.FundType.{FundType}
 use Rattle.format.specs.declared.fund_type.FundType.the-variants as fund
 use Rattle.format.specs.declared.modifier.Modifier.{Modifier}
 use Rattle.format.specs.declared.modifier.Modifier.the-variants as modifier
-use Rattle.format.specs.declared.refusal.Reason.the-variants as reason
 use Rattle.format.specs.declared.settings.Settings.{Settings}
 use Rattle.format.specs.declared.settings.Producer.the-variants.{Other}
-use Rattle.attributes.specs.Parts.{textAt}
+use Rattle.attributes.specs.declared.decode.Extent.{Extent}
+use Rattle.blocks.specs.Modifiers.{processModifiers}
 use Rattle.blocks.specs.Types.{processType}
-use Rattle.blocks.specs.Subscripts.{Dimensions, wholeBlock}
+use Rattle.blocks.specs.Subscripts.{Array, arrayOf, processArraySubscriptData}
 use Rattle.blocks.specs.declared.types.Type.{«Type»}
 use Rattle.blocks.specs.declared.types.TypeKind.the-variants.{Fundamental}
-use Rattle.tables.specs.declared.row.Row.{Row}
-use Rattle.tables.specs.declared.row.Attr.{Attr}
-use Rattle.records.specs.declared.scan.Run.{Run}
-use Rattle.records.specs.Elements.{Listed}
-use Rattle.records.specs.Enumeration.{listsFrom}
-use Rattle.entries.specs.Run.{attr}
-use Rattle.entries.specs.Walk.{Entries}
-use Rattle.entries.specs.Section.{wholeWalk}
+use Rattle.tables.specs.Table.{Table, table}
+use Rattle.tables.specs.declared.row.Counts.{Counts}
+use Rattle.links.specs.Maybe.{Maybe, some}
+use Rattle.links.specs.Typed.{extentOfKey, partOf, valueOfKey}
+use Rattle.records.specs.Enumeration.{processEnumerationTag}
+use Rattle.records.specs.declared.enumeration.Enumeration.{Enumeration}
+use Rattle.records.specs.declared.fields.Name.the-variants as name
+use Rattle.entries.specs.Section.{counts, readDebugSection}
 
--- what an example asks: to read a section, with the erased flag on or off; what a text at a place is, and a number of two bytes in little-endian;
--- what a fundamental type's number and a modifier's byte say; what a type attribute of a number with these bytes of value says, and a block of
--- subscripts; what the lists of an enumeration at 0 are, in a section with these two attributes
+-- what an example asks: to read a section into lent tables, with the erased flag on or off; the Name, and the FundType, of the entry at 0 of a table;
+-- what a fundamental type's number and a modifier's byte say, and a run of modifiers; what a type attribute of a number with these bytes of value
+-- says; what subscripts say, into lent room; what the enumeration at 0 of a table says, into lent rooms
 pub data Question : Type 0 where
   section : Bool → List ℕ → Question
-  text : List ℕ → ℕ → Question
-  little-number : List ℕ → ℕ → Question
+  name-of : Table → Question
+  type-of : Table → Question
   type-number : ℕ → Question
   modifier-byte : ℕ → Question
+  modifiers : List ℕ → Question
   type-attribute : ℕ → List ℕ → Question
   subscripts : List ℕ → Question
-  lists : List ℕ → List ℕ → Question
+  enumeration : Table → Question
 
--- what it says: rows and attributes, bytes, a number, a modifier, a type, an array's element type and the words of its dimensions; or a refusal's
--- number, for a section with its place
+-- what each says, whole
 pub data Answer : Type 0 where
-  rows : List Row → List Attr → Answer
-  bytes : List ℕ → Answer
-  number-is : ℕ → Answer
-  modifier-is : Modifier → Answer
-  type-is : «Type» → Answer
-  array-is : «Type» → List ℕ → Answer
-  members-are : List Listed → Answer
-  refused-at : ℕ → ℕ → Answer
-  refused-as : ℕ → Answer
+  tables : Outcomes (Said Counts) ℕ ℕ → Answer
+  text : Said (Maybe Extent) → List ℕ → Answer
+  value : Said (Maybe ℕ) → Answer
+  fundamental : FundType → Answer
+  one-modifier : Modifier → Answer
+  pointers : Said Bool → Answer
+  type : Said «Type» → Answer
+  array : Outcome (Said Array) ℕ → Answer
+  members : Outcomes (Said Enumeration) ℤ ℕ → Answer
 
 -- big-endian, no roles
 settings : Bool → Settings
-settings erased =
-    record {
-      endian = Big;
-      erased = erased;
-      producer = Other;
-      roles = record { «global_ref» = 0; mangled = 0; «overlay_name» = 0; «overlay_id» = 0 };
-    }
+settings erased = record { endian = Big; erased = erased; producer = Other; roles = noRoles }
 
--- what reading a section says
-walk : Said Entries → Answer
-walk (gives all) = rows (all .rows) (all .attrs)
-walk (refuses number place counts) = refused-at number place
+-- what is lent: room for a row and two attributes, and a word more, with 9 in every word
+lent : ℕ → List ℕ
+lent n = replicate n 9
 
--- what a fundamental type's number says; an unknown one is 18
-numbered-type : FundType → Answer
-numbered-type (fund.Known n) = number-is n
-numbered-type fund.Unknown = refused-as (numberOf reason.Number)
+-- values that are lent
+lent-values : List ℤ
+lent-values = pos 9 ∷ pos 9 ∷ []
 
--- what a modifier's byte says; an unknown one is 18
-one-modifier : Modifier → Answer
-one-modifier modifier.MwPointerTo = modifier-is modifier.MwPointerTo
-one-modifier modifier.PointerTo = modifier-is modifier.PointerTo
-one-modifier modifier.ReferenceTo = modifier-is modifier.ReferenceTo
-one-modifier modifier.Const = modifier-is modifier.Const
-one-modifier modifier.Volatile = modifier-is modifier.Volatile
-one-modifier modifier.Unknown = refused-as (numberOf reason.Number)
-
--- what a type attribute says
-of-type : Said «Type» → Answer
-of-type (gives t) = type-is t
-of-type (refuses number place counts) = refused-as number
-
--- what a block of subscripts says
-of-block : Said Dimensions → Answer
-of-block (gives d) = array-is (d .array .element) (d .words)
-of-block (refuses number place counts) = refused-as number
-
--- what the lists of an enumeration say
-listing : Said (List Listed) → Answer
-listing (gives xs) = members-are xs
-listing (refuses number place counts) = refused-as number
-
--- the run of two attributes of an entry at 0
-two : Run
-two = record { first = 0; count = 2; key = 0; ends = record { section = Big; «data» = Big } }
-
--- what the definitions answer, with no vendor numbers
+-- what the definitions of the calls answer, with no vendor numbers
 unfoldable pub answer : Question → Answer
-unfolding settings walk numbered-type one-modifier of-type of-block listing two
-answer (section erased s) = walk (wholeWalk (settings erased) [] s)
-answer (text s at) = bytes (textAt s at)
-answer (little-number s at) = number-is (valueOf Little 2 s at)
-answer (type-number n) = numbered-type (parseInt n)
+unfolding settings lent lent-values
+answer (section erased s) = tables (readDebugSection (settings erased) [] (rustSizes 4) s (lent 6) (lent 5))
+answer (name-of t) = text (extentOfKey t 0 number.Name form.String) (partOf (t .section) (extentOfKey t 0 number.Name form.String))
+answer (type-of t) = value (valueOfKey t 0 number.FundType form.Data2)
+answer (type-number n) = fundamental (parseInt n)
 answer (modifier-byte n) = one-modifier (modifierOf n)
-answer (type-attribute n value) = of-type (processType (record { section = Big; «data» = Big }) value n 0)
-answer (subscripts block) = of-block (wholeBlock Big block)
-answer (lists s attrs) = listing (listsFrom (settings false) s attrs two 0 2)
+answer (modifiers ms) = pointers (processModifiers ms)
+answer (type-attribute n bytes) = type (processType (record { section = Big; «data» = Big }) bytes n 0)
+answer (subscripts block) = array (processArraySubscriptData Big block (lent 3))
+answer (enumeration t) = members (processEnumerationTag t 0 lent-values (lent 3))
 
 -- a row of the table: what is asked, and what document 01 says
 pub record Example : Type 0 where
@@ -129,17 +97,32 @@ infix 80 _says_
 abbrev pub _says_ : Question → Answer → Example
 q says a = record { asked = q; said = a }
 
--- a null entry at 0, big-endian, not erased
-null : Row
-null = record { key = 0; kind = tag.Padding; flags = 0; first = 0; count = 0 }
+-- nothing is read: the tables stay as they are
+nothing-read : Said Counts → Answer
+unfolding lent
+nothing-read said = tables (outcomes said (lent 6) (lent 5))
+
+-- one null entry: its row is five zeros
+null-read : Answer
+unfolding lent
+null-read = tables (outcomes (gives (counts 1 0)) (0 ∷ tag.Padding ∷ 0 ∷ 0 ∷ 0 ∷ 9 ∷ []) (lent 5))
 
 -- the erased entry: name A at 8 and type 7 at 12, little-endian
 erased-entry : List ℕ
 erased-entry = 0x00 ∷ 0x00 ∷ 0x00 ∷ 0x0e ∷ 0x00 ∷ 0x00 ∷ 0x38 ∷ 0x00 ∷ 0x41 ∷ 0x00 ∷ 0x55 ∷ 0x00 ∷ 0x07 ∷ 0x00 ∷ []
 
--- erased, an erased root, little-endian: flags 1, 2 and 4
-erased-row : Row
-erased-row = record { key = 0; kind = tag.LocalVariable; flags = 7; first = 0; count = 2 }
+-- the words of its row (flags: 1 erased, 2 an erased root, 4 little-endian) and of its attributes, and a word of 9 behind each
+erased-row : List ℕ
+erased-row = 0 ∷ tag.LocalVariable ∷ 7 ∷ 0 ∷ 2 ∷ 9 ∷ []
+
+-- its attributes
+erased-attrs : List ℕ
+erased-attrs = number.Name ∷ 8 ∷ number.FundType ∷ 12 ∷ 9 ∷ []
+
+-- a table of one row with two attributes
+one-row : Bool → List ℕ → List ℕ → List ℕ → Table
+unfolding settings
+one-row erased s rows attrs = table s (settings erased) [] (rustSizes 4) rows attrs (counts 1 2)
 
 -- a fundamental type without modifiers, its value at a place
 plain : ℕ → ℕ → «Type»
@@ -155,6 +138,11 @@ array-of low high =
     0x00 ∷ 0x00 ∷ 0x07 ∷ 0x00 ∷ 0x00 ∷ 0x00 ∷ low ∷ 0xff ∷ 0xff ∷ 0xff ∷ high ∷
     0x08 ∷ 0x00 ∷ 0x55 ∷ 0x00 ∷ 0x07 ∷ []
 
+-- its one dimension: the index type and this size
+dimension : ℕ → Answer
+unfolding plain
+dimension size = array (outcome (gives (arrayOf (plain 7 14) 1)) (7 ∷ size ∷ 9 ∷ []))
+
 -- an enumeration of ByteSize 1 whose list is FF 41 00
 size-first : List ℕ
 size-first =
@@ -167,38 +155,46 @@ list-first =
     0x00 ∷ 0x00 ∷ 0x00 ∷ 0x15 ∷ 0x00 ∷ 0x04 ∷ 0x00 ∷ 0xf4 ∷ 0x00 ∷ 0x00 ∷ 0x00 ∷ 0x03 ∷ 0xff ∷ 0x41 ∷ 0x00 ∷
     0x00 ∷ 0xb6 ∷ 0x00 ∷ 0x00 ∷ 0x00 ∷ 0x01 ∷ []
 
--- the name A stands at 19
-minus-one : Listed
-minus-one = record { value = negsuc 0; place = 19; length = 1 }
+-- an enumeration's row at 0 with two attributes
+enumeration-row : List ℕ
+enumeration-row = 0 ∷ tag.EnumerationType ∷ 0 ∷ 0 ∷ 2 ∷ []
+
+-- an enumeration without a name, of ByteSize 1, with so many members
+enumeration-is : ℕ → Said Enumeration
+enumeration-is many = gives (record { name = name.Nothing; «byte_size» = 1; members = many })
 
 -- in document 01's order; its type numbers and modifiers are asked alone, and again as attributes
 unfoldable pub examples : List Example
-unfolding null erased-entry erased-row plain pointer array-of size-first list-first minus-one
+unfolding lent lent-values nothing-read null-read erased-entry erased-row erased-attrs one-row plain pointer array-of dimension size-first list-first enumeration-row enumeration-is
 examples =
-    section false [] says rows [] [] ∷
-    section false (0x00 ∷ 0x00 ∷ 0x00 ∷ []) says refused-at 4 0 ∷
-    section false (0x00 ∷ 0x00 ∷ 0x00 ∷ 0x00 ∷ []) says rows (null ∷ []) [] ∷
-    section false (0x00 ∷ 0x00 ∷ 0x00 ∷ 0x07 ∷ []) says rows (null ∷ []) [] ∷
-    section false (0x00 ∷ 0x00 ∷ 0x00 ∷ 0x08 ∷ 0x00 ∷ 0x00 ∷ []) says rows [] [] ∷
-    section true (0x00 ∷ 0x00 ∷ 0x00 ∷ 0x08 ∷ 0x00 ∷ 0x00 ∷ []) says refused-at 4 0 ∷
-    section false (0x00 ∷ 0x00 ∷ 0x00 ∷ 0x08 ∷ 0x00 ∷ 0x08 ∷ []) says refused-at 5 0 ∷
-    section false (0x00 ∷ 0x00 ∷ 0x00 ∷ 0x08 ∷ 0x00 ∷ 0x14 ∷ []) says refused-at 4 0 ∷
-    section true erased-entry says rows (erased-row ∷ []) (attr number.Name 8 ∷ attr number.FundType 12 ∷ []) ∷
-    text erased-entry 8 says bytes (0x41 ∷ []) ∷
-    little-number erased-entry 12 says number-is 7 ∷
-    section false erased-entry says rows [] [] ∷
-    type-number 0x0108 says number-is 0x0008 ∷
-    type-number 0x8108 says number-is 0x8108 ∷
-    type-number 0x0113 says refused-as 18 ∷
-    modifier-byte 0x81 says modifier-is modifier.PointerTo ∷
-    modifier-byte 0x85 says refused-as 18 ∷
-    type-attribute number.FundType (0x01 ∷ 0x08 ∷ []) says type-is (plain 0x0008 0) ∷
-    type-attribute number.FundType (0x81 ∷ 0x08 ∷ []) says type-is (plain 0x8108 0) ∷
-    type-attribute number.FundType (0x01 ∷ 0x13 ∷ []) says refused-as 18 ∷
-    type-attribute number.ModFundType (0x00 ∷ 0x03 ∷ 0x81 ∷ 0x00 ∷ 0x07 ∷ []) says type-is pointer ∷
-    type-attribute number.ModFundType (0x00 ∷ 0x03 ∷ 0x85 ∷ 0x00 ∷ 0x07 ∷ []) says refused-as 18 ∷
-    subscripts (array-of 0 0xff) says array-is (plain 7 14) (7 ∷ 0 ∷ []) ∷
-    subscripts (array-of 0 0xfe) says array-is (plain 7 14) (7 ∷ 4294967295 ∷ []) ∷
-    subscripts (array-of 1 0xff) says refused-as 19 ∷
-    lists size-first (number.ByteSize ∷ 8 ∷ number.ElementList ∷ 14 ∷ []) says members-are (minus-one ∷ []) ∷
-    lists list-first (number.ElementList ∷ 8 ∷ number.ByteSize ∷ 17 ∷ []) says members-are [] ∷ []
+    section false [] says nothing-read (gives (counts 0 0)) ∷
+    section false (0x00 ∷ 0x00 ∷ 0x00 ∷ []) says nothing-read (refuses 4 0 []) ∷
+    section false (0x00 ∷ 0x00 ∷ 0x00 ∷ 0x00 ∷ []) says null-read ∷
+    section false (0x00 ∷ 0x00 ∷ 0x00 ∷ 0x07 ∷ []) says null-read ∷
+    section false (0x00 ∷ 0x00 ∷ 0x00 ∷ 0x08 ∷ 0x00 ∷ 0x00 ∷ []) says nothing-read (gives (counts 0 0)) ∷
+    section true (0x00 ∷ 0x00 ∷ 0x00 ∷ 0x08 ∷ 0x00 ∷ 0x00 ∷ []) says nothing-read (refuses 4 0 []) ∷
+    section false (0x00 ∷ 0x00 ∷ 0x00 ∷ 0x08 ∷ 0x00 ∷ 0x08 ∷ []) says nothing-read (refuses 5 0 []) ∷
+    section false (0x00 ∷ 0x00 ∷ 0x00 ∷ 0x08 ∷ 0x00 ∷ 0x14 ∷ []) says nothing-read (refuses 4 0 []) ∷
+    section true erased-entry says tables (outcomes (gives (counts 1 2)) erased-row erased-attrs) ∷
+    name-of (one-row true erased-entry erased-row erased-attrs) says text (gives (some (record { place = 8; length = 1 }))) (0x41 ∷ []) ∷
+    type-of (one-row true erased-entry erased-row erased-attrs) says value (gives (some 7)) ∷
+    section false erased-entry says nothing-read (gives (counts 0 0)) ∷
+    type-number 0x0108 says fundamental (fund.Known 0x0008) ∷
+    type-number 0x8108 says fundamental (fund.Known 0x8108) ∷
+    type-number 0x0113 says fundamental fund.Unknown ∷
+    modifier-byte 0x81 says one-modifier modifier.PointerTo ∷
+    modifier-byte 0x85 says one-modifier modifier.Unknown ∷
+    modifiers (0x81 ∷ []) says pointers (gives true) ∷
+    modifiers (0x85 ∷ []) says pointers (refuses 18 0 []) ∷
+    type-attribute number.FundType (0x01 ∷ 0x08 ∷ []) says type (gives (plain 0x0008 0)) ∷
+    type-attribute number.FundType (0x81 ∷ 0x08 ∷ []) says type (gives (plain 0x8108 0)) ∷
+    type-attribute number.FundType (0x01 ∷ 0x13 ∷ []) says type (refuses 18 0 []) ∷
+    type-attribute number.ModFundType (0x00 ∷ 0x03 ∷ 0x81 ∷ 0x00 ∷ 0x07 ∷ []) says type (gives pointer) ∷
+    type-attribute number.ModFundType (0x00 ∷ 0x03 ∷ 0x85 ∷ 0x00 ∷ 0x07 ∷ []) says type (refuses 18 0 []) ∷
+    subscripts (array-of 0 0xff) says dimension 0 ∷
+    subscripts (array-of 0 0xfe) says dimension 4294967295 ∷
+    subscripts (array-of 1 0xff) says array (outcome (refuses 19 0 []) (lent 3)) ∷
+    enumeration (one-row false size-first enumeration-row (number.ByteSize ∷ 8 ∷ number.ElementList ∷ 14 ∷ []))
+    says members (outcomes (enumeration-is 1) (negsuc 0 ∷ pos 9 ∷ []) (19 ∷ 1 ∷ 9 ∷ [])) ∷
+    enumeration (one-row false list-first enumeration-row (number.ElementList ∷ 8 ∷ number.ByteSize ∷ 17 ∷ []))
+    says members (outcomes (enumeration-is 0) lent-values (lent 3)) ∷ []
