@@ -45,6 +45,10 @@ pub record WrittenList (w : ℕ) (e : Endian) (base : ℕ) (block : List ℕ) (x
   pub written : writtenElements w e elements ≡ block
   pub comes : listedFrom w base elements ≡ xs
 
+-- where the elements of attribute j begin: behind their block's length
+abbrev pub listBase : List ℕ → Run → ℕ → ℕ
+listBase attrs run j = attributeAt attrs (run .first + j) .value + 4
+
 -- attribute j of a row is a list: its elements stand in a block where the attribute's value is, and the ByteSize last seen before it is their width
 pub record ListWritten (w : ℕ) (e : Endian) (s attrs : List ℕ) (run : Run) (j : ℕ) (xs : List (Element w)) : Type 0 where
   pub before : List ℕ

@@ -35,7 +35,7 @@ use Rattle.records.specs.declared.scan.Run.{Run}
 use Rattle.records.specs.declared.fields.Word.{Word}
 use Rattle.records.specs.declared.fields.Word.the-variants as word
 use Rattle.records.specs.Elements.{listWidth, valueAt, namedFrom, valued, elementAt, Listed, elementThen, elementsFrom, elementsIn}
-use Rattle.records.specs.Standard.{Width, one, two, four, listedFrom, namesWritten, namesIn, WrittenList, ListWritten}
+use Rattle.records.specs.Standard.{Width, one, two, four, listedFrom, namesWritten, namesIn, WrittenList, listBase, ListWritten}
 use Rattle.records.specs.declared.elements.Element as reader
 use Rattle.records.specs.declared.elements.Element.the-variants as element
 use Rattle.records.proofs.Laws.Elements.{from-turn, from-end}
@@ -369,7 +369,7 @@ module _ {w : ℕ} (width : Width w) (e : Endian) {s attrs : List ℕ} {run : Ru
   list-there : blockAt e 4 s at ≡ writtenElements w e xs
   list-there = block-there e 4 (writtenElements w e xs) list-stands (l .short)
 
-  pub list-read : listAt s attrs run j ≡ gives (listedFrom w (at + 4) xs)
+  pub list-read : listAt s attrs run j ≡ gives (listedFrom w (listBase attrs run j) xs)
   unfolding listAt placed
   list-read =
       ap (λ (ends : Endians). placed (run .key) (elementsIn (listWidth (sizeBefore s attrs run j)) (ends .section) (at + 4) (blockAt (ends .«data») 4 s at))) (l .one-endian)
@@ -378,5 +378,5 @@ module _ {w : ℕ} (width : Width w) (e : Endian) {s attrs : List ℕ} {run : Ru
       ∙ ap (λ (u : List ℕ). placed (run .key) (elementsIn w e (at + 4) u)) list-there
       ∙ ap (placed (run .key)) (elements-read width e (at + 4) xs)
 
-  pub list-names-read : namesIn s (listedFrom w (at + 4) xs) ≡ namesWritten w xs
+  pub list-names-read : namesIn s (listedFrom w (listBase attrs run j) xs) ≡ namesWritten w xs
   list-names-read = names-from e s xs (at + 4) (block-stands e 4 (writtenElements w e xs) list-stands)
