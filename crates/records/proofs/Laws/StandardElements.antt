@@ -1,5 +1,5 @@
 -- The list of an enumeration as the standard writes it is read back, and nothing else is read.
-use Prim.Native.Nat.{ℕ, zero, suc, _+_, _-_, _^_, _≤_, _<_}
+use Prim.Native.Nat.{ℕ, zero, suc, _+_, _-_, _≤_, _<_}
 use native.Mathlib.Nat.{add-zero, add-sub-cancel-left, lt-of-not-le}
 use native.Mathlib.Decide.{decLe}
 use native.Mathlib.Omega.{arith}
@@ -28,7 +28,6 @@ use Rattle.attributes.proofs.Laws.Text.{zero-here, zero-next, zero-end, zero-af
 use Rattle.attributes.specs.declared.decode.Endians.{Endians}
 use Rattle.blocks.proofs.Laws.Placed.{split-stands, stands-part, bytes-within}
 use Rattle.blocks.proofs.Laws.StandardTypes.{block-stands, block-there}
-use Rattle.blocks.specs.Standard.{alike}
 use Rattle.records.specs.Scan.{attributeAt}
 use Rattle.records.specs.Enumeration.{sizeBefore, listAt}
 use Rattle.records.specs.declared.scan.Run.{Run}
@@ -43,7 +42,7 @@ use Rattle.records.proofs.Laws.Elements.{from-turn, from-end}
 -- ---- the zero behind a text
 
 module _ (s : List ℕ) where
-  zero-behind : (n at : ℕ) → at + n < length s → ((i : ℕ) → i < n → getD s (at + i) 0 ≡ 0 → ⊥) → getD s (at + n) 0 ≡ 0 → zeroFrom s at ≡ at + n
+  pub zero-behind : (n at : ℕ) → at + n < length s → ((i : ℕ) → i < n → getD s (at + i) 0 ≡ 0 → ⊥) → getD s (at + n) 0 ≡ 0 → zeroFrom s at ≡ at + n
   zero-behind zero at h before here = zero-here s at (omega arith) (ap (λ (k : ℕ). getD s k 0) (sym (add-zero at)) ∙ here) ∙ sym (add-zero at)
   zero-behind (suc n) at h before here =
       let place : at + suc n ≡ at + 1 + n = omega arith in
