@@ -39,10 +39,15 @@ use Rattle.records.specs.declared.elements.Element as reader
 use Rattle.records.specs.declared.elements.Element.the-variants as element
 use Rattle.records.proofs.Laws.Elements.{from-turn, from-end}
 
+-- what stands between two parts of a section
+pub stands-at : {s : List ℕ} {at : ℕ} (before body behind : List ℕ) → s ≡ before ++ (body ++ behind) → length before ≡ at → Stands s at body
+stands-at {s} before body behind p h =
+    subst (λ (k : ℕ). Stands s k body) h (subst (λ (u : List ℕ). Stands u (length before) body) (sym p) (split-stands before body behind))
+
 -- ---- the zero behind a text
 
 module _ (s : List ℕ) where
-  pub zero-behind : (n at : ℕ) → at + n < length s → ((i : ℕ) → i < n → getD s (at + i) 0 ≡ 0 → ⊥) → getD s (at + n) 0 ≡ 0 → zeroFrom s at ≡ at + n
+  zero-behind : (n at : ℕ) → at + n < length s → ((i : ℕ) → i < n → getD s (at + i) 0 ≡ 0 → ⊥) → getD s (at + n) 0 ≡ 0 → zeroFrom s at ≡ at + n
   zero-behind zero at h before here = zero-here s at (omega arith) (ap (λ (k : ℕ). getD s k 0) (sym (add-zero at)) ∙ here) ∙ sym (add-zero at)
   zero-behind (suc n) at h before here =
       let place : at + suc n ≡ at + 1 + n = omega arith in
@@ -82,6 +87,16 @@ module _ (s : List ℕ) where
             | no same ↦ let here : i ≡ at = omega arith in other (ap (λ (k : ℕ). getD s k 0) (sym here) ∙ p)
           ]
 
+-- a text that stands somewhere ends at its zero
+pub text-ends : {s : List ℕ} {at : ℕ} {xs : List ℕ} → Text xs → Stands s at (text xs) → zeroFrom s at ≡ at + length xs
+unfolding text
+text-ends {s} {at} {xs} t q =
+    let whole : length (xs ++ (0 ∷ [])) ≡ length xs + 1 = length-append xs (0 ∷ []) in
+    let inside : at + length (xs ++ (0 ∷ [])) ≤ length s = q .fits in
+    let front : Stands s at xs = front-stands s at xs (0 ∷ []) q in
+    zero-behind s (length xs) at (omega arith) (λ i b p. t .no-zero i b (sym (front .same i b) ∙ p))
+    (stands-byte s (at + length xs) 0 [] (back-stands s at xs (0 ∷ []) q))
+
 -- ---- where the parts of a written list stand
 
 module _ {w : ℕ} (e : Endian) (x : Element w) (xs : List (Element w)) where
@@ -118,10 +133,6 @@ module _ {w : ℕ} (e : Endian) (x : Element w) (xs : List (Element w)) where
     unfolding text
     name-stands = front-stands s (at + w) (x .name) (0 ∷ []) text-stands
 
-    zero-stands : getD s (at + w + length (x .name)) 0 ≡ 0
-    unfolding text
-    zero-stands = stands-byte s (at + w + length (x .name)) 0 [] (back-stands s (at + w) (x .name) (0 ∷ []) text-stands)
-
     rest-stands : Stands s (at + w + length (x .name) + 1) (writtenElements w e xs)
     unfolding writtenElements
     rest-stands =
@@ -130,10 +141,7 @@ module _ {w : ℕ} (e : Endian) (x : Element w) (xs : List (Element w)) where
         subst (λ (k : ℕ). Stands s k (writtenElements w e xs)) place (back-stands s at first (writtenElements w e xs) q)
 
     name-ends : zeroFrom s (at + w) ≡ at + w + length (x .name)
-    name-ends =
-        let long : length (text (x .name)) ≡ length (x .name) + 1 = text-length in
-        let inside : at + w + length (text (x .name)) ≤ length s = text-stands .fits in
-        zero-behind s (length (x .name)) (at + w) (omega arith) (λ i b p. x .is-text .no-zero i b (sym (name-stands .same i b) ∙ p)) zero-stands
+    name-ends = text-ends (x .is-text) text-stands
 
 -- ---- one element
 
@@ -360,10 +368,7 @@ module _ {w : ℕ} (width : Width w) (e : Endian) {s attrs : List ℕ} {run : Ru
   at = attributeAt attrs (run .first + j) .value
 
   list-stands : Stands s at (block e 4 (writtenElements w e xs))
-  list-stands =
-      subst (λ (k : ℕ). Stands s k (block e 4 (writtenElements w e xs))) (l .place)
-      (subst (λ (u : List ℕ). Stands u (length (l .before)) (block e 4 (writtenElements w e xs))) (sym (l .section))
-      (split-stands (l .before) (block e 4 (writtenElements w e xs)) (l .behind)))
+  list-stands = stands-at (l .before) (block e 4 (writtenElements w e xs)) (l .behind) (l .section) (l .place)
 
   list-there : blockAt e 4 s at ≡ writtenElements w e xs
   list-there = block-there e 4 (writtenElements w e xs) list-stands (l .short)

@@ -1,13 +1,13 @@
 -- What a row says of a member in the standard's words is what its record says.
-use Prim.Native.Nat.{ℕ, _+_, _-_, _%_, _^_, _≤_, _<_}
+use Prim.Native.Nat.{ℕ, _-_, _%_, _^_, _<_}
 use native.Mathlib.Nat.{add-sub-cancel-left}
 use native.Mathlib.Omega.{arith}
 use mathlib.Core.Path.{_≡_, refl, sym, ap, subst, _∙_}
-use mathlib.Core.List.{List, [], _∷_, _++_}
-use lib.ListN.{length, length-append}
+use mathlib.Core.List.{List}
+use lib.ListN.{length}
 use Rattle.numbers.specs.Written.{bytesOf}
 use Rattle.numbers.proofs.Laws.Written.{number-answers}
-use Rattle.numbers.proofs.Laws.Stands.{Stands, front-stands, back-stands, stands-byte}
+use Rattle.numbers.proofs.Laws.Stands.{Stands}
 use Rattle.numbers.specs.declared.Endian.{Endian}
 use Rattle.numbers.specs.declared.unsigned.Read16.{Read16}
 use Rattle.numbers.specs.declared.unsigned.Read16.the-variants as read16
@@ -24,13 +24,11 @@ use Rattle.format.specs.AttributeKind as attribute
 use Rattle.format.specs.declared.form_kind.FormKind.{FormKind}
 use Rattle.format.specs.declared.form_kind.FormKind.the-variants.{Data2, Data4}
 use Rattle.format.specs.Said.{Said, gives, _>>=_, placed}
-use Rattle.attributes.specs.Text.{zeroFrom}
 use Rattle.attributes.specs.Parts.{blockAt}
 use Rattle.attributes.specs.declared.decode.Endians.{Endians}
 use Rattle.blocks.specs.Location.{processOffset}
 use Rattle.blocks.specs.Types.{processType}
 use Rattle.blocks.specs.Standard.{typeAt, saidFrom, SaysAt, alike}
-use Rattle.blocks.proofs.Laws.Placed.{split-stands}
 use Rattle.blocks.proofs.Laws.StandardTypes.{as-data2, as-block2, block-there, type-read}
 use Rattle.blocks.proofs.Laws.StandardRead.{offset-read}
 use Rattle.links.specs.Typed.{asValue, asWidened, wordAt}
@@ -47,7 +45,7 @@ use Rattle.records.specs.declared.fields.Name.the-variants as name
 use Rattle.records.specs.declared.fields.Word.{Word}
 use Rattle.records.specs.declared.fields.Word.the-variants as word
 use Rattle.records.specs.declared.member.Bits.{Bits}
-use Rattle.records.proofs.Laws.StandardElements.{zero-behind}
+use Rattle.records.proofs.Laws.StandardElements.{stands-at, text-ends}
 
 -- ---- a value in the form of its number
 
@@ -81,15 +79,6 @@ same-number p = cc
 same-bytes : {xs ys : List ℕ} → bytes xs ≡ bytes ys → ys ≡ xs
 same-bytes p = cc
 
-text-ends : {s : List ℕ} {at : ℕ} {xs : List ℕ} → Text xs → Stands s at (text xs) → zeroFrom s at ≡ at + length xs
-unfolding text
-text-ends {s} {at} {xs} t q =
-    let whole : length (xs ++ (0 ∷ [])) ≡ length xs + 1 = length-append xs (0 ∷ []) in
-    let inside : at + length (xs ++ (0 ∷ [])) ≤ length s = q .fits in
-    let front : Stands s at xs = front-stands s at xs (0 ∷ []) q in
-    zero-behind s (length xs) at (omega arith) (λ i b p. t .no-zero i b (sym (front .same i b) ∙ p))
-    (stands-byte s (at + length xs) 0 [] (back-stands s at xs (0 ∷ []) q))
-
 -- ---- where it stands
 
 module _ {e : Endian} {s attrs : List ℕ} {run : Run} {what : Sought} {kind : ℕ} {value : Value} (l : LastSays e s attrs run what kind value) where
@@ -97,9 +86,7 @@ module _ {e : Endian} {s attrs : List ℕ} {run : Run} {what : Sought} {kind : �
   at = attributeAt attrs (l .index) .value
 
   body-stands : Stands s at (l .body)
-  body-stands =
-      subst (λ (k : ℕ). Stands s k (l .body)) (l .place)
-      (subst (λ (u : List ℕ). Stands u (length (l .before)) (l .body)) (sym (l .section)) (split-stands (l .before) (l .body) (l .behind)))
+  body-stands = stands-at (l .before) (l .body) (l .behind) (l .section) (l .place)
 
   needed : {A : Type 0} (key : ℕ) (next : Attribute → Said A) → (attributeNeeded attrs key (lastOf what attrs run) >>= next) ≡ next (attributeAt attrs (l .index))
   unfolding attributeNeeded _>>=_
