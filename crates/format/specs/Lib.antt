@@ -1,6 +1,6 @@
 -- The format's numbers, the limits, the refusals and the settings. The tables (`TagKind` to `SubscriptFormat`) are named as in the Rust; `Known`,
--- `Limits`, `Refusal` and `Settings` are document 01's; `Presets` completes the Rust's settings; `Lookup` has the three ways to ask a table; `InputA` is document 01's example, for the crates
--- above.
+-- `Limits`, `Refusal` and `Settings` are document 01's; `Presets` completes the Rust's settings; `Lookup` has the three ways to ask a table; `InputA`
+-- is document 01's example, for the crates above.
 pub mod Lookup
 pub mod TagKind
 pub mod AttributeKind

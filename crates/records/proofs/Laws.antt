@@ -1,5 +1,5 @@
 -- Laws. `Taken` to `Typedef`: for each way that the code comes to an answer. `UnionFilled`, `EnumerationFilled`: what a room then holds. `Only`: no
--- second answer fits.
+-- second answer fits. `StandardElements`, `StandardMember`: against the standard.
 pub mod Taken
 pub mod Scan
 pub mod Fields
@@ -17,3 +17,5 @@ pub mod Back
 pub mod Only
 pub mod UnionFilled
 pub mod EnumerationFilled
+pub mod StandardElements
+pub mod StandardMember

@@ -130,7 +130,9 @@ module _ (settings : Settings) (t : Rows) where
       (runOf (settings .endian) (t .rows) i .count)
       nothingYet
   typedefRun (suc levels) i =
-      attributesFrom (typedefRun levels) (suc levels) i (runOf (settings .endian) (t .rows) i) 0 (runOf (settings .endian) (t .rows) i .count) nothingYet
+      attributesFrom (typedefRun levels) (suc levels) i (runOf (settings .endian) (t .rows) i) 0
+      (runOf (settings .endian) (t .rows) i .count)
+      nothingYet
 
   -- the typedef at row i
   unfoldable pub typedefAt : ℕ → Said Typedef

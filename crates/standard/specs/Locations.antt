@@ -1,4 +1,4 @@
--- How the standard writes a location, in either endianness: its atoms one after the other, each its byte and, of the first four, an operand of 4 bytes.
+-- How the standard writes a location, in either endianness: its atoms one after the other, each its byte and, of the first four, 4 bytes of operand.
 use Prim.Native.Nat.{ℕ}
 use mathlib.Core.List.{List, [], _∷_, _++_}
 use Rattle.numbers.specs.Written.{bytesOf}

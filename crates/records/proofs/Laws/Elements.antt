@@ -298,14 +298,14 @@ placed-given key (gives y) p = p
 placed-given key (refuses number place counts) p = absurd (given-refused (sym p))
 
 module _ (width : ℕ) (e : Endian) (base : ℕ) (block : List ℕ) where
-  abbrev from : ℕ → ℕ → Said (List Listed)
+  abbrev pub from : ℕ → ℕ → Said (List Listed)
   from turns at = elementsFrom width e base block turns at
 
-  from-turn : (turns at : ℕ) → at < length block → from (suc turns) at ≡ elementThen base (λ k. from turns k) (elementAt width e block at)
+  pub from-turn : (turns at : ℕ) → at < length block → from (suc turns) at ≡ elementThen base (λ k. from turns k) (elementAt width e block at)
   unfolding elementsFrom
   from-turn turns at h = rw (lt-ltb at (length block) h, elementsFrom)
 
-  from-end : (turns at : ℕ) → length block ≤ at → from turns at ≡ gives []
+  pub from-end : (turns at : ℕ) → length block ≤ at → from turns at ≡ gives []
   unfolding elementsFrom
   from-end zero at h = refl
   from-end (suc turns) at h = rw (le-ltb at (length block) h, elementsFrom)
