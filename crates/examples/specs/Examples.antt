@@ -62,20 +62,19 @@ pub data Answer : Type 0 where
   members : Outcomes (Said Enumeration) ℤ ℕ → Answer
 
 -- big-endian, no roles
-settings : Bool → Settings
+abbrev settings : Bool → Settings
 settings erased = record { endian = Big; erased = erased; producer = Other; roles = noRoles }
 
 -- what is lent: room for a row and two attributes, and a word more, with 9 in every word
-lent : ℕ → List ℕ
+abbrev lent : ℕ → List ℕ
 lent n = replicate n 9
 
 -- values that are lent
-lent-values : List ℤ
+abbrev lent-values : List ℤ
 lent-values = pos 9 ∷ pos 9 ∷ []
 
 -- what the definitions of the calls answer, with no vendor numbers
 unfoldable pub answer : Question → Answer
-unfolding settings lent lent-values
 answer (section erased s) = tables (readDebugSection (settings erased) [] (rustSizes 4) s (lent 6) (lent 5))
 answer (name-of t) = text (extentOfKey t 0 number.Name form.String) (partOf (t .section) (extentOfKey t 0 number.Name form.String))
 answer (type-of t) = value (valueOfKey t 0 number.FundType form.Data2)
@@ -98,74 +97,69 @@ abbrev pub _says_ : Question → Answer → Example
 q says a = record { asked = q; said = a }
 
 -- nothing is read: the tables stay as they are
-nothing-read : Said Counts → Answer
-unfolding lent
+abbrev nothing-read : Said Counts → Answer
 nothing-read said = tables (outcomes said (lent 6) (lent 5))
 
 -- one null entry: its row is five zeros
-null-read : Answer
-unfolding lent
+abbrev null-read : Answer
 null-read = tables (outcomes (gives (counts 1 0)) (0 ∷ tag.Padding ∷ 0 ∷ 0 ∷ 0 ∷ 9 ∷ []) (lent 5))
 
 -- the erased entry: name A at 8 and type 7 at 12, little-endian
-erased-entry : List ℕ
+abbrev erased-entry : List ℕ
 erased-entry = 0x00 ∷ 0x00 ∷ 0x00 ∷ 0x0e ∷ 0x00 ∷ 0x00 ∷ 0x38 ∷ 0x00 ∷ 0x41 ∷ 0x00 ∷ 0x55 ∷ 0x00 ∷ 0x07 ∷ 0x00 ∷ []
 
 -- the words of its row (flags: 1 erased, 2 an erased root, 4 little-endian) and of its attributes, and a word of 9 behind each
-erased-row : List ℕ
+abbrev erased-row : List ℕ
 erased-row = 0 ∷ tag.LocalVariable ∷ 7 ∷ 0 ∷ 2 ∷ 9 ∷ []
 
 -- its attributes
-erased-attrs : List ℕ
+abbrev erased-attrs : List ℕ
 erased-attrs = number.Name ∷ 8 ∷ number.FundType ∷ 12 ∷ 9 ∷ []
 
 -- a table of one row with two attributes
-one-row : Bool → List ℕ → List ℕ → List ℕ → Table
-unfolding settings
+abbrev one-row : Bool → List ℕ → List ℕ → List ℕ → Table
 one-row erased s rows attrs = table s (settings erased) [] (rustSizes 4) rows attrs (counts 1 2)
 
 -- a fundamental type without modifiers, its value at a place
-plain : ℕ → ℕ → «Type»
+abbrev plain : ℕ → ℕ → «Type»
 plain n place = record { kind = Fundamental n; place = place; count = 0; pointer = false }
 
 -- a pointer to an Integer (7): one modifier, behind the block's length
-pointer : «Type»
+abbrev pointer : «Type»
 pointer = record { kind = Fundamental 7; place = 2; count = 1; pointer = true }
 
 -- an array of Integer, indexed by Integer: format 0 with this low bound and the last byte of a high bound 0xFFFFFF.., then format 8
-array-of : ℕ → ℕ → List ℕ
+abbrev array-of : ℕ → ℕ → List ℕ
 array-of low high =
     0x00 ∷ 0x00 ∷ 0x07 ∷ 0x00 ∷ 0x00 ∷ 0x00 ∷ low ∷ 0xff ∷ 0xff ∷ 0xff ∷ high ∷
     0x08 ∷ 0x00 ∷ 0x55 ∷ 0x00 ∷ 0x07 ∷ []
 
 -- its one dimension: the index type and this size
-dimension : ℕ → Answer
-unfolding plain
+abbrev dimension : ℕ → Answer
 dimension size = array (outcome (gives (arrayOf (plain 7 14) 1)) (7 ∷ size ∷ 9 ∷ []))
 
 -- an enumeration of ByteSize 1 whose list is FF 41 00
-size-first : List ℕ
+abbrev size-first : List ℕ
 size-first =
     0x00 ∷ 0x00 ∷ 0x00 ∷ 0x15 ∷ 0x00 ∷ 0x04 ∷ 0x00 ∷ 0xb6 ∷ 0x00 ∷ 0x00 ∷ 0x00 ∷ 0x01 ∷
     0x00 ∷ 0xf4 ∷ 0x00 ∷ 0x00 ∷ 0x00 ∷ 0x03 ∷ 0xff ∷ 0x41 ∷ 0x00 ∷ []
 
 -- the same with the list before the ByteSize
-list-first : List ℕ
+abbrev list-first : List ℕ
 list-first =
     0x00 ∷ 0x00 ∷ 0x00 ∷ 0x15 ∷ 0x00 ∷ 0x04 ∷ 0x00 ∷ 0xf4 ∷ 0x00 ∷ 0x00 ∷ 0x00 ∷ 0x03 ∷ 0xff ∷ 0x41 ∷ 0x00 ∷
     0x00 ∷ 0xb6 ∷ 0x00 ∷ 0x00 ∷ 0x00 ∷ 0x01 ∷ []
 
 -- an enumeration's row at 0 with two attributes
-enumeration-row : List ℕ
+abbrev enumeration-row : List ℕ
 enumeration-row = 0 ∷ tag.EnumerationType ∷ 0 ∷ 0 ∷ 2 ∷ []
 
 -- an enumeration without a name, of ByteSize 1, with so many members
-enumeration-is : ℕ → Said Enumeration
+abbrev enumeration-is : ℕ → Said Enumeration
 enumeration-is many = gives (record { name = name.Nothing; «byte_size» = 1; members = many })
 
 -- in document 01's order; its type numbers and modifiers are asked alone, and again as attributes
 unfoldable pub examples : List Example
-unfolding lent lent-values nothing-read null-read erased-entry erased-row erased-attrs one-row plain pointer array-of dimension size-first list-first enumeration-row enumeration-is
 examples =
     section false [] says nothing-read (gives (counts 0 0)) ∷
     section false (0x00 ∷ 0x00 ∷ 0x00 ∷ []) says nothing-read (refuses 4 0 []) ∷
