@@ -135,10 +135,10 @@ block-whole e w s at h =
       so = record { begins = refl; many = refl; inside = there-inside s (at + w) n bytes };
     }
 
--- a part is told
 some-none : {A : Type 0} {x : A} → some x ≡ none → ⊥
 some-none p = let z : _≡_ {A = ℕ} 0 1 = cc in absurd (omega arith)
 
+-- a part that lies somewhere is told
 lies-told : {P : Extent → Type 0} {l : Lying} → LiesSo P l → asExtent l ≡ none → ⊥
 unfolding asExtent
 lies-told f p = some-none (ap asExtent (sym (f .is-extent)) ∙ p)
