@@ -6,7 +6,7 @@ use crate::{
     theirs::{Fault, asked, read, too_deep},
     util::{
         dwarf::{
-            AttributeKind, DwarfInfo, Producer, StructureMember, Tag, TagKind, Visibility, get_udt_by_key,
+            AttributeKind, DwarfInfo, Producer, StructureMember, Tag, TagKind, TagMap, UserDefinedType, Visibility, get_udt_by_key,
             print, process_overlay_branch, process_variable_tag,
         },
         reader::Endian,
@@ -35,10 +35,22 @@ impl Settings {
 /// An answer in words, or why none can be compared.
 pub type Answer = Result<Words, &'static str>;
 
-/// Refused, with a number or with 0 where none is told.
+/// Refused, with a number.
 fn refused(number: u32) -> Answer {
     Ok(Words::of(&[0, number]))
 }
+
+/// Refused with one of these numbers: the Rust would never end, or goes below our limits, and what ours meets first is not foreseen. Told as a word whose
+/// highest bit is set, and bit n for the number n.
+fn refused_by(numbers: &[u32]) -> Answer {
+    refused(numbers.iter().fold(1 << 31, |all, n| all | 1 << n))
+}
+
+/// What a record may meet before its endless walk or the end of its chain: its own attributes and children, those of a specification's row.
+const RECORD: [u32; 9] = [9, 10, 11, 12, 13, 15, 16, 17, 18];
+
+/// And a size or layout: subscripts, what is missing in a row on the way, children, bounds, sums.
+const SIZED: [u32; 11] = [9, 10, 11, 12, 13, 15, 16, 17, 18, 19, 20];
 
 fn given() -> Words {
     Words::of(&[1])
@@ -68,7 +80,7 @@ fn foreseen<T>(
 ) -> Answer {
     match fine {
         Ok(()) => answer(asked(call), words),
-        Err(Why::Refused) => refused(0),
+        Err(Why::Refused) => refused_by(&RECORD),
         Err(Why::Unforeseen) => Err("too much to foresee"),
     }
 }
@@ -224,21 +236,116 @@ fn overlay_branch(tag: &Tag) -> Answer {
     })
 }
 
-/// A size. Where the Rust fails, ours may have passed over what it fails at; where it answers below our depth, ours is 10.
-fn size(info: &DwarfInfo, key: u32) -> Answer {
-    let seen = match Size::of(info, key) {
+fn is_structure(kind: TagKind) -> bool {
+    matches!(kind, TagKind::StructureType | TagKind::ClassType)
+}
+
+/// A copy without what document 01 passes over in sizes: attributes of structures, classes and arrays, and children of structures and classes that have no
+/// size and are no members. None where such a child is one of another row too, whose record would then find fewer.
+fn plain_copy(info: &DwarfInfo) -> Option<DwarfInfo> {
+    use AttributeKind as A;
+    let mut copy = info.clone();
+    for tag in info.tags.values().filter(|tag| is_structure(tag.kind)) {
+        for child in foresee::children(tag, &info.tags)? {
+            if child.kind != TagKind::Member && !is_sized(child.kind) {
+                copy.tags.get_mut(&child.key)?.kind = TagKind::Padding;
+            }
+        }
+    }
+    let many = |tag: &Tag, tags: &TagMap| foresee::children(tag, tags).map(|found| found.len());
+    let others = || info.tags.values().filter(|tag| !is_structure(tag.kind));
+    if others().any(|tag| many(tag, &info.tags) != many(tag, &copy.tags)) {
+        return None;
+    }
+    for tag in copy.tags.values_mut() {
+        let kept: &[A] = match tag.kind {
+            TagKind::StructureType | TagKind::ClassType => &[A::Sibling, A::Name, A::ByteSize],
+            TagKind::ArrayType => &[A::Sibling, A::SubscrData],
+            _ => continue,
+        };
+        tag.attributes.retain(|a| kept.contains(&a.kind));
+    }
+    Some(copy)
+}
+
+/// What a size or a layout comes to; `seen` foresees it, `call` asks the Rust. Where the Rust fails at what ours passes over, a copy without it is asked;
+/// where it answers below our depth, ours is 10.
+fn sized<T>(
+    info: &DwarfInfo,
+    seen: impl Fn(&DwarfInfo) -> Result<(bool, usize), Why>,
+    call: impl Fn(&DwarfInfo) -> anyhow::Result<T>,
+    words: impl FnOnce(&mut Words, T),
+) -> Answer {
+    let (plain, deepest) = match seen(info) {
         Ok(seen) => seen,
-        Err(Why::Refused) => return refused(0),
+        Err(Why::Refused) => return refused_by(&SIZED),
         Err(Why::Unforeseen) => return Err("too much to foresee"),
     };
-    let found = asked(|| get_udt_by_key(info, key)?.size(info));
+    let found = match asked(|| call(info)) {
+        Err(_) if deepest <= DEPTH && !plain => {
+            let copy = plain_copy(info).ok_or("the Rust fails where it may look at more")?;
+            match seen(&copy) {
+                Ok((true, deepest)) if deepest <= DEPTH => asked(|| call(&copy)),
+                _ => return Err("the Rust fails where it may look at more"),
+            }
+        }
+        found => found,
+    };
     match found {
-        Ok(_) if seen.deepest > DEPTH => refused(10),
-        Err(Fault::Number(_)) if seen.deepest > DEPTH => refused(0),
-        Err(Fault::Untold(_)) if !seen.plain => Err("the Rust fails where it may look at more"),
-        Err(Fault::Number(_)) if !seen.plain => Err("the Rust fails where it may look at more"),
-        found => answer(found, |w, n| w.word(n)),
+        Ok(_) if deepest > DEPTH => refused(10),
+        Err(_) if deepest > DEPTH => refused_by(&SIZED),
+        found => answer(found, words),
     }
+}
+
+fn size(info: &DwarfInfo, key: u32) -> Answer {
+    sized(
+        info,
+        |info| Size::of(info, key).map(|seen| (seen.plain, seen.deepest)),
+        |info| get_udt_by_key(info, key)?.size(info),
+        |w, n| w.word(n),
+    )
+}
+
+/// A member as a layout has it: offset, size, name.
+type Laid = (u32, u32, Option<String>);
+
+/// Size and members of a structure, each member's size taken before its end.
+fn laid(info: &DwarfInfo, key: u32) -> anyhow::Result<(u32, Vec<Laid>)> {
+    let UserDefinedType::Structure(found) = get_udt_by_key(info, key)? else { unreachable!("a structure") };
+    let (mut largest, mut members) = (0, Vec::new());
+    for member in found.members {
+        let size = match member.byte_size {
+            Some(size) => size,
+            None => member.kind.size(info)?,
+        };
+        if found.byte_size.is_none() {
+            largest = std::cmp::max(largest, member.offset + size);
+        }
+        members.push((member.offset, size, member.name));
+    }
+    Ok((found.byte_size.unwrap_or(largest), members))
+}
+
+/// A layout. Only structures and classes have one.
+fn layout(info: &DwarfInfo, tag: &Tag) -> Answer {
+    if !is_structure(tag.kind) {
+        return refused(12);
+    }
+    sized(
+        info,
+        |info| Size::of_layout(info, tag.key).map(|seen| (seen.plain, seen.deepest)),
+        |info| laid(info, tag.key),
+        |w, (size, members)| {
+            w.word(size);
+            w.word(members.len() as u32);
+            for (offset, size, name) in members {
+                w.word(offset);
+                w.word(size);
+                w.text(&name.unwrap_or_default());
+            }
+        },
+    )
 }
 
 fn children(info: &DwarfInfo, tag: &Tag) -> Answer {
@@ -320,6 +427,7 @@ pub fn by_key(info: &DwarfInfo, question: u32, key: u32) -> Answer {
     let found = match (question, tag) {
         (kind::SIZE, _) => size(info, key),
         (_, None) => refused(11),
+        (kind::LAYOUT, Some(tag)) => layout(info, tag),
         (kind::CHILDREN, Some(tag)) => children(info, tag),
         (kind::NEXT, Some(tag)) => neighbour(tag.next_tag(&info.tags, tag.is_erased)),
         (kind::SIBLING, Some(tag)) => neighbour(tag.next_sibling(&info.tags)),

@@ -144,11 +144,26 @@ impl<'a> Size<'a> {
         element.map_or(Ok(()), |of| self.named(&of, depth))
     }
 
+    /// The same of a layout, which takes every member's size, with a ByteSize too.
+    pub fn of_layout(info: &'a DwarfInfo, key: u32) -> Result<Self, Why> {
+        let mut size = Size { info, budget: 2000, plain: true, deepest: 1 };
+        let tag = &info.tags[&key];
+        match size.structure(tag, 0).and_then(|()| size.members(tag, 1)) {
+            Err(_) if size.deepest > DEPTH => Err(Why::Refused),
+            Err(_) => Err(Why::Unforeseen),
+            Ok(()) => Ok(size),
+        }
+    }
+
     fn structure_size(&mut self, tag: &Tag, depth: usize) -> Foreseen {
         self.structure(tag, 0)?;
         if tag.attribute(AttributeKind::ByteSize).is_some() {
             return Ok(());
         }
+        self.members(tag, depth)
+    }
+
+    fn members(&mut self, tag: &Tag, depth: usize) -> Foreseen {
         let children = children(tag, &self.info.tags).ok_or(Why::Refused)?;
         let members = children.iter().filter(|c| c.kind == TagKind::Member);
         let read: Result<Vec<_>, _> =

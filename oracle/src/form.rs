@@ -24,6 +24,7 @@ pub mod kind {
     pub const SIBLING: u32 = 13;
     pub const ATTRIBUTE: u32 = 14;
     pub const TYPE_ATTRIBUTE: u32 = 15;
+    pub const LAYOUT: u32 = 16;
     pub const OFFSET: u32 = 20;
     pub const ADDRESS: u32 = 21;
     pub const LOCATION: u32 = 22;

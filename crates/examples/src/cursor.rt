@@ -147,13 +147,36 @@ pub fn bytes(body: &[u8], c: Cursor, ours: &[u8]) -> Cursor {
     raw(body, d, ours)
 }
 
-// A refusal's number; 0 stands for one that could not be told.
+// The bit of a refusal's number; only these are allowed where several are.
+fn bit_of(number: u32) -> u32 {
+    match number {
+        9 => 0x0000_0200,
+        10 => 0x0000_0400,
+        11 => 0x0000_0800,
+        12 => 0x0000_1000,
+        13 => 0x0000_2000,
+        15 => 0x0000_8000,
+        16 => 0x0001_0000,
+        17 => 0x0002_0000,
+        18 => 0x0004_0000,
+        19 => 0x0008_0000,
+        20 => 0x0010_0000,
+        _ => 0,
+    }
+}
+
+// A word with the highest bit set allows every number whose bit it has.
+fn allows(several: u32, number: u32) -> bool {
+    (0x8000_0000 <= several) & (several & bit_of(number) != 0)
+}
+
+// A refusal's number, or one of several that are allowed.
 fn told(body: &[u8], c: Cursor, number: u32) -> Cursor {
     if c.verdict != SAME {
         return c;
     }
     match u32_at(body, c.at, Endian::Little) {
-        Read32::Value(n) => stepped(c, (n == number) | (n == 0), 4),
+        Read32::Value(n) => stepped(c, (n == number) | allows(n, number), 4),
         Read32::Short => ended(c, MISSHAPEN),
     }
 }

@@ -1,12 +1,13 @@
 // Runs some of document 01's examples through the code (the table of the starred ones is in specs/) and some refusals, then each file of cases that an argument
 // names, `-` being standard input: what was compared, and every difference. CASES.md says what a case is. Read `document` (the examples), `refusals`, `stream`
 // (packets of a file), `questions` (what a packet asks), then the files that ask: `alone` (of a block), `values` (a section's rows), `relations`, `single`,
-// `unions` and `enumerations` (by key), over `fields`, `settings`, `cursor` (the expected words against ours) and `tally` (the counts).
+// `unions`, `layouts` and `enumerations` (by key), over `fields`, `settings`, `cursor` (the expected words against ours) and `tally` (the counts).
 mod alone;
 mod cursor;
 mod document;
 mod enumerations;
 mod fields;
+mod layouts;
 mod questions;
 mod refusals;
 mod relations;

@@ -12,6 +12,7 @@ use crate::cursor::start;
 use crate::cursor::word;
 use crate::cursor::word_of;
 use crate::enumerations::enumeration;
+use crate::layouts::layout_of;
 use crate::relations::child_walk;
 use crate::relations::first_type;
 use crate::relations::lookup;
@@ -62,7 +63,7 @@ fn end_at(packet: &[u8], at: usize) -> usize {
 
 // The kinds that CASES.md numbers so.
 fn is_by_key(kind: u32) -> bool {
-    (2 <= kind) & (kind <= 15)
+    (2 <= kind) & (kind <= 16)
 }
 
 // Our answer to a question about a key, held against the case's.
@@ -102,7 +103,8 @@ fn by_key(
             key,
             number,
         ),
-        _ => first_type(body, c, s, settings, rows, attrs, counts, key),
+        15 => first_type(body, c, s, settings, rows, attrs, counts, key),
+        _ => layout_of(body, c, s, settings, rows, attrs, counts, key),
     }
 }
 

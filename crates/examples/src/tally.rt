@@ -75,6 +75,7 @@ fn title(kind: u32) {
         13 => text(b"sibling"),
         14 => text(b"attribute"),
         15 => text(b"type attribute"),
+        16 => text(b"layout"),
         20 => text(b"offset"),
         21 => text(b"address"),
         22 => text(b"variable location"),

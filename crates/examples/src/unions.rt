@@ -24,11 +24,11 @@ fn cell(t: &[u64], i: usize) -> u64 {
 }
 
 // Word k of the record at a place of the room.
-fn member_word(room: &[u64], at: usize, k: usize) -> u32 {
+pub fn member_word(room: &[u64], at: usize, k: usize) -> u32 {
     low_word(cell(room, wrapping_add_usize(at, k)))
 }
 
-fn member_part<'a>(s: &'a [u8], room: &[u64], at: usize, k: usize) -> &'a [u8] {
+pub fn member_part<'a>(s: &'a [u8], room: &[u64], at: usize, k: usize) -> &'a [u8] {
     let place = member_word(room, at, k);
     let length = member_word(room, at, wrapping_add_usize(k, 1));
     part(s, place as usize, length as usize)

@@ -11,7 +11,7 @@ use oracle::{
     shapes::Shaper,
     theirs::keep_panics,
     util::{
-        dwarf::{AttributeKind, DwarfInfo, FundType, Producer},
+        dwarf::{AttributeKind, DwarfInfo, FundType, Producer, Tag, TagKind},
         reader::Endian,
     },
 };
@@ -90,8 +90,8 @@ impl Cases {
     fn push(&mut self, group: &mut Vec<(u32, Words)>, info: &DwarfInfo, question: u32, key: u32) {
         match by_key(info, question, key) {
             Ok(body) => {
-                if body.0[4..] == [0; 8] {
-                    self.add("refused without a number: the Rust is not run, or ours stops before it", 1);
+                if body.0.len() == 12 && body.0[4..8] == [0; 4] && body.0[11] & 0x80 != 0 {
+                    self.add("refused by one of several numbers: the Rust is not run, or ours stops before it", 1);
                 }
                 group.push((question, body));
             }
@@ -108,6 +108,10 @@ impl Cases {
         }
         if tag.is_some_and(|tag| is_sized(tag.kind)) || self.rng.chance(8) {
             self.push(group, info, kind::SIZE, key);
+        }
+        let laid = |tag: &Tag| matches!(tag.kind, TagKind::StructureType | TagKind::ClassType);
+        if tag.is_some_and(laid) || self.rng.chance(4) {
+            self.push(group, info, kind::LAYOUT, key);
         }
         if self.rng.chance(15) {
             let record = self.rng.pick(&RECORDS);
