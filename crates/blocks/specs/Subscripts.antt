@@ -16,8 +16,8 @@ use Rattle.blocks.specs.Subscript.{Part, dimension, element, nextSubscri
 use Rattle.blocks.specs.declared.types.Type.{«Type»}
 use Rattle.blocks.specs.declared.subscripts.Element.{Element}
 use Rattle.blocks.specs.declared.subscripts.Element.the-variants as sofar
-use Rattle.blocks.specs.declared.subscripts.Counted.{Counted}
-use Rattle.blocks.specs.declared.subscripts.Counted.the-variants as counted
+use Rattle.blocks.specs.declared.subscripts.ArrayRead.{ArrayRead}
+use Rattle.blocks.specs.declared.subscripts.ArrayRead.the-variants as counted
 use Rattle.blocks.specs.declared.subscripts.Subscripts.{Subscripts}
 use Rattle.blocks.specs.declared.subscripts.Subscripts.the-variants as subscripts
 
@@ -31,9 +31,9 @@ abbrev pub arrayOf : «Type» → ℕ → Array
 arrayOf t n = record { element = t; dimensions = n }
 
 -- what counting says
-unfoldable pub saidCounted : Counted → Said Array
-saidCounted (counted.Are t n) = gives (arrayOf t n)
-saidCounted (counted.Refused why) = refusal why
+unfoldable pub saidArrayRead : ArrayRead → Said Array
+saidArrayRead (counted.Are t n) = gives (arrayOf t n)
+saidArrayRead (counted.Refused why) = refusal why
 
 -- what reading into lent room says
 unfoldable pub saidSubscripts : Subscripts → Said Array

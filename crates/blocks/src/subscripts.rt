@@ -12,7 +12,7 @@ ghost use Prim.Native.Nat.{_+_, _*_, _^_, _<_};
 ghost use lib.ListN.{set};
 ghost use lib.Seq.{sets};
 ghost use Rattle.lent.specs.Outcome.{Given};
-ghost use Rattle.blocks.specs.Subscripts.{saidCounted, saidSubscripts, dimensionWords, elementOr, raised, countSubscripts};
+ghost use Rattle.blocks.specs.Subscripts.{saidArrayRead, saidSubscripts, dimensionWords, elementOr, raised, countSubscripts};
 ghost use Rattle.blocks.specs.Subscripts.{processArraySubscriptData};
 ghost use Rattle.blocks.specs.Inside.Subscripts.{Walked};
 
@@ -26,7 +26,7 @@ pub enum Element {
 }
 
 // The element type, its modifiers' place counted from the block's first byte, and how many dimensions there are.
-pub enum Counted {
+pub enum ArrayRead {
     Are { element: Type, dimensions: usize },
     Refused(Refusal),
 }
@@ -48,15 +48,15 @@ fn put_dimension(t: &mut [u32], n: usize, index: u16, size: u32)
 }
 
 // An array needs an element type.
-fn element_or(element: Element, dimensions: usize) -> Counted
-    ensures { λ r. ⌜ saidCounted r ≡ elementOr dimensions element ⌝ }
+fn element_or(element: Element, dimensions: usize) -> ArrayRead
+    ensures { λ r. ⌜ saidArrayRead r ≡ elementOr dimensions element ⌝ }
 {
     match element {
-        Element::Is(of) => Counted::Are {
+        Element::Is(of) => ArrayRead::Are {
             element: of,
             dimensions,
         },
-        Element::Nothing => Counted::Refused(refused_block(Reason::Block)),
+        Element::Nothing => ArrayRead::Refused(refused_block(Reason::Block)),
     }
 }
 
@@ -78,7 +78,7 @@ fn raised(of: Type, at: usize) -> Type
 }
 
 // Subscript after subscript, each handed the rest that the last one left; the dimensions into the room, as far as they fit.
-fn walk_subscripts(block: &[u8], e: Endian, dims: &mut [u32]) -> Counted
+fn walk_subscripts(block: &[u8], e: Endian, dims: &mut [u32]) -> ArrayRead
     ensures { λ r. ⌜ Walked e (now (block .entry)) r (now (dims .entry)) (now (dims .exit)) ⌝ }
 {
     let mut rest = block;
@@ -95,15 +95,15 @@ fn walk_subscripts(block: &[u8], e: Endian, dims: &mut [u32]) -> Counted
                 element = Element::Is(raised(of, block.len() - rest.len()));
                 rest = &rest[used..];
             }
-            Subscript::Refused(why) => return Counted::Refused(why),
+            Subscript::Refused(why) => return ArrayRead::Refused(why),
         }
     }
     element_or(element, dimensions)
 }
 
 // The element type and the number of dimensions, with no room: all subscripts are read.
-pub fn count_subscripts(block: &[u8], e: Endian) -> Counted
-    ensures { λ r. ⌜ saidCounted r ≡ countSubscripts e (now (block .entry)) ⌝ }
+pub fn count_subscripts(block: &[u8], e: Endian) -> ArrayRead
+    ensures { λ r. ⌜ saidArrayRead r ≡ countSubscripts e (now (block .entry)) ⌝ }
 {
     let mut none = [0u32; 0];
     walk_subscripts(block, e, &mut none)
@@ -114,7 +114,7 @@ pub fn process_array_subscript_data(block: &[u8], e: Endian, dims: &mut [u32]) -
     ensures { λ r. ⌜ Given (processArraySubscriptData e (now (block .entry)) (now (dims .entry))) (saidSubscripts r) (now (dims .exit)) ⌝ }
 {
     match count_subscripts(block, e) {
-        Counted::Are {
+        ArrayRead::Are {
             element,
             dimensions,
         } => {
@@ -128,6 +128,6 @@ pub fn process_array_subscript_data(block: &[u8], e: Endian, dims: &mut [u32]) -
                 Subscripts::Room { dimensions }
             }
         }
-        Counted::Refused(why) => Subscripts::Refused(why),
+        ArrayRead::Refused(why) => Subscripts::Refused(why),
     }
 }

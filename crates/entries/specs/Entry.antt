@@ -15,7 +15,7 @@ use Rattle.format.specs.declared.refusal.Reason.the-variants as reason
 use Rattle.tables.specs.declared.row.Row.{Row}
 use Rattle.tables.specs.declared.row.Attr.{Attr}
 use Rattle.entries.specs.Head.{headAt}
-use Rattle.entries.specs.Run.{Run, readRun}
+use Rattle.entries.specs.Run.{AttrsRead, readRun}
 use Rattle.entries.specs.declared.head.Head.{Head}
 use Rattle.entries.specs.declared.head.Head.the-variants.{Null, Skipped, Root, Ordinary, Refused}
 
@@ -58,7 +58,7 @@ rootEndian vendors s false e at = readAt (λ n. gives (cond (known vendors n) e 
 
 module _ (r : Source) where
   -- the attributes of the entry at `at`: they begin after size and tag
-  unfoldable pub attributes : Endian → Bool → ℕ → ℕ → Said Run
+  unfoldable pub attributes : Endian → Bool → ℕ → ℕ → Said AttrsRead
   attributes e root end at = placed at (readRun r e root end (suc (length (r .section))) false (at + 6))
 
   -- by what it begins with; a root wants one more level

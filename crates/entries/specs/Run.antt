@@ -16,13 +16,13 @@ use Rattle.attributes.specs.declared.read.Attribute.the-variants.{Read, Short, 
 use Rattle.tables.specs.declared.row.Attr.{Attr}
 
 -- what reading attributes comes to: the attributes, whether a HighPc was among them, and where reading stopped. A refusal's place is the field's
-pub record Run : Type 0 where
+pub record AttrsRead : Type 0 where
   pub attrs : List Attr
   pub high : Bool
   pub stopped : ℕ
 
 -- the same, in short
-abbrev pub ran : List Attr → Bool → ℕ → Run
+abbrev pub ran : List Attr → Bool → ℕ → AttrsRead
 ran attrs high stopped = record { attrs = attrs; high = high; stopped = stopped }
 
 -- an attribute: its number and the place of its value
@@ -34,7 +34,7 @@ unfoldable pub runEnds : ℕ → List ℕ → Endian → Bool → ℕ → Bool
 runEnds global s e high at = high && not (readAt (plays global) true e 2 s at)
 
 -- what was read, and then what follows it
-unfoldable pub readOn : Attribute → (ℕ → ℕ → Said Run) → Said Run
+unfoldable pub readOn : Attribute → (ℕ → ℕ → Said AttrsRead) → Said AttrsRead
 readOn (Read n value next) follow = do
   later ← follow n next
   gives (ran (attr n value ∷ later .attrs) (later .high) (later .stopped))
@@ -42,7 +42,7 @@ readOn (Short field) follow = refuse reason.Short field
 readOn (Unknown field) follow = refuse reason.Attribute field
 
 -- the attributes from `at` up to `end`; at most as many as the first number, which is never reached. Only an erased root looks for a HighPc
-unfoldable pub readRun : Source → Endian → Bool → ℕ → ℕ → Bool → ℕ → Said Run
+unfoldable pub readRun : Source → Endian → Bool → ℕ → ℕ → Bool → ℕ → Said AttrsRead
 readRun r e root end zero high at = gives (ran [] high at)
 readRun r e root end (suc f) high at =
     elim (ltb at end) [

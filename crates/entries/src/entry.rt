@@ -1,7 +1,7 @@
 // One entry: its row and its attributes are stored; an erased root's inside is left to the walk.
 use crate::head::Head;
 use crate::head::head_at;
-use crate::run::Run;
+use crate::run::AttrsRead;
 use crate::run::read_run;
 use format::attribute_kind::is_known;
 use format::refusal::Reason;
@@ -129,7 +129,7 @@ fn read_body(
         from.at + 6,
         from.attrs,
     ) {
-        Run::Ran { at, attrs: n, high } => {
+        AttrsRead::Ran { at, attrs: n, high } => {
             let row = Row {
                 key: from.at as u32,
                 kind: kind_of(shape.root, shape.kind, high) as u32,
@@ -144,7 +144,7 @@ fn read_body(
                 attrs: n,
             })
         }
-        Run::Refused(why) => Body::Refused(why),
+        AttrsRead::Refused(why) => Body::Refused(why),
     }
 }
 

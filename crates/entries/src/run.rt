@@ -19,7 +19,7 @@ ghost use Rattle.entries.specs.Run.{runEnds, readRun};
 ghost use Rattle.entries.specs.Inside.Promise.{RunReady, RunRead};
 
 // Where reading stopped, how many attributes the table then has, whether a HighPc was among those read.
-pub enum Run {
+pub enum AttrsRead {
     Ran { at: usize, attrs: usize, high: bool },
     Refused(Reason),
 }
@@ -56,7 +56,7 @@ pub(crate) fn read_run(
     end: usize,
     at: usize,
     attrs: usize,
-) -> Run
+) -> AttrsRead
     requires { ⌜ RunReady (now s) at attrs ⌝ }
     ensures { λ r. ⌜
         RunRead (now (s .entry)) at attrs (readRun (source (now (vendors .entry)) global (now (s .entry))) e root end
@@ -68,7 +68,7 @@ pub(crate) fn read_run(
     let mut high = false;
     while place < end {
         if run_ends(global, s, e, high, place) {
-            return Run::Ran {
+            return AttrsRead::Ran {
                 at: place,
                 attrs: n,
                 high,
@@ -92,11 +92,11 @@ pub(crate) fn read_run(
                 high = high | (root & (number == HIGH_PC));
                 place = next;
             }
-            Attribute::Short(_) => return Run::Refused(Reason::Short),
-            Attribute::Unknown(_) => return Run::Refused(Reason::Attribute),
+            Attribute::Short(_) => return AttrsRead::Refused(Reason::Short),
+            Attribute::Unknown(_) => return AttrsRead::Refused(Reason::Attribute),
         }
     }
-    Run::Ran {
+    AttrsRead::Ran {
         at: place,
         attrs: n,
         high,

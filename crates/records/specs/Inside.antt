@@ -7,7 +7,7 @@ pub mod Member
 pub mod PtrToMember
 pub mod OverlayBranch
 pub mod Typedef
-pub mod Counted
+pub mod Tally
 pub mod Elements
 pub mod Enumeration
 pub mod Unions

@@ -1,7 +1,7 @@
 // The element list of an enumeration: pairs of a value and a name. A width of 0 says that only names are read and nothing is listed.
-use crate::counted::Counted;
 use crate::fields::Word;
 use crate::scan::refused;
+use crate::tally::Tally;
 use attributes::text::zero_from;
 use format::refusal::Reason;
 use lent::values::put_value;
@@ -156,7 +156,7 @@ pub(crate) fn read_list(
     k: usize,
     values: &mut [i32],
     names: &mut [u64],
-) -> Counted
+) -> Tally
     requires { ⌜ Addable base width (now block) k ⌝ }
     ensures { λ r. ⌜
         StoredFrom (placed key (elementsIn width e base (now (block .entry)))) slots k r (now (values .entry)) (now (values .exit))
@@ -181,8 +181,8 @@ pub(crate) fn read_list(
             Element::Name(next) => {
                 at = next;
             }
-            Element::Missing => return Counted::Refused(refused(Reason::Block, key)),
+            Element::Missing => return Tally::Refused(refused(Reason::Block, key)),
         }
     }
-    Counted::Count(count)
+    Tally::Count(count)
 }

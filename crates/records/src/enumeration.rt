@@ -1,5 +1,4 @@
 // Enumerations: the Rust's `process_enumeration_tag`.
-use crate::counted::Counted;
 use crate::elements::Slots;
 use crate::elements::list_width;
 use crate::elements::read_list;
@@ -22,6 +21,7 @@ use crate::scan::attribute_fault;
 use crate::scan::run_of;
 use crate::scan::scan_from;
 use crate::taken::Record;
+use crate::tally::Tally;
 use attributes::decode::block4;
 use format::attribute_kind::BYTE_SIZE;
 use format::attribute_kind::NAME;
@@ -99,7 +99,7 @@ fn list_at(
     count: usize,
     values: &mut [i32],
     names: &mut [u64],
-) -> Counted
+) -> Tally
     requires { ⌜ Countable (now s) j count ⌝ }
     ensures { λ r. ⌜
         StoredFrom (oneList settings (now (s .entry)) (now (attrs .entry)) run j) slots count r (now (values .entry)) (now (values .exit))
@@ -119,7 +119,7 @@ fn list_at(
             let base = attr.value as usize + 4;
             read_list(block, e, width, base, run.key, slots, count, values, names)
         }
-        Fault::Refused(why) => Counted::Refused(why),
+        Fault::Refused(why) => Tally::Refused(why),
     }
 }
 
@@ -158,11 +158,11 @@ fn list_step(
                 values,
                 names,
             ) {
-                Counted::Count(more) => Step::Next {
+                Tally::Count(more) => Step::Next {
                     at: at + 1,
                     count: more,
                 },
-                Counted::Refused(why) => Step::Refused(why),
+                Tally::Refused(why) => Step::Refused(why),
             }
         }
         Scan::Refused(why) => Step::Refused(why),
@@ -178,7 +178,7 @@ fn read_lists(
     slots: Slots,
     values: &mut [i32],
     names: &mut [u64],
-) -> Counted
+) -> Tally
     requires { ⌜ length (now s) < sectionLimit ⌝ }
     ensures { λ r. ⌜
         StoredFrom (listsFrom settings (now (s .entry)) (now (attrs .entry)) run 0 (run .count)) slots 0 r (now (values .entry)) (now (values .exit))
@@ -194,10 +194,10 @@ fn read_lists(
                 j = at;
                 listed = count;
             }
-            Step::Refused(why) => return Counted::Refused(why),
+            Step::Refused(why) => return Tally::Refused(why),
         }
     }
-    Counted::Count(listed)
+    Tally::Count(listed)
 }
 
 fn enumeration_sized(s: &[u8], attrs: &[u32], run: Run, members: usize) -> EnumerationWhole
@@ -261,10 +261,10 @@ fn read_enumeration(
             let e = settings.endian;
             let run = run_of(e, rows, i);
             match read_lists(s, settings, attrs, run, slots, values, names) {
-                Counted::Count(members) => {
+                Tally::Count(members) => {
                     enumeration_end(s, settings, rows, attrs, n, i, members)
                 }
-                Counted::Refused(why) => EnumerationWhole::Refused(why),
+                Tally::Refused(why) => EnumerationWhole::Refused(why),
             }
         }
         Fault::Refused(why) => EnumerationWhole::Refused(why),

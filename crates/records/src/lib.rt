@@ -3,7 +3,6 @@
 // `process_overlay_branch`. `taken` says which attributes each takes, `scan` goes over them, `fields` picks what counts, `front` is what comes before the fields;
 // then a file for each record, with `elements` for an enumeration's list and `member_words` for what goes into lent room. What it means: the specs of the
 // same names.
-pub mod counted;
 pub mod elements;
 pub mod enumeration;
 pub mod fields;
@@ -15,6 +14,7 @@ pub mod overlay_branch;
 pub mod ptr_to_member;
 pub mod scan;
 pub mod taken;
+pub mod tally;
 pub mod typedef;
 pub mod unions;
 pub mod variable;

@@ -1,5 +1,4 @@
 // Unions: the Rust's `process_union_tag`. Their members' records go into lent room, in words.
-use crate::counted::Counted;
 use crate::fields::Name;
 use crate::fields::Needed;
 use crate::fields::last_name;
@@ -15,6 +14,7 @@ use crate::scan::Run;
 use crate::scan::refused;
 use crate::scan::run_of;
 use crate::taken::Record;
+use crate::tally::Tally;
 use format::attribute_kind::BYTE_SIZE;
 use format::attribute_kind::NAME;
 use format::refusal::Reason;
@@ -36,7 +36,7 @@ ghost use Rattle.links.specs.Inside.Children.{Asked};
 ghost use Rattle.records.specs.Unions.{saidUnionRead, ignored, unionSized, membersFrom, rowMembers, unionAt, unionInto};
 ghost use Rattle.records.specs.Inside.Unions.{saidUnionWhole};
 ghost use Rattle.records.specs.Unions.{processUnionTag};
-ghost use Rattle.records.specs.Inside.Counted.{saidCounted};
+ghost use Rattle.records.specs.Inside.Tally.{saidTally};
 ghost use Rattle.records.specs.Inside.Unions.{TakeAsked, TakesMember, EndsAt, MembersStored, UnionStored};
 ghost use Rattle.links.specs.Inside.EachChild.{childrenAt};
 ghost use Rattle.tables.specs.Row.{rowAt};
@@ -88,10 +88,10 @@ fn take_child(
     c: usize,
     room: &mut [u64],
     k: usize,
-) -> Counted
+) -> Tally
     requires { ⌜ TakeAsked (now rows) n c k ⌝ }
     ensures { λ r. ⌜
-        TakesMember settings (now (s .entry)) (now (rows .entry)) (now (attrs .entry)) n key c k (saidCounted r) (now (room .entry))
+        TakesMember settings (now (s .entry)) (now (rows .entry)) (now (attrs .entry)) n key c k (saidTally r) (now (room .entry))
         (now (room .exit))
         ⌝ }
 {
@@ -100,14 +100,14 @@ fn take_child(
         match member_at(s, settings, rows, attrs, n, c) {
             MemberRead::Is(member) => {
                 put_member(room, k, c, member);
-                Counted::Count(k + 1)
+                Tally::Count(k + 1)
             }
-            MemberRead::Refused(why) => Counted::Refused(why),
+            MemberRead::Refused(why) => Tally::Refused(why),
         }
     } else if is_ignored(row.kind) {
-        Counted::Count(k)
+        Tally::Count(k)
     } else {
-        Counted::Refused(refused(Reason::Child, key))
+        Tally::Refused(refused(Reason::Child, key))
     }
 }
 
@@ -120,12 +120,12 @@ fn take_children(
     n: usize,
     i: usize,
     room: &mut [u64],
-) -> Counted
+) -> Tally
     requires { ⌜ EndsAt (settings .endian) (now s) (now rows) (now attrs) n i ⌝ }
     ensures { λ r. ⌜
         MembersStored (membersFrom settings (lentRows (settings .endian) (now (s .entry)) (now (rows .entry)) (now (attrs .entry)) n)
         (rowAt (now (rows .entry)) i .key)
-        (childrenAt (settings .endian) (now (s .entry)) (now (rows .entry)) (now (attrs .entry)) n i)) (saidCounted r) (now (room .entry))
+        (childrenAt (settings .endian) (now (s .entry)) (now (rows .entry)) (now (attrs .entry)) n i)) (saidTally r) (now (room .entry))
         (now (room .exit))
         ⌝ }
 {
@@ -136,7 +136,7 @@ fn take_children(
     let mut k: usize = 0;
     while c < n {
         match take_child(s, settings, rows, attrs, n, row.key, c, room, k) {
-            Counted::Count(more) => {
+            Tally::Count(more) => {
                 k = more;
                 c = child_from(
                     s,
@@ -148,10 +148,10 @@ fn take_children(
                     sibling_row(s, e, rows, attrs, n, c),
                 );
             }
-            Counted::Refused(why) => return Counted::Refused(why),
+            Tally::Refused(why) => return Tally::Refused(why),
         }
     }
-    Counted::Count(k)
+    Tally::Count(k)
 }
 
 // All children: 9 where the walk never ends.
@@ -163,11 +163,11 @@ fn union_members(
     n: usize,
     i: usize,
     room: &mut [u64],
-) -> Counted
+) -> Tally
     requires { ⌜ Asked (now rows) n i ⌝ }
     ensures { λ r. ⌜
         MembersStored (rowMembers settings (lentRows (settings .endian) (now (s .entry)) (now (rows .entry)) (now (attrs .entry)) n) i)
-        (saidCounted r) (now (room .entry))
+        (saidTally r) (now (room .entry))
         (now (room .exit))
         ⌝ }
 {
@@ -175,7 +175,7 @@ fn union_members(
     let row = row_at(rows, i);
     match count_children(s, e, rows, attrs, n, i) {
         Gathered::Count(_) => take_children(s, settings, rows, attrs, n, i, room),
-        Gathered::Endless => Counted::Refused(refused(Reason::Link, row.key)),
+        Gathered::Endless => Tally::Refused(refused(Reason::Link, row.key)),
     }
 }
 
@@ -212,12 +212,12 @@ fn read_union(
 {
     match head_fault(s, settings, rows, attrs, i, Record::Union) {
         Fault::Clear => match union_members(s, settings, rows, attrs, n, i, room) {
-            Counted::Count(members) => {
+            Tally::Count(members) => {
                 let e = settings.endian;
                 let run = run_of(e, rows, i);
                 union_sized(s, attrs, run, members)
             }
-            Counted::Refused(why) => UnionWhole::Refused(why),
+            Tally::Refused(why) => UnionWhole::Refused(why),
         },
         Fault::Refused(why) => UnionWhole::Refused(why),
     }

@@ -4,7 +4,7 @@ use crate::kept::kept_sibling;
 use crate::noted::noted_at;
 use crate::sized::Sized;
 use attributes::decode::block2;
-use blocks::subscripts::Counted;
+use blocks::subscripts::ArrayRead;
 use blocks::subscripts::count_subscripts;
 use blocks::types::Type;
 use format::attribute_kind::BYTE_SIZE;
@@ -122,14 +122,14 @@ fn prepare_array(s: &[u8], attrs: &[u32], run: Run) -> Prepared
         let attribute = attribute_at(attrs, k);
         if attribute.number == SUBSCR_DATA {
             match count_subscripts(subscript_block(s, attrs, run, k), e) {
-                Counted::Are {
+                ArrayRead::Are {
                     element,
                     dimensions: _,
                 } => {
                     last = Prepared::Element { of: element, at: k };
                     j += 1;
                 }
-                Counted::Refused(why) => return Prepared::Refused(placed(why, run.key)),
+                ArrayRead::Refused(why) => return Prepared::Refused(placed(why, run.key)),
             }
         } else {
             j += 1;

@@ -9,7 +9,7 @@ use Rattle.blocks.specs.Location.{saidLocated, VariablePlace, inRegister
 use Rattle.blocks.specs.Modifiers.{saidModifiers}
 use Rattle.blocks.specs.Types.{saidTyped}
 use Rattle.blocks.specs.Subscript.{Part, dimension, element, saidSubscript}
-use Rattle.blocks.specs.Subscripts.{Array, saidCounted, saidSubscripts}
+use Rattle.blocks.specs.Subscripts.{Array, saidArrayRead, saidSubscripts}
 use Rattle.blocks.specs.declared.location.Located.{Located}
 use Rattle.blocks.specs.declared.location.Located.the-variants as located
 use Rattle.blocks.specs.declared.location.VariableLocation.{VariableLocation}
@@ -21,8 +21,8 @@ use Rattle.blocks.specs.declared.types.Typed.{Typed}
 use Rattle.blocks.specs.declared.types.Typed.the-variants as typed
 use Rattle.blocks.specs.declared.subscript.Subscript.{Subscript}
 use Rattle.blocks.specs.declared.subscript.Subscript.the-variants as subscript
-use Rattle.blocks.specs.declared.subscripts.Counted.{Counted}
-use Rattle.blocks.specs.declared.subscripts.Counted.the-variants as counted
+use Rattle.blocks.specs.declared.subscripts.ArrayRead.{ArrayRead}
+use Rattle.blocks.specs.declared.subscripts.ArrayRead.the-variants as counted
 use Rattle.blocks.specs.declared.subscripts.Subscripts.{Subscripts}
 use Rattle.blocks.specs.declared.subscripts.Subscripts.the-variants as subscripts
 
@@ -104,17 +104,17 @@ subscript-back = record { back = asSubscript; same = subscript-same }
 
 -- ---- a block of subscripts
 
-abbrev asCounted : Said Array → Counted
-asCounted (gives a) = counted.Are (a .element) (a .dimensions)
-asCounted (refuses number place counts) = counted.Refused (refusalOf number place)
+abbrev asArrayRead : Said Array → ArrayRead
+asArrayRead (gives a) = counted.Are (a .element) (a .dimensions)
+asArrayRead (refuses number place counts) = counted.Refused (refusalOf number place)
 
-counted-same : (r : Counted) → asCounted (saidCounted r) ≡ r
-unfolding saidCounted
-counted-same (counted.Are t n) = refl
-counted-same (counted.Refused why) = ap counted.Refused (refusal-same why)
+array-read-same : (r : ArrayRead) → asArrayRead (saidArrayRead r) ≡ r
+unfolding saidArrayRead
+array-read-same (counted.Are t n) = refl
+array-read-same (counted.Refused why) = ap counted.Refused (refusal-same why)
 
-pub counted-back : Back saidCounted
-counted-back = record { back = asCounted; same = counted-same }
+pub array-read-back : Back saidArrayRead
+array-read-back = record { back = asArrayRead; same = array-read-same }
 
 -- 8 alone has a count
 abbrev asSubscripts : Said Array → Subscripts

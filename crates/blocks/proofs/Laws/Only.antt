@@ -3,7 +3,7 @@
 use denote.Ref.{now}
 use Rattle.lent.specs.OneAnswer.{One, OneAnswer, OneRoom}
 use Rattle.format.proofs.Laws.Said.{one-answer}
-use Rattle.blocks.proofs.Laws.Back.{located-back, variable-location-back, modifiers-back, typed-back, subscript-back, counted-back, subscripts-back}
+use Rattle.blocks.proofs.Laws.Back.{located-back, variable-location-back, modifiers-back, typed-back, subscript-back, array-read-back, subscripts-back}
 use Rattle.blocks.proofs.location as location
 use Rattle.blocks.proofs.modifiers as modifiers
 use Rattle.blocks.proofs.types as types
@@ -41,7 +41,7 @@ only-next-subscript κs a z z′ e e′ p q = one-answer subscript-back p q
 
 -- `subscripts::count_subscripts`
 pub only-count-subscripts : OneAnswer subscripts.count_subscripts.Kinds.ps subscripts.count_subscripts.Kinds.r subscripts.count_subscripts.Reads.Post
-only-count-subscripts κs a z z′ e e′ p q = one-answer counted-back p q
+only-count-subscripts κs a z z′ e e′ p q = one-answer array-read-back p q
 
 -- `subscripts::process_array_subscript_data`
 pub only-process-array-subscript-data : OneAnswer subscripts.process_array_subscript_data.Kinds.ps subscripts.process_array_subscript_data.Kinds.r subscripts.process_array_subscript_data.Reads.Post

@@ -18,15 +18,15 @@ use Rattle.format.specs.Said.{Said, gives, refuses, refusal, _>>=_, inRoom, fil
 use Rattle.format.proofs.Laws.Said.{case-said, given-is, given-refused, fills, wants}
 use Rattle.blocks.specs.Subscript.{Part, saidSubscript, nextSubscript, UsesInside}
 use Rattle.blocks.proofs.Laws.Subscript.{used-inside, element-modifiers}
-use Rattle.blocks.specs.Subscripts.{Array, saidCounted, saidSubscripts, dimensionWords, Dimensions, elementOr, atEnd, before, raised, step, subscriptsFrom, wholeBlock, countSubscripts, processArraySubscriptData}
+use Rattle.blocks.specs.Subscripts.{Array, saidArrayRead, saidSubscripts, dimensionWords, Dimensions, elementOr, atEnd, before, raised, step, subscriptsFrom, wholeBlock, countSubscripts, processArraySubscriptData}
 use Rattle.blocks.specs.Inside.Subscripts.{Stored, Walked}
 use Rattle.blocks.specs.declared.types.Type.{«Type»}
 use Rattle.blocks.specs.declared.subscript.Subscript.{Subscript}
 use Rattle.blocks.specs.declared.subscript.Subscript.the-variants as subscript
 use Rattle.blocks.specs.declared.subscripts.Element.{Element}
 use Rattle.blocks.specs.declared.subscripts.Element.the-variants as sofar
-use Rattle.blocks.specs.declared.subscripts.Counted.{Counted}
-use Rattle.blocks.specs.declared.subscripts.Counted.the-variants as counted
+use Rattle.blocks.specs.declared.subscripts.ArrayRead.{ArrayRead}
+use Rattle.blocks.specs.declared.subscripts.ArrayRead.the-variants as counted
 use Rattle.blocks.specs.declared.subscripts.Subscripts.the-variants as subscripts
 
 -- ---- a dimension's words
@@ -126,8 +126,8 @@ module _ {e : Endian} {block room₀ rest : List ℕ} {n : ℕ} {el : Element} {
   place = length block - length rest
 
   -- the rest decides
-  walked : {d : Said Dimensions} {r : Counted} → subscriptsFrom e (l .turns) el n place rest ≡ d
-      → saidCounted r ≡ (before (l .done) d >>= (λ d′. gives (d′ .array))) → Stored (before (l .done) d) room₀ room → Walked e block r room₀ room
+  walked : {d : Said Dimensions} {r : ArrayRead} → subscriptsFrom e (l .turns) el n place rest ≡ d
+      → saidArrayRead r ≡ (before (l .done) d >>= (λ d′. gives (d′ .array))) → Stored (before (l .done) d) room₀ room → Walked e block r room₀ room
   unfolding countSubscripts
   walked {d} p answer left =
       let all : before (l .done) d ≡ wholeBlock e block = ap (before (l .done)) (sym p) ∙ sym (l .whole) in
@@ -136,7 +136,7 @@ module _ {e : Endian} {block room₀ rest : List ℕ} {n : ℕ} {el : Element} {
         room-is = subst (λ (w : Said Dimensions). Stored w room₀ room) all left;
       }
 
-  pub walk-done : {r : Counted} → length rest ≤ 0 → saidCounted r ≡ elementOr n el → Walked e block r room₀ room
+  pub walk-done : {r : ArrayRead} → length rest ≤ 0 → saidArrayRead r ≡ elementOr n el → Walked e block r room₀ room
   walk-done h p =
       walked (at-end e el n place rest (l .turns) (omega arith)) (p ∙ counted-end (l .done) el n) (stored-end (l .done) el n room₀ (l .stored))
 
@@ -246,7 +246,7 @@ module _ {e : Endian} {block room₀ rest : List ℕ} {n : ℕ} {el : Element} {
         })
 
     pub walk-refused : {why : Refusal} → told ≡ subscript.Refused why → Walked e block (counted.Refused why) room₀ room
-    unfolding saidSubscript saidCounted before _>>=_
+    unfolding saidSubscript saidArrayRead before _>>=_
     walk-refused {why} p =
         let turn : subscriptsFrom e (l .turns) el n place rest ≡ refusal why = turned p in
         walked {r = counted.Refused why} turn refl tt
@@ -275,20 +275,20 @@ module _ (room : List ℕ) where
   refused-in why (gives d) p = absurd (given-refused (sym p))
   refused-in why (refuses number place counts) p = record { answer-is = p; room-is = refl }
 
-module _ (e : Endian) (block room : List ℕ) {told : Counted} (is : saidCounted told ≡ countSubscripts e block) where
-  pub all-read : {t : «Type»} {n : ℕ} {r : Counted} {room′ : List ℕ} → told ≡ counted.Are t n → n ≤ length room / 2 → Walked e block r room room′
+module _ (e : Endian) (block room : List ℕ) {told : ArrayRead} (is : saidArrayRead told ≡ countSubscripts e block) where
+  pub all-read : {t : «Type»} {n : ℕ} {r : ArrayRead} {room′ : List ℕ} → told ≡ counted.Are t n → n ≤ length room / 2 → Walked e block r room room′
       → Given (processArraySubscriptData e block room) (saidSubscripts (subscripts.Read t n)) room′
-  unfolding processArraySubscriptData countSubscripts saidCounted saidSubscripts
+  unfolding processArraySubscriptData countSubscripts saidArrayRead saidSubscripts
   all-read {n = n} {room′ = room′} p h w =
-      array-in room (wholeBlock e block) (case-said saidCounted is p)
+      array-in room (wholeBlock e block) (case-said saidArrayRead is p)
       (λ words q. fills _ _ words room (le-leb n (length room / 2) h) refl (subst (λ (d : Said Dimensions). Stored d room room′) q (w .room-is)))
 
   pub no-room : {t : «Type»} {n : ℕ} → told ≡ counted.Are t n → length room / 2 < n
       → Given (processArraySubscriptData e block room) (saidSubscripts (subscripts.Room n)) room
-  unfolding processArraySubscriptData countSubscripts saidCounted saidSubscripts
+  unfolding processArraySubscriptData countSubscripts saidArrayRead saidSubscripts
   no-room {n = n} p h =
-      array-in room (wholeBlock e block) (case-said saidCounted is p) (λ words q. wants _ _ words room (lt-leb n (length room / 2) h) refl refl)
+      array-in room (wholeBlock e block) (case-said saidArrayRead is p) (λ words q. wants _ _ words room (lt-leb n (length room / 2) h) refl refl)
 
   pub read-refused : {why : Refusal} → told ≡ counted.Refused why → Given (processArraySubscriptData e block room) (saidSubscripts (subscripts.Refused why)) room
-  unfolding processArraySubscriptData countSubscripts saidCounted saidSubscripts
-  read-refused {why} p = refused-in room why (wholeBlock e block) (case-said saidCounted is p)
+  unfolding processArraySubscriptData countSubscripts saidArrayRead saidSubscripts
+  read-refused {why} p = refused-in room why (wholeBlock e block) (case-said saidArrayRead is p)

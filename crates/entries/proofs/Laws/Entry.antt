@@ -19,12 +19,12 @@ use Rattle.format.specs.declared.refusal.Reason.the-variants as reason
 use Rattle.tables.specs.Row.{rowWords, rowsWords, attrsWords, putRow}
 use Rattle.tables.specs.declared.row.Attr.{Attr}
 use Rattle.entries.specs.Head.{headAt}
-use Rattle.entries.specs.Run.{Run, ran}
+use Rattle.entries.specs.Run.{AttrsRead, ran}
 use Rattle.entries.specs.Entry.{Entry, flip, littleFlag, flagOf, flagsOf, attributes, rootEndian, entryFrom, readEntry}
 use Rattle.entries.specs.Inside.Promise.{kindOf, ordinary, rooted, HeadBounds, HeadRead, RunRead, RunStored, RunStores, saidRun, runAnswer, farthest, Ready, advanced, NullRead, BodyReady, saidBody, bodyAnswer, BodyStores, BodyRead, saidLook, saidEntry, entryAnswer, EntryStores, EntryRead}
 use Rattle.entries.specs.declared.head.Head.{Head}
 use Rattle.entries.specs.declared.head.Head.the-variants as head
-use Rattle.entries.specs.declared.run.Run.the-variants as run
+use Rattle.entries.specs.declared.run.AttrsRead.the-variants as run
 use Rattle.entries.specs.declared.entry.State.{State}
 use Rattle.entries.specs.declared.entry.Shape.{Shape}
 use Rattle.entries.specs.declared.entry.Body.the-variants as body
@@ -46,7 +46,7 @@ little-small Little = omega arith
 -- ---- the attributes, then the row
 
 -- a run that was read told what it is
-told-ran : (what : Said Run) (attrs : ℕ) {r : run.the-data} {place n : ℕ} {high : Bool} → ((key : ℕ) → saidRun key r ≡ runAnswer attrs (placed key what))
+told-ran : (what : Said AttrsRead) (attrs : ℕ) {r : run.the-data} {place n : ℕ} {high : Bool} → ((key : ℕ) → saidRun key r ≡ runAnswer attrs (placed key what))
     → r ≡ run.Ran place n high → (xs : List Attr) × (what ≡ gives (ran xs high place)) × (n ≡ attrs + length xs)
 unfolding saidRun placed _>>=_
 told-ran (gives x) attrs {place = place} {n} {high} a t =
@@ -60,7 +60,7 @@ told-ran (refuses number field counts) attrs {place = place} {n} {high} a t =
     absurd (omega arith)
 
 -- and one that was refused is told at any place
-told-failed : (what : Said Run) (attrs : ℕ) {r : run.the-data} {why : Reason} → ((key : ℕ) → saidRun key r ≡ runAnswer attrs (placed key what))
+told-failed : (what : Said AttrsRead) (attrs : ℕ) {r : run.the-data} {why : Reason} → ((key : ℕ) → saidRun key r ≡ runAnswer attrs (placed key what))
     → r ≡ run.Refused why → (key : ℕ) → placed key what ≡ refuse why key
 unfolding saidRun placed _>>=_
 told-failed (gives x) attrs {why = why} a t key =
@@ -71,7 +71,7 @@ told-failed (refuses number field counts) attrs {why = why} a t key =
     let same : _≡_ {A = Said run.the-data} (refuse why key) (refuses number key counts) = case-said (saidRun key) (a key) t in
     cc
 
-module _ (s : List ℕ) (from : State) (ready : BodyReady s from) (shape : Shape) (what : Said Run) {rows₀ rows₁ attrs₀ attrs₁ : List ℕ} where
+module _ (s : List ℕ) (from : State) (ready : BodyReady s from) (shape : Shape) (what : Said AttrsRead) {rows₀ rows₁ attrs₀ attrs₁ : List ℕ} where
   pub body-read : {r : run.the-data} {place n flags kind : ℕ} {high : Bool} → RunRead s (from .at + 6) (from .attrs) what r attrs₀ attrs₁ → r ≡ run.Ran place n high
       → kind ≡ kindOf (shape .root) (shape .kind) high → flags ≡ flagsOf (shape .erased) (shape .root) (shape .endian)
       → rows₁ ≡ putRow rows₀ (from .rows) (record { key = from .at; kind = kind; flags = flags; first = from .attrs; count = n - from .attrs })
@@ -83,7 +83,7 @@ module _ (s : List ℕ) (from : State) (ready : BodyReady s from) (shape : Shape
       let is : placed (from .at) what ≡ gives (ran xs high place) = ap (placed (from .at)) (told .1) in
       let count : n ≡ from .attrs + length xs = told .2 in
       let stored : RunStored s (from .at + 6) (from .attrs) xs place attrs₀ attrs₁ =
-      subst (λ (u : Said Run). RunStores s (from .at + 6) (from .attrs) u attrs₀ attrs₁) (told .1) (q .stores)
+      subst (λ (u : Said AttrsRead). RunStores s (from .at + 6) (from .attrs) u attrs₀ attrs₁) (told .1) (q .stores)
       in
       let same-count : n - from .attrs ≡ length xs = omega arith in
       let put : ℕ → ℕ → ℕ → List ℕ =
@@ -94,9 +94,9 @@ module _ (s : List ℕ) (from : State) (ready : BodyReady s from) (shape : Shape
       let here : place ≤ length s = stored .here in
       let ahead : from .at + 6 ≤ place = stored .forward in
       record {
-        answer = ap (λ (m : ℕ). gives (record { at = place; rows = from .rows + 1; attrs = m })) count ∙ ap (λ (w : Said Run). bodyAnswer from w) (sym is);
+        answer = ap (λ (m : ℕ). gives (record { at = place; rows = from .rows + 1; attrs = m })) count ∙ ap (λ (w : Said AttrsRead). bodyAnswer from w) (sym is);
         stores =
-            subst (λ (u : Said Run). BodyStores s from shape u rows₀ rows₁ attrs₀ attrs₁) (sym is) (
+            subst (λ (u : Said AttrsRead). BodyStores s from shape u rows₀ rows₁ attrs₀ attrs₁) (sym is) (
               record {
                 row-words =
                     w
@@ -119,18 +119,18 @@ module _ (s : List ℕ) (from : State) (ready : BodyReady s from) (shape : Shape
   body-refused q t =
       let is = told-failed what (from .attrs) (q .answer) t (from .at) in
       record {
-        answer = ap (λ (w : Said Run). bodyAnswer from w) (sym is);
-        stores = subst (λ (u : Said Run). BodyStores s from shape u rows₀ rows₁ attrs₀ attrs₁) (sym is) tt;
+        answer = ap (λ (w : Said AttrsRead). bodyAnswer from w) (sym is);
+        stores = subst (λ (u : Said AttrsRead). BodyStores s from shape u rows₀ rows₁ attrs₀ attrs₁) (sym is) tt;
       }
 
 -- a count of attributes fits: it is at most the place
-pub run-few : (s : List ℕ) (at attrs : ℕ) (what : Said Run) {r : run.the-data} {place n : ℕ} {high : Bool} {table₀ table₁ : List ℕ} → length s < 2 ^ 32
+pub run-few : (s : List ℕ) (at attrs : ℕ) (what : Said AttrsRead) {r : run.the-data} {place n : ℕ} {high : Bool} {table₀ table₁ : List ℕ} → length s < 2 ^ 32
     → RunRead s at attrs what r table₀ table₁ → r ≡ run.Ran place n high → (attrs ≤ n) × (n < 2 ^ 32)
 run-few s at attrs what {place = place} {n} {high} {table₀} {table₁} small q t =
     let told = told-ran what attrs (q .answer) t in
     let xs : List Attr = told .0 in
     let count : n ≡ attrs + length xs = told .2 in
-    let stored : RunStored s at attrs xs place table₀ table₁ = subst (λ (u : Said Run). RunStores s at attrs u table₀ table₁) (told .1) (q .stores) in
+    let stored : RunStored s at attrs xs place table₀ table₁ = subst (λ (u : Said AttrsRead). RunStores s at attrs u table₀ table₁) (told .1) (q .stores) in
     (omega arith, omega (arith, stored .few, stored .here))
 
 -- ---- an ordinary entry and an erased root
@@ -142,7 +142,7 @@ abbrev pub rootShape : Endian → ℕ → Shape
 rootShape e end = record { erased = true; root = true; endian = e; kind = tag.Padding; end = end }
 
 module _ (s : List ℕ) (from : State) {rows₀ rows₁ attrs₀ attrs₁ : List ℕ} where
-  pub ordinary-read : (isErased : Bool) (e : Endian) (kind end : ℕ) (what : Said Run) {b : body.the-data} {to : State}
+  pub ordinary-read : (isErased : Bool) (e : Endian) (kind end : ℕ) (what : Said AttrsRead) {b : body.the-data} {to : State}
       → BodyRead s from (ordinaryShape isErased e kind end) what b rows₀ rows₁ attrs₀ attrs₁ → b ≡ body.Read to
       → EntryRead s from (what >>= (λ run. gives (ordinary isErased e (from .at) kind (from .attrs) run))) (entry.Next to) rows₀ rows₁ attrs₀ attrs₁
   unfolding saidBody kindOf saidEntry entryAnswer _>>=_
@@ -155,7 +155,7 @@ module _ (s : List ℕ) (from : State) {rows₀ rows₁ attrs₀ attrs₁ : List
       let z : _≡_ {A = ℕ} 0 1 = cc in
       absurd (omega arith)
 
-  pub rooted-read : (e : Endian) (end : ℕ) (what : Said Run) {b : body.the-data} {to : State} → end ≤ farthest
+  pub rooted-read : (e : Endian) (end : ℕ) (what : Said AttrsRead) {b : body.the-data} {to : State} → end ≤ farthest
       → BodyRead s from (rootShape e end) what b rows₀ rows₁ attrs₀ attrs₁ → b ≡ body.Read to
       → EntryRead s from (what >>= (λ run. gives (rooted e (from .at) end (from .attrs) run))) (entry.Inside to e end) rows₀ rows₁ attrs₀ attrs₁
   unfolding saidBody kindOf saidEntry entryAnswer _>>=_
@@ -169,7 +169,7 @@ module _ (s : List ℕ) (from : State) {rows₀ rows₁ attrs₀ attrs₁ : List
       absurd (omega arith)
 
   -- what refuses the attributes refuses the entry
-  pub body-stops : (shape : Shape) (entryOf : Run → Entry) (what : Said Run) {b : body.the-data} {why : Reason}
+  pub body-stops : (shape : Shape) (entryOf : AttrsRead → Entry) (what : Said AttrsRead) {b : body.the-data} {why : Reason}
       → BodyRead s from shape what b rows₀ rows₁ attrs₀ attrs₁ → b ≡ body.Refused why
       → EntryRead s from (what >>= (λ run. gives (entryOf run))) (entry.Refused why) rows₀ rows₁ attrs₀ attrs₁
   unfolding saidBody saidEntry _>>=_

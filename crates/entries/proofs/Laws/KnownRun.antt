@@ -26,7 +26,7 @@ use Rattle.attributes.specs.declared.read.Attribute.{Attribute}
 use Rattle.attributes.specs.declared.read.Attribute.the-variants.{Read, Short, Unknown}
 use Rattle.tables.proofs.Laws.Held.{AttrKnown}
 use Rattle.tables.specs.declared.row.Attr.{Attr}
-use Rattle.entries.specs.Run.{Run, ran, attr, readOn, runEnds, readRun}
+use Rattle.entries.specs.Run.{AttrsRead, ran, attr, readOn, runEnds, readRun}
 
 -- attributes of which each has a known number and a value that ends inside
 pub data AllKnown (s vendors : List ℕ) (e : Endian) : List Attr → Type 0 where
@@ -40,7 +40,7 @@ AttributeKnown s vendors e at (Short field) = Unit
 AttributeKnown s vendors e at (Unknown field) = Unit
 
 -- so is each that was read one after the other
-abbrev pub RunKnown : List ℕ → List ℕ → Endian → ℕ → Said Run → Type 0
+abbrev pub RunKnown : List ℕ → List ℕ → Endian → ℕ → Said AttrsRead → Type 0
 RunKnown s vendors e at (gives x) = AllKnown s vendors e (x .attrs) × (at ≤ x .stopped)
 RunKnown s vendors e at (refuses number place counts) = Unit
 
@@ -64,13 +64,13 @@ module _ (s vendors : List ℕ) (e : Endian) where
       (λ t. cond-all (AttributeKnown s vendors e at) (known vendors n)
       (λ k. ending-known at n (valueEnd (formOf n) e s (at + 2)) k refl (value-ahead (formOf n) e s (at + 2))) (λ k. tt)) (λ t. tt)
 
-  first-known : {a : Attr} {at next : ℕ} (r : Said Run) → AttrKnown s vendors e a → at ≤ next → RunKnown s vendors e next r
+  first-known : {a : Attr} {at next : ℕ} (r : Said AttrsRead) → AttrKnown s vendors e a → at ≤ next → RunKnown s vendors e next r
       → RunKnown s vendors e at (r >>= (λ later. gives (ran (a ∷ later .attrs) (later .high) (later .stopped))))
   unfolding _>>=_
   first-known (gives later) x forward others = (more-known x (others .0), omega (arith, others .1))
   first-known (refuses number place counts) x forward others = tt
 
-  on-known : (at : ℕ) (x : Attribute) (k : ℕ → ℕ → Said Run) → AttributeKnown s vendors e at x → ((n next : ℕ) → RunKnown s vendors e next (k n next))
+  on-known : (at : ℕ) (x : Attribute) (k : ℕ → ℕ → Said AttrsRead) → AttributeKnown s vendors e at x → ((n next : ℕ) → RunKnown s vendors e next (k n next))
       → RunKnown s vendors e at (readOn x k)
   unfolding readOn
   on-known at (Read n value next) k x others = first-known (k n next) (x .0) (x .1) (others n next)

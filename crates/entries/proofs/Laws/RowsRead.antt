@@ -23,7 +23,7 @@ use Rattle.tables.specs.Row.{endianOf}
 use Rattle.tables.specs.declared.row.Row.{Row}
 use Rattle.tables.specs.declared.row.Attr.{Attr}
 use Rattle.entries.specs.Head.{nullEnd, tagHead, sizeHead, headAt}
-use Rattle.entries.specs.Run.{Run}
+use Rattle.entries.specs.Run.{AttrsRead}
 use Rattle.entries.specs.Entry.{Entry, next, inside, row, flagOf, flagsOf, littleFlag, rootKind, attributes, entryFrom, readEntry}
 use Rattle.entries.specs.Inside.Promise.{ordinary, rooted}
 use Rattle.entries.specs.Walk.{Entries, entries, entriesThen, wholeEntry, entriesFrom, readTags}
@@ -114,7 +114,7 @@ module _ (s vendors : List ℕ) (at a : ℕ) where
       in
       subst (λ (own : List Attr). RowsRead s vendors at a (r ∷ []) own place) (append-nil xs) (more-rows (le-refl at) whole (no-rows forward))
 
-  ordinary-rows : (isErased : Bool) (e : Endian) (kind : ℕ) (r : Said Run) → at + 4 ≤ length s → isOn kind tags ≡ true → RunKnown s vendors e (at + 6) r
+  ordinary-rows : (isErased : Bool) (e : Endian) (kind : ℕ) (r : Said AttrsRead) → at + 4 ≤ length s → isOn kind tags ≡ true → RunKnown s vendors e (at + 6) r
       → EntryRows s vendors at a (r >>= (λ run. gives (ordinary isErased e at kind a run)))
   unfolding _>>=_
   ordinary-rows isErased e kind (gives x) room k known = one-row isErased false e kind (x .attrs) room k (known .0) (omega (arith, known .1))
@@ -126,7 +126,7 @@ module _ (s vendors : List ℕ) (at a : ℕ) where
   root-tag true = refl
   root-tag false = refl
 
-  rooted-rows : (e : Endian) (end : ℕ) (r : Said Run) → at + 4 ≤ length s → RunKnown s vendors e (at + 6) r
+  rooted-rows : (e : Endian) (end : ℕ) (r : Said AttrsRead) → at + 4 ≤ length s → RunKnown s vendors e (at + 6) r
       → EntryRows s vendors at a (r >>= (λ run. gives (rooted e at end a run)))
   unfolding _>>=_
   rooted-rows e end (gives x) room known =

@@ -23,9 +23,9 @@ use Rattle.tables.specs.Row.{attrWidth, attrWords, attrsWords, putAttr}
 use Rattle.tables.proofs.Laws.Row.{attrs-append}
 use Rattle.tables.specs.declared.row.Attr.{Attr}
 use Rattle.format.specs.Settings.{plays}
-use Rattle.entries.specs.Run.{Run, ran, attr, runEnds, readOn, readRun}
+use Rattle.entries.specs.Run.{AttrsRead, ran, attr, runEnds, readOn, readRun}
 use Rattle.entries.specs.Inside.Promise.{RunReady, RunStores, RunRead, saidRun, runAnswer}
-use Rattle.entries.specs.declared.run.Run.the-variants as run
+use Rattle.entries.specs.declared.run.AttrsRead.the-variants as run
 
 -- ---- does the run end here?
 
@@ -45,15 +45,15 @@ module _ (global : ℕ) (s : List ℕ) (e : Endian) (at : ℕ) where
 
 -- ---- attributes read before others
 
-unfoldable pub before : List Attr → Said Run → Said Run
+unfoldable pub before : List Attr → Said AttrsRead → Said AttrsRead
 before xs r = r >>= (λ later. gives (ran (xs ++ later .attrs) (later .high) (later .stopped)))
 
-before-none : (r : Said Run) → before [] r ≡ r
+before-none : (r : Said AttrsRead) → before [] r ≡ r
 unfolding before _>>=_
 before-none (gives later) = refl
 before-none (refuses number place counts) = refl
 
-before-one : (xs : List Attr) (a : Attr) (r : Said Run) → before (xs ++ (a ∷ [])) r ≡ before xs (before (a ∷ []) r)
+before-one : (xs : List Attr) (a : Attr) (r : Said AttrsRead) → before (xs ++ (a ∷ [])) r ≡ before xs (before (a ∷ []) r)
 unfolding before _>>=_
 before-one xs a (gives later) = ap (λ (l : List Attr). gives (ran l (later .high) (later .stopped))) (append-assoc xs (a ∷ []) (later .attrs))
 before-one xs a (refuses number place counts) = refl
@@ -66,7 +66,7 @@ before-last xs high at = ap (λ (l : List Attr). gives (ran l high at)) (append-
 
 module _ (vendors : List ℕ) (global : ℕ) (s : List ℕ) (e : Endian) (root : Bool) (end : ℕ) where
   -- the whole, from `at` on
-  abbrev pub whole : ℕ → Said Run
+  abbrev pub whole : ℕ → Said AttrsRead
   whole at = readRun (source vendors global s) e root end (suc (length s)) false at
 
   -- xs were read and stored, f turns are left at least, and what is left comes to the whole
@@ -171,7 +171,7 @@ module _ (vendors : List ℕ) (global : ℕ) (s : List ℕ) (e : Endian) (root :
         }
 
     -- how the whole comes out, where what is left comes to r
-    comes-to : {r : Said Run} → readRun (source vendors global s) e root end (l .turns) high place ≡ r → before (l .xs) r ≡ whole at
+    comes-to : {r : Said AttrsRead} → readRun (source vendors global s) e root end (l .turns) high place ≡ r → before (l .xs) r ≡ whole at
     comes-to p = ap (before (l .xs)) (sym p) ∙ l .rest
 
     stopped : readRun (source vendors global s) e root end (l .turns) high place ≡ gives (ran [] high place) → RunRead s at attrs (whole at) (run.Ran place n high) table₀ table
@@ -179,9 +179,9 @@ module _ (vendors : List ℕ) (global : ℕ) (s : List ℕ) (e : Endian) (root :
     stopped p =
         let all : gives (ran (l .xs) high place) ≡ whole at = sym (before-last (l .xs) high place) ∙ comes-to p in
         record {
-          answer = λ key. ap (λ (k : ℕ). gives (run.Ran place k high)) (l .count) ∙ ap (λ (w : Said Run). runAnswer attrs (placed key w)) all;
+          answer = λ key. ap (λ (k : ℕ). gives (run.Ran place k high)) (l .count) ∙ ap (λ (w : Said AttrsRead). runAnswer attrs (placed key w)) all;
           stores =
-              subst (λ (r : Said Run). RunStores s at attrs r table₀ table) all
+              subst (λ (r : Said AttrsRead). RunStores s at attrs r table₀ table) all
               (record { words = l .words; few = omega (arith, l .count, l .few); forward = l .forward; here = l .here });
         }
 
@@ -198,8 +198,8 @@ module _ (vendors : List ℕ) (global : ℕ) (s : List ℕ) (e : Endian) (root :
     refused why field p =
         let all : refuse why field ≡ whole at = comes-to p in
         record {
-          answer = λ key. ap (λ (w : Said Run). runAnswer attrs (placed key w)) all;
-          stores = subst (λ (r : Said Run). RunStores s at attrs r table₀ table) all tt;
+          answer = λ key. ap (λ (w : Said AttrsRead). runAnswer attrs (placed key w)) all;
+          stores = subst (λ (r : Said AttrsRead). RunStores s at attrs r table₀ table) all tt;
         }
 
     pub short : {field : ℕ} → place < end → runEnds global s e high place ≡ false → readAttribute vendors e s place ≡ Short field

@@ -26,7 +26,7 @@ use Rattle.tables.specs.declared.row.Row.{Row}
 use Rattle.tables.specs.declared.row.Attr.{Attr}
 use Rattle.tables.specs.declared.row.Counts.{Counts}
 use Rattle.entries.specs.Head.{tagHead, sizeHead, headAt}
-use Rattle.entries.specs.Run.{Run}
+use Rattle.entries.specs.Run.{AttrsRead}
 use Rattle.entries.specs.Entry.{Entry, next, inside, flagOf, flagsOf, littleFlag, attributes, entryFrom, readEntry}
 use Rattle.entries.specs.Inside.Promise.{ordinary}
 use Rattle.entries.specs.Walk.{Entries, entriesThen, wholeEntry, entriesFrom, readTags}
@@ -79,7 +79,7 @@ EntryPlain (gives (next rs xs place)) = Plain rs
 EntryPlain (gives (inside r xs place e end)) = ⊥
 EntryPlain (refuses number place counts) = Unit
 
-ordinary-plain : (e : Endian) (at kind a : ℕ) (r : Said Run) → EntryPlain (r >>= (λ run. gives (ordinary false e at kind a run)))
+ordinary-plain : (e : Endian) (at kind a : ℕ) (r : Said AttrsRead) → EntryPlain (r >>= (λ run. gives (ordinary false e at kind a run)))
 unfolding _>>=_
 ordinary-plain e at kind a (gives run) = (plain-flags e, tt)
 ordinary-plain e at kind a (refuses number place counts) = tt

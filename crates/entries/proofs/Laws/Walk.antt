@@ -20,7 +20,7 @@ use Rattle.tables.proofs.Laws.Row.{rows-append, attrs-append}
 use Rattle.tables.specs.declared.row.Row.{Row}
 use Rattle.tables.specs.declared.row.Attr.{Attr}
 use Rattle.entries.specs.Head.{headAt}
-use Rattle.entries.specs.Run.{Run}
+use Rattle.entries.specs.Run.{AttrsRead}
 use Rattle.entries.specs.Entry.{Entry, next, inside, attributes, entryFrom, readEntry}
 use Rattle.entries.specs.Walk.{Entries, entries, entriesThen, wholeEntry, entriesFrom, readTags}
 use Rattle.entries.specs.Inside.Promise.{ordinary, farthest, Ready, advanced, Stored, Taken, saidEntry, entryAnswer, EntryStores, EntryRead, saidWalk, walked, WalkStores, WalkRead}
@@ -168,7 +168,7 @@ module _ (vendors : List ℕ) (global : ℕ) (erased : Bool) (s : List ℕ) wher
   unfolding readEntry entryFrom _>>=_
   inside-levels zero isErased e at a q = absurd (never (headAt erased s e at) q)
     where
-      no-run : (kind : ℕ) (r : Said Run) {row : Row} {xs : List Attr} {p : ℕ} {e′ : Endian} {end′ : ℕ}
+      no-run : (kind : ℕ) (r : Said AttrsRead) {row : Row} {xs : List Attr} {p : ℕ} {e′ : Endian} {end′ : ℕ}
           → (r >>= (λ run. gives (ordinary isErased e at kind a run))) ≡ gives (inside row xs p e′ end′) → ⊥
       no-run kind (gives run) t = let z : _≡_ {A = ℕ} 0 1 = cc in omega arith
       no-run kind (refuses number place counts) t = let z : _≡_ {A = ℕ} 0 1 = cc in omega arith

@@ -23,7 +23,7 @@ use Rattle.format.proofs.Laws.Said.{step-gave, given-is, given-refused}
 use Rattle.attributes.specs.Read.{ending, numbered, readAttribute}
 use Rattle.attributes.specs.declared.read.Attribute.the-variants.{Read, Unknown}
 use Rattle.entries.specs.Source.{Source, source}
-use Rattle.entries.specs.Run.{Run, readOn, runEnds, readRun}
+use Rattle.entries.specs.Run.{AttrsRead, readOn, runEnds, readRun}
 use Rattle.entries.specs.Standard.{taken}
 use Rattle.entries.proofs.Laws.KnownRun.{by-test}
 use Rattle.entries.proofs.Laws.StandardAgrees.{on-listed, taken-agrees, form-agrees, ends-told}
@@ -73,12 +73,12 @@ unfolding readRun readOn runEnds
 run-refused r e end f {at} h p = rw (lt-ltb at end h, p, readRun)
 
 module _ (vendors : List ℕ) (global : ℕ) (e : Endian) (s : List ℕ) (small : Bytes s) (end : ℕ) (fits : end ≤ length s) where
-  pub run-found : {at : ℕ} → Attributes e s end at → (f : ℕ) {x : Run} → length s < at + f
+  pub run-found : {at : ℕ} → Attributes e s end at → (f : ℕ) {x : AttrsRead} → length s < at + f
       → readRun (source vendors global s) e false end f false at ≡ gives x → RunFound (taken vendors) e s at end × (x .stopped ≡ end)
   unfolding writtenAttributes
   run-found exact.none f h read =
       let x = given-is (sym (run-stops (source vendors global s) e end f (le-refl end)) ∙ read) in
-      (record { found = []; stands = none-stands fits; ends = omega arith }, ap (λ (run : Run). run .stopped) (sym x))
+      (record { found = []; stands = none-stands fits; ends = omega arith }, ap (λ (run : AttrsRead). run .stopped) (sym x))
   run-found (exact.more at next form before p v rest) zero h read = absurd (omega arith)
   run-found (exact.more at next form before p v rest) (suc f) h read =
       let n : ℕ = valueOf e 2 s at in
@@ -89,5 +89,5 @@ module _ (vendors : List ℕ) (global : ℕ) (e : Endian) (s : List ℕ) (small 
       let later = step-gave (readRun (source vendors global s) e false end f false next) _ (sym (run-step (source vendors global s) e end f before (known-read vendors e s at p v (omega arith) k)) ∙ read) in
       let others = run-found rest f (omega arith) (later .1) in
       let first = attribute-found small (on-listed (taken vendors) (taken-agrees vendors n ∙ k)) p v (omega arith) in
-      (first-found first (others .0), ap (λ (run : Run). run .stopped) (sym (given-is (later .2))) ∙ others .1))
+      (first-found first (others .0), ap (λ (run : AttrsRead). run .stopped) (sym (given-is (later .2))) ∙ others .1))
       (λ k. absurd (given-refused (sym read ∙ run-refused (source vendors global s) e end f before (unknown-read vendors e s at p v (omega arith) k))))

@@ -14,10 +14,10 @@ use Rattle.format.specs.declared.refusal.Reason.the-variants as reason
 use Rattle.tables.specs.Row.{rowWidth, attrWidth, rowsWords, attrsWords}
 use Rattle.tables.specs.declared.row.Row.{Row}
 use Rattle.tables.specs.declared.row.Attr.{Attr}
-use Rattle.entries.specs.Run.{Run}
+use Rattle.entries.specs.Run.{AttrsRead}
 use Rattle.entries.specs.Entry.{Entry, next, inside, row, rootKind}
 use Rattle.entries.specs.Walk.{Entries}
-use Rattle.entries.specs.declared.run.Run as run
+use Rattle.entries.specs.declared.run.AttrsRead as run
 use Rattle.entries.specs.declared.entry.State.{State}
 use Rattle.entries.specs.declared.entry.Shape.{Shape}
 use Rattle.entries.specs.declared.entry.Body.{Body}
@@ -53,12 +53,12 @@ pub record RunReady (s : List ℕ) (at attrs : ℕ) : Type 0 where
   pub few : attrs ≤ at
 
 -- what the code says, a refusal told at a place
-unfoldable pub saidRun : ℕ → run.Run → Said run.Run
+unfoldable pub saidRun : ℕ → run.AttrsRead → Said run.AttrsRead
 saidRun key (run.the-variants.Ran place n high) = gives (run.the-variants.Ran place n high)
 saidRun key (run.the-variants.Refused why) = refuse why key
 
 -- its answer: place and count go on, `attrs` being the count before
-abbrev pub runAnswer : ℕ → Said Run → Said run.Run
+abbrev pub runAnswer : ℕ → Said AttrsRead → Said run.AttrsRead
 runAnswer attrs what = what >>= (λ x. gives (run.the-variants.Ran (x .stopped) (attrs + length (x .attrs)) (x .high)))
 
 -- the attributes xs were stored, from number `attrs` on, and reading stopped at `place`
@@ -69,12 +69,12 @@ pub record RunStored (s : List ℕ) (at attrs : ℕ) (xs : List Attr) (place : �
   pub here : place ≤ length s
 
 -- what is said of the table; of a refusal nothing: it comes while empty tables count
-abbrev pub RunStores : List ℕ → ℕ → ℕ → Said Run → List ℕ → List ℕ → Type 0
+abbrev pub RunStores : List ℕ → ℕ → ℕ → Said AttrsRead → List ℕ → List ℕ → Type 0
 RunStores s at attrs (gives x) table₀ table₁ = RunStored s at attrs (x .attrs) (x .stopped) table₀ table₁
 RunStores s at attrs (refuses number place counts) table₀ table₁ = Unit
 
 -- what reading attributes answers and stores; it does not know the entry's key, at which a refusal is told
-pub record RunRead (s : List ℕ) (at attrs : ℕ) (what : Said Run) (r : run.Run) (table₀ table₁ : List ℕ) : Type 0 where
+pub record RunRead (s : List ℕ) (at attrs : ℕ) (what : Said AttrsRead) (r : run.AttrsRead) (table₀ table₁ : List ℕ) : Type 0 where
   pub answer : (key : ℕ) → saidRun key r ≡ runAnswer attrs (placed key what)
   pub stores : RunStores s at attrs what table₀ table₁
 
@@ -129,11 +129,11 @@ unfoldable pub kindOf : Bool → ℕ → Bool → ℕ
 kindOf root kind high = cond root (rootKind high) kind
 
 -- an ordinary entry
-abbrev pub ordinary : Bool → Endian → ℕ → ℕ → ℕ → Run → Entry
+abbrev pub ordinary : Bool → Endian → ℕ → ℕ → ℕ → AttrsRead → Entry
 ordinary isErased e at kind a run = next (row isErased false e at kind a (run .attrs) ∷ []) (run .attrs) (run .stopped)
 
 -- an erased root that ends at `end`
-abbrev pub rooted : Endian → ℕ → ℕ → ℕ → Run → Entry
+abbrev pub rooted : Endian → ℕ → ℕ → ℕ → AttrsRead → Entry
 rooted e at end a run = inside (row true true e at (rootKind (run .high)) a (run .attrs)) (run .attrs) (run .stopped) e end
 
 -- an entry's attributes, then its row
@@ -147,11 +147,11 @@ saidBody key (body.Read state) = gives state
 saidBody key (body.Refused why) = refuse why key
 
 -- its answer: one row more, and the attributes
-abbrev pub bodyAnswer : State → Said Run → Said State
+abbrev pub bodyAnswer : State → Said AttrsRead → Said State
 bodyAnswer from what = what >>= (λ x. gives (advanced from 1 (length (x .attrs)) (x .stopped)))
 
 -- what is said of the tables
-abbrev pub BodyStores : List ℕ → State → Shape → Said Run → List ℕ → List ℕ → List ℕ → List ℕ → Type 0
+abbrev pub BodyStores : List ℕ → State → Shape → Said AttrsRead → List ℕ → List ℕ → List ℕ → List ℕ → Type 0
 BodyStores s from shape (gives x) rows₀ rows₁ attrs₀ attrs₁ =
     Stored from (row (shape .erased) (shape .root) (shape .endian) (from .at) (kindOf (shape .root) (shape .kind) (x .high)) (from .attrs) (x .attrs) ∷ [])
     (x .attrs) (x .stopped) rows₀ rows₁ attrs₀ attrs₁
@@ -159,7 +159,7 @@ BodyStores s from shape (gives x) rows₀ rows₁ attrs₀ attrs₁ =
 BodyStores s from shape (refuses number place counts) rows₀ rows₁ attrs₀ attrs₁ = Unit
 
 -- what reading a body answers and stores
-pub record BodyRead (s : List ℕ) (from : State) (shape : Shape) (what : Said Run) (r : Body) (rows₀ rows₁ attrs₀ attrs₁ : List ℕ) : Type 0 where
+pub record BodyRead (s : List ℕ) (from : State) (shape : Shape) (what : Said AttrsRead) (r : Body) (rows₀ rows₁ attrs₀ attrs₁ : List ℕ) : Type 0 where
   pub answer : saidBody (from .at) r ≡ bodyAnswer from what
   pub stores : BodyStores s from shape what rows₀ rows₁ attrs₀ attrs₁
 

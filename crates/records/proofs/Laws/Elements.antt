@@ -30,11 +30,11 @@ use Rattle.lent.proofs.Laws.Stores.{sets-append, sets-out}
 use Rattle.records.proofs.Laws.Fields.{by-told}
 use Rattle.records.specs.Elements.{listWidth, valueAt, namedFrom, nameFrom, valued, elementAt, Listed, elementThen, elementsFrom, elementsIn, valuesOf, namesOf}
 use Rattle.records.specs.Inside.Elements.{slotOf, valueWords, nameWords, listedAs, ElementsStored, storeAll, storeValues, storeNames, elementsBefore, countFrom, StoredFrom}
-use Rattle.records.specs.Inside.Counted.{saidCounted}
+use Rattle.records.specs.Inside.Tally.{saidTally}
 use Rattle.records.specs.Enumeration.{reversed}
 use Rattle.records.specs.declared.fields.Word.{Word}
 use Rattle.records.specs.declared.fields.Word.the-variants as word
-use Rattle.records.specs.declared.counted.Counted.the-variants as counted
+use Rattle.records.specs.declared.tally.Tally.the-variants as counted
 use Rattle.records.specs.declared.elements.Element.{Element}
 use Rattle.records.specs.declared.elements.Element.the-variants as element
 use Rattle.records.specs.declared.elements.Slots.{Slots}
@@ -380,7 +380,7 @@ module _ (width : ℕ) (e : Endian) (base : ℕ) (block : List ℕ) where
       loop-names = ap length (w .names-are) ∙ store-length nameWords 2 slots k (w .xs) names₀
 
       pub loop-done : (key : ℕ) → length block ≤ at → StoredFrom (placed key (elementsIn width e base block)) slots k (counted.Count count) values₀ values names₀ names
-      unfolding saidCounted countFrom elementsBefore placed _>>=_
+      unfolding saidTally countFrom elementsBefore placed _>>=_
       loop-done key h =
           let all : elementsIn width e base block ≡ gives (w .xs) =
           sym (w .rest) ∙ ap (elementsBefore (w .xs)) (from-end (w .turns) at h) ∙ ap gives (append-nil (w .xs))
@@ -404,7 +404,7 @@ module _ (width : ℕ) (e : Endian) (base : ℕ) (block : List ℕ) where
 
         pub loop-missing : (key : ℕ) → told ≡ element.Missing → {why : Refusal} → why ≡ refusedAt key reason.Block
             → StoredFrom (placed key (elementsIn width e base block)) slots k (counted.Refused why) values₀ values names₀ names
-        unfolding saidCounted countFrom elementsBefore elementThen placed _>>=_
+        unfolding saidTally countFrom elementsBefore elementThen placed _>>=_
         loop-missing key p q =
             let all : refuse reason.Block 0 ≡ elementsIn width e base block =
             ap (λ (x : Element). elementsBefore (w .xs) (elementThen base (λ n. from (w .turns - 1) n) x)) (sym p) ∙ turn

@@ -44,7 +44,7 @@ use Rattle.records.specs.Front.{kindFault, childlessFault}
 use Rattle.records.proofs.Laws.Record.{fields-said}
 use Rattle.records.specs.Elements.{Listed, listWidth, elementsIn, valuesOf, namesOf}
 use Rattle.records.specs.Inside.Elements.{valueWords, nameWords, storeAll, Addable, elementsBefore, countFrom, storeValues, storeNames, StoredFrom}
-use Rattle.records.specs.Inside.Counted.{saidCounted}
+use Rattle.records.specs.Inside.Tally.{saidTally}
 use Rattle.records.proofs.Laws.Elements.{width-few, before-none, before-before, placed-given, elements-few, store-append, store-length, values-forwards, names-forwards, values-backwards, names-backwards}
 use Rattle.records.specs.Enumeration.{saidEnumerationRead, sizeBefore, listAt, listsFrom, enumerationSized, rowLists, enumerationAt, isGcc, reversed, inOrder, enumerationInto}
 use Rattle.records.specs.Inside.Enumeration.{saidEnumerationWhole, Countable, Stepping, AskedShort, oneList, restFrom, Advanced, Steps, enumerationEnd, EnumerationStored}
@@ -58,8 +58,8 @@ use Rattle.records.specs.declared.scan.Scan.the-variants as scan
 use Rattle.records.specs.declared.fields.Sought.the-variants as sought
 use Rattle.records.specs.declared.fields.Name.{Name}
 use Rattle.records.specs.declared.fields.Word.{Word}
-use Rattle.records.specs.declared.counted.Counted.{Counted}
-use Rattle.records.specs.declared.counted.Counted.the-variants as counted
+use Rattle.records.specs.declared.tally.Tally.{Tally}
+use Rattle.records.specs.declared.tally.Tally.the-variants as counted
 use Rattle.records.specs.declared.elements.Slots.{Slots}
 use Rattle.records.specs.declared.enumeration.Enumeration.{Enumeration}
 use Rattle.records.specs.declared.enumeration.EnumerationWhole.{EnumerationWhole}
@@ -106,23 +106,23 @@ counted-refused k (gives xs) p = absurd (given-refused (sym p))
 counted-refused k (refuses number′ place′ counts′) {number} {place} {counts} p =
     let same : _≡_ {A = Said ℕ} (refuses number place counts) (refuses number′ place′ counts′) = p in cc
 
-module _ {lists : Said (List Listed)} {slots : Slots} {k : ℕ} {r : Counted} {values values′ : List ℤ} {names names′ : List ℕ}
+module _ {lists : Said (List Listed)} {slots : Slots} {k : ℕ} {r : Tally} {values values′ : List ℤ} {names names′ : List ℕ}
     (stored : StoredFrom lists slots k r values values′ names names′) where
   told-listed : {more : ℕ} → r ≡ counted.Count more → (xs : List Listed) × (lists ≡ gives xs) × (more ≡ k + length xs)
-  unfolding saidCounted
-  told-listed p = counted-listed k lists (case-said saidCounted (stored .answer-is) p)
+  unfolding saidTally
+  told-listed p = counted-listed k lists (case-said saidTally (stored .answer-is) p)
 
   told-refused : {why : Refusal} → r ≡ counted.Refused why → lists ≡ refusal why
-  unfolding saidCounted
-  told-refused p = counted-refused k lists (case-said saidCounted (stored .answer-is) p)
+  unfolding saidTally
+  told-refused p = counted-refused k lists (case-said saidTally (stored .answer-is) p)
 
-stored-as : {lists lists′ : Said (List Listed)} (slots : Slots) (k : ℕ) (r : Counted) {values values′ : List ℤ} {names names′ : List ℕ} → lists ≡ lists′
+stored-as : {lists lists′ : Said (List Listed)} (slots : Slots) (k : ℕ) (r : Tally) {values values′ : List ℤ} {names names′ : List ℕ} → lists ≡ lists′
     → StoredFrom lists slots k r values values′ names names′ → StoredFrom lists′ slots k r values values′ names names′
 stored-as slots k r {values} {values′} {names} {names′} p = subst (λ (l : Said (List Listed)). StoredFrom l slots k r values values′ names names′) p
 
 stored-refused : {lists : Said (List Listed)} (slots : Slots) (k : ℕ) {why : Refusal} (values values′ : List ℤ) (names names′ : List ℕ) → refusal why ≡ lists
     → StoredFrom lists slots k (counted.Refused why) values values′ names names′
-unfolding saidCounted countFrom _>>=_
+unfolding saidTally countFrom _>>=_
 stored-refused slots k values values′ names names′ p =
     record {
       answer-is = ap (countFrom k) p;
@@ -159,7 +159,7 @@ module _ (settings : Settings) (s attrs : List ℕ) (run : Run) (j : ℕ) {a : A
     unfolding oneList saidFault _>>_
     list-refused slots count values names p = stored-refused slots count values values names names (goes-past saidFault (judged is) p _ refl)
 
-    pub list-clear : (slots : Slots) (count : ℕ) (c : Counted) {lists : Said (List Listed)} {values values′ : List ℤ} {names names′ : List ℕ} → told ≡ fault.Clear
+    pub list-clear : (slots : Slots) (count : ℕ) (c : Tally) {lists : Said (List Listed)} {values values′ : List ℤ} {names names′ : List ℕ} → told ≡ fault.Clear
         → lists ≡ listAt s attrs run j → StoredFrom lists slots count c values values′ names names′
         → StoredFrom (oneList settings s attrs run j) slots count c values values′ names names′
     unfolding oneList saidFault _>>_
@@ -297,7 +297,7 @@ module _ (settings : Settings) (s attrs : List ℕ) (run : Run) where
           let few : count ≤ j * sectionLimit = w .countable .few in
           record { short = w .countable .short; few = omega arith }
 
-      module _ (h : at < run .count) {slots : Slots} {r : Counted} {values values′ : List ℤ} {names names′ : List ℕ}
+      module _ (h : at < run .count) {slots : Slots} {r : Tally} {values values′ : List ℤ} {names names′ : List ℕ}
           (stored : StoredFrom (oneList settings s attrs run at) slots count r values values′ names names′) where
         here : rest j ≡ withRest (oneList settings s attrs run at) (rest (at + 1))
         here = let inside : j < run .count = w .inside in past ∙ rest-own at h (stop .own (omega arith))
@@ -373,7 +373,7 @@ module _ (settings : Settings) (s attrs : List ℕ) (run : Run) where
       lists-stepping short h = record { countable = record { short = short; few = w .few }; inside = h }
 
       pub lists-done : run .count ≤ j → StoredFrom (listsFrom settings s attrs run 0 (run .count)) slots 0 (counted.Count count) values₀ values names₀ names
-      unfolding saidCounted countFrom elementsBefore _>>=_
+      unfolding saidTally countFrom elementsBefore _>>=_
       lists-done h =
           let all : listsFrom settings s attrs run 0 (run .count) ≡ gives (w .xs) =
           sym (w .left) ∙ ap (elementsBefore (w .xs)) (rest-end j h) ∙ ap gives (append-nil (w .xs))
@@ -490,7 +490,7 @@ module _ (settings : Settings) (s rows attrs : List ℕ) (n i : ℕ) where
     unfolding enumerationAt saidFault _>>_
     whole-kind slots values names p = whole-refused slots values values names names (goes-past saidFault is p _ refl)
 
-    module _ (p : told ≡ fault.Clear) {run : Run} (q : run ≡ runOf (settings .endian) rows i) (slots : Slots) {r : Counted}
+    module _ (p : told ≡ fault.Clear) {run : Run} (q : run ≡ runOf (settings .endian) rows i) (slots : Slots) {r : Tally}
         {values values′ : List ℤ} {names names′ : List ℕ}
         (stored : StoredFrom (listsFrom settings s attrs run 0 (run .count)) slots 0 r values values′ names names′) where
       lists-are : listsFrom settings s attrs run 0 (run .count) ≡ lists

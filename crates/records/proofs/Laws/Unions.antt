@@ -42,7 +42,7 @@ use Rattle.records.specs.MemberWords.{memberWidth, memberWords}
 use Rattle.records.proofs.Laws.MemberWords.{words-wide}
 use Rattle.records.specs.Unions.{saidUnionRead, ignored, RowMember, memberThen, childThen, membersFrom, membersBy, rowMembers, unionSized, unionAt, membersWords, unionInto}
 use Rattle.records.specs.Inside.Unions.{saidUnionWhole, TakeAsked, EndsAt, countOf, membersStored, storedOn, TakesMember, MembersStored, UnionStored}
-use Rattle.records.specs.Inside.Counted.{saidCounted}
+use Rattle.records.specs.Inside.Tally.{saidTally}
 use Rattle.records.specs.declared.taken.Record.the-variants as record′
 use Rattle.records.specs.declared.scan.Run.{Run}
 use Rattle.records.specs.declared.scan.Fault.{Fault}
@@ -51,8 +51,8 @@ use Rattle.records.specs.declared.fields.Name.{Name}
 use Rattle.records.specs.declared.member.Member.{Member}
 use Rattle.records.specs.declared.member.MemberRead.{MemberRead}
 use Rattle.records.specs.declared.member.MemberRead.the-variants as read
-use Rattle.records.specs.declared.counted.Counted.{Counted}
-use Rattle.records.specs.declared.counted.Counted.the-variants as counted
+use Rattle.records.specs.declared.tally.Tally.{Tally}
+use Rattle.records.specs.declared.tally.Tally.the-variants as counted
 use Rattle.records.specs.declared.unions.Union.{Union}
 use Rattle.records.specs.declared.unions.UnionWhole.{UnionWhole}
 use Rattle.records.specs.declared.unions.UnionWhole.the-variants as whole
@@ -102,8 +102,8 @@ module _ (settings : Settings) (s rows attrs : List ℕ) (n key c k : ℕ) (room
         rw test (ap (λ (d : Said Member). d >>= withMember c rest) (sym (case-said saidMemberRead is p)))
 
     pub take-member : {m : Member} {room′ : List ℕ} → told ≡ read.Is m → room′ ≡ sets room (k * memberWidth) (memberWords c m)
-        → TakesMember settings s rows attrs n key c k (saidCounted (counted.Count (k + 1))) room room′
-    unfolding saidCounted storedOn inRoom saidMemberRead _>>=_
+        → TakesMember settings s rows attrs n key c k (saidTally (counted.Count (k + 1))) room room′
+    unfolding saidTally storedOn inRoom saidMemberRead _>>=_
     take-member {m} p q =
         record {
           turn = λ rest. ap (membersStored k room) (child-read p rest) ∙ stored-more k room c m q rest;
@@ -111,8 +111,8 @@ module _ (settings : Settings) (s rows attrs : List ℕ) (n key c k : ℕ) (room
           same-room = ap length q ∙ length-sets room (k * memberWidth) (memberWords c m);
         }
 
-    pub take-unread : {why : Refusal} → told ≡ read.Refused why → TakesMember settings s rows attrs n key c k (saidCounted (counted.Refused why)) room room
-    unfolding saidCounted membersStored storedOn inRoom saidMemberRead _>>=_
+    pub take-unread : {why : Refusal} → told ≡ read.Refused why → TakesMember settings s rows attrs n key c k (saidTally (counted.Refused why)) room room
+    unfolding saidTally membersStored storedOn inRoom saidMemberRead _>>=_
     take-unread p = record { turn = λ rest. ap (membersStored k room) (child-read p rest); one-more = refused-most; same-room = refl }
 
   module _ (h : row .kind ≡ tag.Member → ⊥) {b : Bool} (is : b ≡ ignored (row .kind)) where
@@ -126,8 +126,8 @@ module _ (settings : Settings) (s rows attrs : List ℕ) (n key c k : ℕ) (room
         let test : eqb (rowAt rows c .kind) tag.Member ≡ false = ne-eqb (rowAt rows c .kind) tag.Member (λ z. h (ap (λ (r : Row). r .kind) at ∙ z)) in
         rw test
 
-    pub take-type : b ≡ true → TakesMember settings s rows attrs n key c k (saidCounted (counted.Count k)) room room
-    unfolding saidCounted storedOn inRoom
+    pub take-type : b ≡ true → TakesMember settings s rows attrs n key c k (saidTally (counted.Count k)) room room
+    unfolding saidTally storedOn inRoom
     take-type t =
         record {
           turn = λ rest. ap (membersStored k room) (child-other rest ∙ sym (test-passed ignored-is _ t refl));
@@ -136,8 +136,8 @@ module _ (settings : Settings) (s rows attrs : List ℕ) (n key c k : ℕ) (room
         }
 
     pub take-other : {why : Refusal} → b ≡ false → why ≡ refusedAt key reason.Child
-        → TakesMember settings s rows attrs n key c k (saidCounted (counted.Refused why)) room room
-    unfolding saidCounted membersStored storedOn inRoom
+        → TakesMember settings s rows attrs n key c k (saidTally (counted.Refused why)) room room
+    unfolding saidTally membersStored storedOn inRoom
     take-other t p =
         record {
           turn = λ rest. ap (membersStored k room) (child-other rest ∙ sym (test-failed ignored-is _ t refl) ∙ ap refusal (sym p));
@@ -184,8 +184,8 @@ module _ {settings : Settings} {s rows attrs : List ℕ} {n key end : ℕ} {all 
   found cs = membersFrom settings (lentRows (settings .endian) s rows attrs n) key cs
 
   -- no child is left
-  pub taking-ends : n ≤ c → MembersStored all (saidCounted (counted.Count k)) room₀ room
-  unfolding saidCounted membersFrom membersStored membersWords inRoom
+  pub taking-ends : n ≤ c → MembersStored all (saidTally (counted.Count k)) room₀ room
+  unfolding saidTally membersFrom membersStored membersWords inRoom
   taking-ends l =
       let done : membersStored k room (gives []) ≡ membersStored 0 room₀ all =
       sym (ap (λ (cs : List ℕ). membersStored k room (found cs)) (children-none (settings .endian) s rows attrs n end (w .on) (w .first) l)) ∙ w .left
@@ -224,13 +224,13 @@ module _ {settings : Settings} {s rows attrs : List ℕ} {n key end : ℕ} {all 
           let some : length (childrenNow c) ≡ suc (length (childrenNow c′)) = ap length rest-is in
           omega arith
 
-      pub taking-on : {told : Counted} {room′ : List ℕ} {more : ℕ} → TakesMember settings s rows attrs n key c k (saidCounted told) room room′ → told ≡ counted.Count more
+      pub taking-on : {told : Tally} {room′ : List ℕ} {more : ℕ} → TakesMember settings s rows attrs n key c k (saidTally told) room room′ → told ≡ counted.Count more
           → Taking settings s rows attrs n key end all room₀ room′ c′ more
-      unfolding saidCounted membersFrom storedOn inRoom
+      unfolding saidTally membersFrom storedOn inRoom
       taking-on {told} {room′} {more} t q =
           let some : length (childrenNow c) ≡ suc (length (childrenNow c′)) = ap length rest-is in
           let most : k + length (childrenNow c) ≤ n = w .counted in
-          let one : more ≤ k + 1 = t .one-more more (ap saidCounted q) in
+          let one : more ≤ k + 1 = t .one-more more (ap saidTally q) in
           record {
             on = ends-same (settings .endian) s rows attrs n end (taking-ending p) is;
             first = first-same (settings .endian) s rows attrs n end (taking-ending p) is;
@@ -238,19 +238,19 @@ module _ {settings : Settings} {s rows attrs : List ℕ} {n key end : ℕ} {all 
             same-room = t .same-room ∙ w .same-room;
             left =
                 sym (t .turn (found (childrenNow c′))
-                ∙ ap (λ (x : Counted). storedOn (saidCounted x) room′ (found (childrenNow c′))) q)
+                ∙ ap (λ (x : Tally). storedOn (saidTally x) room′ (found (childrenNow c′))) q)
                 ∙ ap (λ (cs : List ℕ). membersStored k room (found cs)) (sym rest-is)
                 ∙ w .left;
           }
 
     -- a child is refused
-    pub taking-refused : {told : Counted} {room′ : List ℕ} {why : Refusal} → TakesMember settings s rows attrs n key c k (saidCounted told) room room′ → told ≡ counted.Refused why
-        → MembersStored all (saidCounted (counted.Refused why)) room₀ room′
-    unfolding saidCounted membersFrom membersStored storedOn inRoom
+    pub taking-refused : {told : Tally} {room′ : List ℕ} {why : Refusal} → TakesMember settings s rows attrs n key c k (saidTally told) room room′ → told ≡ counted.Refused why
+        → MembersStored all (saidTally (counted.Refused why)) room₀ room′
+    unfolding saidTally membersFrom membersStored storedOn inRoom
     taking-refused {told} {room′} {why} t q =
         let rest : Said (List RowMember) = found (childrenNow (after c)) in
         let done : storage (refusal why) [] ≡ membersStored 0 room₀ all =
-        sym (t .turn rest ∙ ap (λ (x : Counted). storedOn (saidCounted x) room′ rest) q)
+        sym (t .turn rest ∙ ap (λ (x : Tally). storedOn (saidTally x) room′ rest) q)
         ∙ ap (λ (cs : List ℕ). membersStored k room (found cs)) (sym here) ∙ w .left
         in
         record {
@@ -277,8 +277,8 @@ module _ (settings : Settings) (s rows attrs : List ℕ) (n i : ℕ) {told : Gat
       g
 
   pub members-endless : (room : List ℕ) {row : Row} {why : Refusal} → told ≡ gathered.Endless → row ≡ rowAt rows i → why ≡ refusedAt (row .key) reason.Link
-      → MembersStored (rowMembers settings (lentRows (settings .endian) s rows attrs n) i) (saidCounted (counted.Refused why)) room room
-  unfolding saidCounted rowMembers membersBy countOf _>>=_
+      → MembersStored (rowMembers settings (lentRows (settings .endian) s rows attrs n) i) (saidTally (counted.Refused why)) room room
+  unfolding saidTally rowMembers membersBy countOf _>>=_
   members-endless room {why = why} p at q =
       let none : refusal why ≡ rowMembers settings (lentRows (settings .endian) s rows attrs n) i =
       ap refusal (q ∙ ap (λ (r : Row). refusedAt (r .key) reason.Link) at)
@@ -304,27 +304,27 @@ counted-on (gives ms) next = refl
 counted-on (refuses number place counts) next = refl
 
 module _ (settings : Settings) (s rows attrs : List ℕ) (n i : ℕ) {told : Fault} (is : saidFault told ≡ headOf settings s rows attrs record′.Union i) where
-  module _ (clear : told ≡ fault.Clear) {taken : Counted} {room room′ : List ℕ} (g : MembersStored (rowMembers settings (lentRows (settings .endian) s rows attrs n) i) (saidCounted taken) room room′) where
-    read-counted : {x : Counted} {z : Said Union} → taken ≡ x → z ≡ (saidCounted x >>= unionSized s attrs (runOf (settings .endian) rows i))
+  module _ (clear : told ≡ fault.Clear) {taken : Tally} {room room′ : List ℕ} (g : MembersStored (rowMembers settings (lentRows (settings .endian) s rows attrs n) i) (saidTally taken) room room′) where
+    read-counted : {x : Tally} {z : Said Union} → taken ≡ x → z ≡ (saidTally x >>= unionSized s attrs (runOf (settings .endian) rows i))
         → UnionStored (unionAt settings (lentRows (settings .endian) s rows attrs n) i) (rowMembers settings (lentRows (settings .endian) s rows attrs n) i) z room room′
     unfolding unionAt saidFault _>>_
     read-counted p h =
         record {
           answer-is =
               goes-past saidFault is clear _
-              (goes-on saidCounted (g .answer-is) p (unionSized s attrs (runOf (settings .endian) rows i)) h
+              (goes-on saidTally (g .answer-is) p (unionSized s attrs (runOf (settings .endian) rows i)) h
               ∙ counted-on (rowMembers settings (lentRows (settings .endian) s rows attrs n) i) (unionSized s attrs (runOf (settings .endian) rows i)));
           room-is = λ u e ms f. g .room-is ms f;
         }
 
     pub read-sized : {many : ℕ} {run : Run} {z : Said Union} → taken ≡ counted.Count many → run ≡ runOf (settings .endian) rows i → z ≡ unionSized s attrs run many
         → UnionStored (unionAt settings (lentRows (settings .endian) s rows attrs n) i) (rowMembers settings (lentRows (settings .endian) s rows attrs n) i) z room room′
-    unfolding saidCounted _>>=_
+    unfolding saidTally _>>=_
     read-sized {many} p q h = read-counted p (h ∙ ap (λ (x : Run). unionSized s attrs x many) q)
 
     pub read-refused : {why : Refusal} → taken ≡ counted.Refused why
         → UnionStored (unionAt settings (lentRows (settings .endian) s rows attrs n) i) (rowMembers settings (lentRows (settings .endian) s rows attrs n) i) (saidUnionWhole (whole.Refused why)) room room′
-    unfolding saidUnionWhole saidCounted _>>=_
+    unfolding saidUnionWhole saidTally _>>=_
     read-refused p = read-counted p refl
 
   pub read-faulty : (room : List ℕ) {why : Refusal} → told ≡ fault.Refused why

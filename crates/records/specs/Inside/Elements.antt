@@ -8,8 +8,8 @@ use lib.Seq.{sets}
 use lib.IntN.{ℤ}
 use Rattle.format.specs.Said.{Said, gives, _>>=_}
 use Rattle.records.specs.Elements.{Listed}
-use Rattle.records.specs.Inside.Counted.{saidCounted}
-use Rattle.records.specs.declared.counted.Counted.{Counted}
+use Rattle.records.specs.Inside.Tally.{saidTally}
+use Rattle.records.specs.declared.tally.Tally.{Tally}
 use Rattle.records.specs.declared.elements.Slots.{Slots}
 
 -- ---- an element in its slot
@@ -67,7 +67,7 @@ countFrom k lists = do
   gives (k + length xs)
 
 -- lists from number k on in their slots; of the rooms something is said only where all were read
-pub record StoredFrom (lists : Said (List Listed)) (slots : Slots) (k : ℕ) (r : Counted) (values values′ : List ℤ) (names names′ : List ℕ) : Type 0 where
-  pub answer-is : saidCounted r ≡ countFrom k lists
+pub record StoredFrom (lists : Said (List Listed)) (slots : Slots) (k : ℕ) (r : Tally) (values values′ : List ℤ) (names names′ : List ℕ) : Type 0 where
+  pub answer-is : saidTally r ≡ countFrom k lists
   pub values-are : (xs : List Listed) → lists ≡ gives xs → values′ ≡ storeValues slots k xs values
   pub names-are : (xs : List Listed) → lists ≡ gives xs → names′ ≡ storeNames slots k xs names

@@ -15,10 +15,10 @@ use Rattle.format.specs.declared.settings.Settings.{Settings}
 use Rattle.format.specs.declared.refusal.Refusal.{Refusal}
 use Rattle.format.specs.declared.refusal.Reason.the-variants as reason
 use Rattle.attributes.specs.Parts.{blockAt}
-use Rattle.blocks.specs.Subscripts.{Array, saidCounted, countSubscripts}
+use Rattle.blocks.specs.Subscripts.{Array, saidArrayRead, countSubscripts}
 use Rattle.blocks.specs.declared.types.Type.{«Type»}
-use Rattle.blocks.specs.declared.subscripts.Counted.{Counted}
-use Rattle.blocks.specs.declared.subscripts.Counted.the-variants as counted
+use Rattle.blocks.specs.declared.subscripts.ArrayRead.{ArrayRead}
+use Rattle.blocks.specs.declared.subscripts.ArrayRead.the-variants as counted
 use Rattle.tables.specs.Table.{lentRows}
 use Rattle.tables.specs.Row.{rowAt}
 use Rattle.tables.specs.Inside.Keyed.{refusedAt}
@@ -66,19 +66,19 @@ module _ (s attrs : List ℕ) (run : Run) where
   unfolding subscriptBlock
   block-is k p q = q ∙ ap (λ (x : Attribute). blockAt (run .ends .«data») 2 s (x .value)) p
 
-  module _ (k : ℕ) {block : List ℕ} {told : Counted} (b : block ≡ subscriptBlock s attrs run k)
-      (is : saidCounted told ≡ countSubscripts (run .ends .section) block) {x : Counted} (p : told ≡ x) where
-    counted-at : placed (run .key) (saidCounted x) ≡ subscriptsAt s attrs run k
+  module _ (k : ℕ) {block : List ℕ} {told : ArrayRead} (b : block ≡ subscriptBlock s attrs run k)
+      (is : saidArrayRead told ≡ countSubscripts (run .ends .section) block) {x : ArrayRead} (p : told ≡ x) where
+    counted-at : placed (run .key) (saidArrayRead x) ≡ subscriptsAt s attrs run k
     unfolding subscriptsAt
-    counted-at = ap (placed (run .key)) (case-said saidCounted is p ∙ ap (countSubscripts (run .ends .section)) b)
+    counted-at = ap (placed (run .key)) (case-said saidArrayRead is p ∙ ap (countSubscripts (run .ends .section)) b)
 
-    last-counted : {z : Said Ready} → z ≡ (placed (run .key) (saidCounted x) >>= λ array. gives (elementOf (array .element) k)) → z ≡ preparedLast s attrs run k
+    last-counted : {z : Said Ready} → z ≡ (placed (run .key) (saidArrayRead x) >>= λ array. gives (elementOf (array .element) k)) → z ≡ preparedLast s attrs run k
     unfolding preparedLast
     last-counted h = h ∙ ap (λ (d : Said Array). d >>= λ array. gives (elementOf (array .element) k)) counted-at
 
   module _ (j : ℕ) {a : Attribute} (p : a ≡ attributeAt attrs (run .first + j)) where
-    subscript-read : {block : List ℕ} {told x : Counted} {z : Said Unit} → a .number ≡ attribute.SubscrData → block ≡ subscriptBlock s attrs run (run .first + j)
-        → saidCounted told ≡ countSubscripts (run .ends .section) block → told ≡ x → z ≡ (placed (run .key) (saidCounted x) >> gives tt)
+    subscript-read : {block : List ℕ} {told x : ArrayRead} {z : Said Unit} → a .number ≡ attribute.SubscrData → block ≡ subscriptBlock s attrs run (run .first + j)
+        → saidArrayRead told ≡ countSubscripts (run .ends .section) block → told ≡ x → z ≡ (placed (run .key) (saidArrayRead x) >> gives tt)
         → z ≡ subscriptFault s attrs run j
     unfolding subscriptFault
     subscript-read h b is q g =
@@ -168,10 +168,10 @@ module _ {s attrs : List ℕ} {run : Run} {j : ℕ} {last : Prepared} (w : Prepa
           last-is = w .last-is ∙ ap (lastPrepared s attrs run) (last-with (ne-eqb (a .number) attribute.SubscrData h));
         }
 
-    module _ (h : a .number ≡ attribute.SubscrData) {block : List ℕ} {told : Counted} (b : block ≡ subscriptBlock s attrs run (run .first + j))
-        (is : saidCounted told ≡ countSubscripts (run .ends .section) block) where
+    module _ (h : a .number ≡ attribute.SubscrData) {block : List ℕ} {told : ArrayRead} (b : block ≡ subscriptBlock s attrs run (run .first + j))
+        (is : saidArrayRead told ≡ countSubscripts (run .ends .section) block) where
       pub preparing-on : {t : «Type»} {n : ℕ} → told ≡ counted.Are t n → Preparing s attrs run (j + 1) (prepared.Element t (run .first + j))
-      unfolding saidPrepared saidCounted neededAt placed _>>=_ _>>_
+      unfolding saidPrepared saidArrayRead neededAt placed _>>=_ _>>_
       preparing-on p =
           record {
             within = omega arith;
@@ -183,7 +183,7 @@ module _ {s attrs : List ℕ} {run : Run} {j : ℕ} {last : Prepared} (w : Prepa
 
       pub preparing-refused : {why why′ : Refusal} → told ≡ counted.Refused why → why′ ≡ refusedAt (run .key) (why .reason)
           → refusal why′ ≡ preparedArray s attrs run
-      unfolding saidCounted placed _>>_
+      unfolding saidArrayRead placed _>>_
       preparing-refused p q = after-faults (judging-refused (w .judging) l (subscript-read s attrs run j at h b is p (ap refusal q))) refl
 
 -- ---- the members of a structure

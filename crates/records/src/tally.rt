@@ -1,7 +1,7 @@
 // How many of a list there are; or a refusal.
 use format::refusal::Refusal;
 
-pub enum Counted {
+pub enum Tally {
     Count(usize),
     Refused(Refusal),
 }
