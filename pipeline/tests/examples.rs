@@ -140,14 +140,14 @@ fn all_layouts() {
     let section = read(&bytes, none()).unwrap();
     let layouts = section.layouts().unwrap();
     let names: Vec<_> = layouts.iter().map(|s| s.name).collect();
-    assert_eq!(names, [&b"Block"[..], b"Crane", b"Tower", b"Ghost", b""]);
+    assert_eq!(names, [&b"Block"[..], b"Crane", b"Tower", b"Ghost", b"", b"Lift", b"Opaque"]);
     for structure in &layouts {
         let key = section.entries().nth(structure.row).unwrap().key;
         assert_eq!(structure.layout, section.layout(key));
     }
     let sizes: Vec<_> =
         layouts.iter().map(|s| s.layout.as_ref().map(|l| l.size).map_err(|e| e.number)).collect();
-    assert_eq!(sizes, [Ok(12), Ok(89), Ok(104), Err(11), Ok(0)]);
+    assert_eq!(sizes, [Ok(12), Ok(89), Ok(104), Err(11), Ok(0), Ok(28), Ok(0)]);
 }
 
 #[test]
