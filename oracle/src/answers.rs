@@ -3,11 +3,12 @@ use crate::{
     foresee::{self, Foreseen, Size, Why},
     form::{Words, kind},
     known::{ATTRIBUTES, DEPTH, ROWS},
-    theirs::{Fault, asked, read, too_deep},
+    plain::plain,
+    theirs::{Fault, asked, asked_of_copy, read, too_deep},
     util::{
         dwarf::{
-            AttributeKind, DwarfInfo, Producer, StructureMember, Tag, TagKind, TagMap, UserDefinedType, Visibility, get_udt_by_key,
-            print, process_overlay_branch, process_variable_tag,
+            AttributeKind, DwarfInfo, Producer, StructureMember, Tag, TagKind, UserDefinedType, Visibility,
+            get_udt_by_key, print, process_overlay_branch, process_variable_tag,
         },
         reader::Endian,
     },
@@ -40,14 +41,14 @@ fn refused(number: u32) -> Answer {
     Ok(Words::of(&[0, number]))
 }
 
-/// Refused with one of these numbers: the Rust would never end, or goes below our limits, and what ours meets first is not foreseen. Told as a word whose
+/// Refused with one of these numbers: the Rust goes below our limits, and what ours meets first is not foreseen. Told as a word whose
 /// highest bit is set, and bit n for the number n.
 fn refused_by(numbers: &[u32]) -> Answer {
     refused(numbers.iter().fold(1 << 31, |all, n| all | 1 << n))
 }
 
-/// What a record may meet before its endless walk or the end of its chain: its own attributes and children, those of a specification's row.
-const RECORD: [u32; 9] = [9, 10, 11, 12, 13, 15, 16, 17, 18];
+/// What a typedef may meet before the end of its chain: its own attributes and children, those of a specification's row.
+const CHAINED: [u32; 9] = [9, 10, 11, 12, 13, 15, 16, 17, 18];
 
 /// And a size or layout: subscripts, what is missing in a row on the way, children, bounds, sums.
 const SIZED: [u32; 11] = [9, 10, 11, 12, 13, 15, 16, 17, 18, 19, 20];
@@ -72,15 +73,21 @@ fn answer<T>(asked: Result<T, Fault>, words: impl FnOnce(&mut Words, T)) -> Answ
     }
 }
 
-/// The same where the Rust may be run.
-fn foreseen<T>(
-    fine: Foreseen,
-    call: impl FnOnce() -> anyhow::Result<T>,
+/// What a record comes to; `fine` foresees whether the Rust ends. Where a walk does not, a copy is asked.
+fn record<T>(
+    (info, tag): (&DwarfInfo, &Tag),
+    fine: impl Fn(&DwarfInfo, &Tag) -> Foreseen,
+    call: impl Fn(&DwarfInfo, &Tag) -> anyhow::Result<T>,
     words: impl FnOnce(&mut Words, T),
 ) -> Answer {
-    match fine {
-        Ok(()) => answer(asked(call), words),
-        Err(Why::Refused) => refused_by(&RECORD),
+    if fine(info, tag).is_ok() {
+        return answer(asked(|| call(info, tag)), words);
+    }
+    let copy = plain(info).ok_or("no copy: every key behind a row is named")?;
+    let tag = &copy.tags[&tag.key];
+    match fine(&copy, tag) {
+        Ok(()) => answer(asked_of_copy(|| call(&copy, tag)), words),
+        Err(Why::Refused) => refused_by(&CHAINED),
         Err(Why::Unforeseen) => Err("too much to foresee"),
     }
 }
@@ -147,83 +154,59 @@ fn member_words(words: &mut Words, m: &StructureMember) {
 }
 
 fn member(info: &DwarfInfo, tag: &Tag) -> Answer {
-    foreseen(foresee::alone(info, tag), || print::structure_member(info, tag), |w, m| member_words(w, &m))
+    record((info, tag), foresee::alone, print::structure_member, |w, m| member_words(w, &m))
 }
 
 fn union_type(info: &DwarfInfo, tag: &Tag) -> Answer {
-    foreseen(
-        foresee::union(info, tag),
-        || print::union_type(info, tag),
-        |w, u| {
-            w.name(&u.name);
-            w.word(u.byte_size);
-            w.word(u.members.len() as u32);
-            u.members.iter().for_each(|m| member_words(w, m));
-        },
-    )
+    record((info, tag), foresee::union, print::union_type, |w, u| {
+        w.name(&u.name);
+        w.word(u.byte_size);
+        w.word(u.members.len() as u32);
+        u.members.iter().for_each(|m| member_words(w, m));
+    })
 }
 
 fn enumeration(info: &DwarfInfo, tag: &Tag) -> Answer {
-    foreseen(
-        foresee::alone(info, tag),
-        || print::enumeration(info, tag),
-        |w, e| {
-            w.name(&e.name);
-            w.word(e.byte_size);
-            w.word(e.members.len() as u32);
-            for member in &e.members {
-                w.word(member.value as u32);
-                w.text(&member.name);
-            }
-        },
-    )
+    record((info, tag), foresee::alone, print::enumeration, |w, e| {
+        w.name(&e.name);
+        w.word(e.byte_size);
+        w.word(e.members.len() as u32);
+        for member in &e.members {
+            w.word(member.value as u32);
+            w.text(&member.name);
+        }
+    })
 }
 
 fn typedef(info: &DwarfInfo, tag: &Tag) -> Answer {
-    foreseen(
-        foresee::typedef(info, tag),
-        || print::typedef(info, tag),
-        |w, t| {
-            w.text(&t.name);
-            w.of_type(&t.kind);
-        },
-    )
+    record((info, tag), foresee::typedef, print::typedef, |w, t| {
+        w.text(&t.name);
+        w.of_type(&t.kind);
+    })
 }
 
 fn variable(info: &DwarfInfo, tag: &Tag) -> Answer {
-    foreseen(
-        foresee::alone(info, tag),
-        || process_variable_tag(info, tag),
-        |w, v| {
-            w.name(&v.name);
-            w.name(&v.mangled_name);
-            w.of_type(&v.kind);
-            w.option(v.address);
-            w.word(v.local as u32);
-        },
-    )
+    record((info, tag), foresee::alone, process_variable_tag, |w, v| {
+        w.name(&v.name);
+        w.name(&v.mangled_name);
+        w.of_type(&v.kind);
+        w.option(v.address);
+        w.word(v.local as u32);
+    })
 }
 
 fn label(info: &DwarfInfo, tag: &Tag) -> Answer {
-    foreseen(
-        foresee::alone(info, tag),
-        || print::label(info, tag),
-        |w, l| {
-            w.text(&l.name);
-            w.word(l.address);
-        },
-    )
+    record((info, tag), foresee::alone, print::label, |w, l| {
+        w.text(&l.name);
+        w.word(l.address);
+    })
 }
 
 fn ptr_to_member(info: &DwarfInfo, tag: &Tag) -> Answer {
-    foreseen(
-        foresee::alone(info, tag),
-        || print::ptr_to_member(info, tag),
-        |w, p| {
-            w.of_type(&p.kind);
-            w.word(p.containing_type);
-        },
-    )
+    record((info, tag), foresee::alone, print::ptr_to_member, |w, p| {
+        w.of_type(&p.kind);
+        w.word(p.containing_type);
+    })
 }
 
 fn overlay_branch(tag: &Tag) -> Answer {
@@ -240,61 +223,34 @@ fn is_structure(kind: TagKind) -> bool {
     matches!(kind, TagKind::StructureType | TagKind::ClassType)
 }
 
-/// A copy without what document 01 passes over in sizes: attributes of structures, classes and arrays, and children of structures and classes that have no
-/// size and are no members. None where such a child is one of another row too, whose record would then find fewer.
-fn plain_copy(info: &DwarfInfo) -> Option<DwarfInfo> {
-    use AttributeKind as A;
-    let mut copy = info.clone();
-    for tag in info.tags.values().filter(|tag| is_structure(tag.kind)) {
-        for child in foresee::children(tag, &info.tags)? {
-            if child.kind != TagKind::Member && !is_sized(child.kind) {
-                copy.tags.get_mut(&child.key)?.kind = TagKind::Padding;
-            }
-        }
+/// A size or layout that the Rust was asked for; where it answers below our depth, ours is 10.
+fn told<T>(found: Result<T, Fault>, deepest: usize, words: impl FnOnce(&mut Words, T)) -> Answer {
+    match found {
+        Ok(_) if deepest > DEPTH => refused(10),
+        Err(_) if deepest > DEPTH => refused_by(&SIZED),
+        found => answer(found, words),
     }
-    let many = |tag: &Tag, tags: &TagMap| foresee::children(tag, tags).map(|found| found.len());
-    let others = || info.tags.values().filter(|tag| !is_structure(tag.kind));
-    if others().any(|tag| many(tag, &info.tags) != many(tag, &copy.tags)) {
-        return None;
-    }
-    for tag in copy.tags.values_mut() {
-        let kept: &[A] = match tag.kind {
-            TagKind::StructureType | TagKind::ClassType => &[A::Sibling, A::Name, A::ByteSize],
-            TagKind::ArrayType => &[A::Sibling, A::SubscrData],
-            _ => continue,
-        };
-        tag.attributes.retain(|a| kept.contains(&a.kind));
-    }
-    Some(copy)
 }
 
-/// What a size or a layout comes to; `seen` foresees it, `call` asks the Rust. Where the Rust fails at what ours passes over, a copy without it is asked;
-/// where it answers below our depth, ours is 10.
+/// What a size or a layout comes to; `seen` foresees it, `call` asks the Rust. Where the Rust fails, or would not end, at what ours passes over, a copy
+/// without that is asked.
 fn sized<T>(
     info: &DwarfInfo,
     seen: impl Fn(&DwarfInfo) -> Result<(bool, usize), Why>,
     call: impl Fn(&DwarfInfo) -> anyhow::Result<T>,
     words: impl FnOnce(&mut Words, T),
 ) -> Answer {
-    let (plain, deepest) = match seen(info) {
-        Ok(seen) => seen,
-        Err(Why::Refused) => return refused_by(&SIZED),
-        Err(Why::Unforeseen) => return Err("too much to foresee"),
-    };
-    let found = match asked(|| call(info)) {
-        Err(_) if deepest <= DEPTH && !plain => {
-            let copy = plain_copy(info).ok_or("the Rust fails where it may look at more")?;
-            match seen(&copy) {
-                Ok((true, deepest)) if deepest <= DEPTH => asked(|| call(&copy)),
-                _ => return Err("the Rust fails where it may look at more"),
-            }
+    if let Ok((plain, deepest)) = seen(info) {
+        let found = asked(|| call(info));
+        if plain || deepest > DEPTH || found.is_ok() {
+            return told(found, deepest, words);
         }
-        found => found,
-    };
-    match found {
-        Ok(_) if deepest > DEPTH => refused(10),
-        Err(_) if deepest > DEPTH => refused_by(&SIZED),
-        found => answer(found, words),
+    }
+    let copy = plain(info).ok_or("no copy: every key behind a row is named")?;
+    match seen(&copy) {
+        Ok((_, deepest)) => told(asked_of_copy(|| call(&copy)), deepest, words),
+        Err(Why::Refused) => refused_by(&SIZED),
+        Err(Why::Unforeseen) => Err("too much to foresee"),
     }
 }
 

@@ -79,6 +79,18 @@ pub fn typedef(info: &DwarfInfo, tag: &Tag) -> Foreseen {
     chain(info, tag, 0, &mut 2000)
 }
 
+/// Children of a structure that neither side looks at.
+fn ignored(kind: TagKind) -> bool {
+    matches!(
+        kind,
+        TagKind::ArrayType
+            | TagKind::SubroutineType
+            | TagKind::PtrToMemberType
+            | TagKind::Subroutine
+            | TagKind::GlobalSubroutine
+    )
+}
+
 /// What a size touches.
 pub struct Size<'a> {
     info: &'a DwarfInfo,
@@ -94,11 +106,8 @@ const NESTED: usize = 40;
 impl<'a> Size<'a> {
     pub fn of(info: &'a DwarfInfo, key: u32) -> Result<Self, Why> {
         let mut size = Size { info, budget: 2000, plain: true, deepest: 0 };
-        match size.entry(key, 1) {
-            Err(_) if size.deepest > DEPTH => Err(Why::Refused),
-            Err(_) => Err(Why::Unforeseen),
-            Ok(()) => Ok(size),
-        }
+        size.entry(key, 1)?;
+        Ok(size)
     }
 
     fn entry(&mut self, key: u32, depth: usize) -> Foreseen {
@@ -130,9 +139,15 @@ impl<'a> Size<'a> {
         self.plain &= tag.attributes.iter().all(|a| known.contains(&a.kind));
     }
 
+    /// No child is there that only the Rust would look at.
+    fn without_children(&mut self, tag: &Tag) -> Foreseen {
+        self.plain &= children(tag, &self.info.tags).ok_or(Why::Unforeseen)?.is_empty();
+        Ok(())
+    }
+
     fn array(&mut self, tag: &Tag, depth: usize) -> Foreseen {
         self.attributes(tag, &[AttributeKind::Sibling, AttributeKind::SubscrData]);
-        self.plain &= children(tag, &self.info.tags).ok_or(Why::Unforeseen)?.is_empty();
+        self.without_children(tag)?;
         let mut element = None;
         for attribute in tag.attributes.iter().filter(|a| a.kind == AttributeKind::SubscrData) {
             let AttributeValue::Block(block) = &attribute.value else { continue };
@@ -148,11 +163,9 @@ impl<'a> Size<'a> {
     pub fn of_layout(info: &'a DwarfInfo, key: u32) -> Result<Self, Why> {
         let mut size = Size { info, budget: 2000, plain: true, deepest: 1 };
         let tag = &info.tags[&key];
-        match size.structure(tag, 0).and_then(|()| size.members(tag, 1)) {
-            Err(_) if size.deepest > DEPTH => Err(Why::Refused),
-            Err(_) => Err(Why::Unforeseen),
-            Ok(()) => Ok(size),
-        }
+        size.structure(tag, 0)?;
+        size.members(tag, 1)?;
+        Ok(size)
     }
 
     fn structure_size(&mut self, tag: &Tag, depth: usize) -> Foreseen {
@@ -181,29 +194,26 @@ impl<'a> Size<'a> {
         use AttributeKind as A;
         self.attributes(tag, &[A::Sibling, A::Name, A::ByteSize, A::Member]);
         for child in children(tag, &self.info.tags).ok_or(Why::Refused)? {
+            if child.kind == TagKind::Member {
+                ends(self.info, child)?;
+                continue;
+            }
+            self.plain &= ignored(child.kind);
             match child.kind {
-                TagKind::Member => {
-                    ends(self.info, child)?;
-                    continue;
-                }
-                TagKind::ArrayType
-                | TagKind::SubroutineType
-                | TagKind::PtrToMemberType
-                | TagKind::Subroutine
-                | TagKind::GlobalSubroutine => continue,
+                kind if ignored(kind) => {}
                 TagKind::StructureType | TagKind::ClassType => self.structure(child, nested + 1)?,
                 TagKind::UnionType => union(self.info, child)?,
                 TagKind::Typedef => typedef(self.info, child)?,
                 _ => ends(self.info, child)?,
             }
-            self.plain = false;
         }
         Ok(())
     }
 
     /// What `process_subroutine_tag` reads, where it is simple.
     fn subroutine(&mut self, tag: &Tag) -> Foreseen {
-        self.plain = false;
+        self.attributes(tag, &[AttributeKind::Sibling]);
+        self.without_children(tag)?;
         let simple = |c: &&Tag| {
             matches!(
                 c.kind,

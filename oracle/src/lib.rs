@@ -5,6 +5,7 @@ pub mod foresee;
 pub mod form;
 pub mod known;
 pub mod ours;
+pub mod plain;
 pub mod sections;
 pub mod shapes;
 pub mod theirs;

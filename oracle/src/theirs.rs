@@ -1,6 +1,7 @@
 //! What the Rust answers: its sections, and its errors and panics as document 01's refusals.
 use crate::{
     known::LEVELS,
+    plain::ENDLESS,
     util::{
         dwarf::{DwarfInfo, TagMap, read_debug_section},
         reader::{Endian, FromReader},
@@ -137,11 +138,24 @@ fn number_of_panic(text: &str) -> u32 {
 
 /// What the Rust answers, with its panics caught.
 pub fn asked<T>(call: impl FnOnce() -> anyhow::Result<T>) -> Result<T, Fault> {
+    asked_by(number_of_text, call)
+}
+
+/// The same of a copy, in which an endless walk has become a child that is met nowhere else.
+pub fn asked_of_copy<T>(call: impl FnOnce() -> anyhow::Result<T>) -> Result<T, Fault> {
+    let endless = format!("child {ENDLESS:?}");
+    asked_by(|text| if text.ends_with(&endless) { Some(9) } else { number_of_text(text) }, call)
+}
+
+fn asked_by<T>(
+    number_of: impl Fn(&str) -> Option<u32>,
+    call: impl FnOnce() -> anyhow::Result<T>,
+) -> Result<T, Fault> {
     match panic::catch_unwind(AssertUnwindSafe(call)) {
         Ok(Ok(answer)) => Ok(answer),
         Ok(Err(error)) => {
             let texts: Vec<String> = error.chain().map(|e| e.to_string()).collect();
-            let number = texts.iter().find_map(|text| number_of_text(text));
+            let number = texts.iter().find_map(|text| number_of(text));
             Err(number.map_or_else(|| Fault::Untold(texts.join(": ")), Fault::Number))
         }
         Err(_) => Err(Fault::Number(number_of_panic(&PANIC.lock().unwrap()))),
