@@ -1,9 +1,10 @@
 -- What the theorems against the standard say of the reader. What is written, and how, the crate `standard` says.
-use Prim.Native.Nat.{ℕ, _+_, _*_, _-_, _%_, _≤_, _<_}
+use Prim.Native.Nat.{ℕ, _+_, _*_, _%_, _≤_, _<_}
 use mathlib.Core.Path.{_≡_}
-use mathlib.Core.Bool.{Bool, true, false}
+use mathlib.Core.Bool.{Bool, true, false, cond}
 use mathlib.Core.List.{List, [], _∷_, _++_}
-use lib.ListN.{length, getD, drop}
+use lib.ListN.{length, getD}
+use lib.Dec.{eqb}
 use Rattle.numbers.specs.Value.{valueOf}
 use Rattle.numbers.specs.declared.Endian.{Endian}
 use Rattle.standard.specs.Numbers.{OnList, fundamentalTypes, Form, formNumber}
@@ -12,12 +13,10 @@ use Rattle.standard.specs.Locations.{Atom, REG, BASEREG, ADDR, CONST, DEREF2, D
 use Rattle.standard.specs.Types.{Modifier, pointer-to, reference-to, const, volatile, Base, fundamental, defined, Typed, Says}
 use Rattle.standard.specs.Types as standard
 use Rattle.standard.specs.Subscripts.{Dimension}
-use Rattle.format.specs.Said.{gives}
 use Rattle.format.specs.declared.location_op.LocationOp.{LocationOp}
 use Rattle.format.specs.declared.location_op.LocationOp.the-variants as op
 use Rattle.format.specs.declared.modifier.Modifier as reader
 use Rattle.attributes.specs.declared.decode.Endians.{Endians}
-use Rattle.blocks.specs.Subscript.{element, nextSubscript}
 use Rattle.blocks.specs.declared.types.TypeKind.{TypeKind}
 use Rattle.blocks.specs.declared.types.TypeKind.the-variants.{Fundamental, UserDefined}
 use Rattle.blocks.specs.declared.types.Type.{«Type»}
@@ -126,8 +125,13 @@ toldOf (d ∷ dims) = d .index ∷ (d .high + 1) ∷ toldOf dims
 abbrev pub elementAt : List Dimension → ℕ
 elementAt dims = length dims * 11 + 3
 
+-- how many bytes the value of a type's attribute of this number takes, at a place: a fundamental type two, a reference four, a block the two of its
+-- length and as many as that says
+unfoldable pub typeBytes : Endian → List ℕ → ℕ → ℕ → ℕ
+typeBytes e block kind at = cond (eqb kind standard.fundType) 2 (cond (eqb kind standard.userDefType) 4 (2 + valueOf e 2 block at))
+
 -- from a place on a block is dimensions of format 0, with index types of the standard and a last index, and then one element type, which ends it
 pub data Plain (e : Endian) (block : List ℕ) : ℕ → Type 0 where
-  ends : (at : ℕ) (of : «Type») → getD block at 0 ≡ 8 → nextSubscript e (drop at block) ≡ gives (element of (length block - at)) → Plain e block at
+  ends : (at : ℕ) → getD block at 0 ≡ 8 → at + 3 + typeBytes e block (valueOf e 2 block (at + 1)) (at + 3) ≡ length block → Plain e block at
   more : (at : ℕ) → getD block at 0 ≡ 0 → OnList (valueOf e 2 block (at + 1)) fundamentalTypes → valueOf e 4 block (at + 7) < 0xFFFFFFFF
       → Plain e block (at + 11) → Plain e block at

@@ -19,6 +19,11 @@ split-stands xs ys zs =
     let whole : length (xs ++ (ys ++ zs)) ≡ length xs + length (ys ++ zs) = length-append xs (ys ++ zs) in
     record { fits = omega arith; same = λ i h. getD-append-add xs (ys ++ zs) i 0 ∙ List·getD-append ys zs 0 i h }
 
+-- what stands between two parts of a section
+pub stands-at : {s : List ℕ} {at : ℕ} (before body behind : List ℕ) → s ≡ before ++ (body ++ behind) → length before ≡ at → Stands s at body
+stands-at {s} before body behind p h =
+    subst (λ (k : ℕ). Stands s k body) h (subst (λ (u : List ℕ). Stands u (length before) body) (sym p) (split-stands before body behind))
+
 module _ {s : List ℕ} {at : ℕ} {xs : List ℕ} (q : Stands s at xs) where
   stands-take : take (length xs) (drop at s) ≡ xs
   stands-take =

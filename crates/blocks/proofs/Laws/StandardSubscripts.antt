@@ -67,7 +67,7 @@ block-ends e {s} {at} xs h q =
     ∙ fixed-ends (length xs) refl (block-stands e 2 xs q) ∙ ap At place
 
 -- a value ends behind its bytes
-value-ends : (e : Endian) {s : List ℕ} {at : ℕ} {t : Typed} {kind : ℕ} {value : Value} {form : Form} {body : List ℕ} → Says e t kind value
+pub value-ends : (e : Endian) {s : List ℕ} {at : ℕ} {t : Typed} {kind : ℕ} {value : Value} {form : Form} {body : List ℕ} → Says e t kind value
     → Written e form value body → kind % 16 ≡ formNumber form → Stands s at body → valueEnd (formOf kind) e s at ≡ At (at + length body)
 unfolding valueEnd formOf forms lookup
 value-ends e (fund type on) w p q = let is = as-data2 w p in fixed-ends 2 (ap length (is .3) ∙ bytes-length e 2 (is .0)) q

@@ -5,11 +5,11 @@ use native.Mathlib.Omega.{arith}
 use mathlib.Core.Path.{_≡_, refl, sym, ap, subst, _∙_}
 use mathlib.Core.List.{List, [], _∷_, _++_}
 use lib.ListN.{length, getD, drop, length-append, length-drop}
-use lib.Seq.{getD-drop, drop-drop, ext-getD}
+use lib.Seq.{getD-drop, drop-drop}
 use lib.Dec.{eqb}
 use borrow.Author.Tests.{eqb-true}
 use Rattle.numbers.proofs.Laws.Tests.{cond-all}
-use Rattle.numbers.specs.Value.{valueOf}
+use Rattle.numbers.specs.Value.{valueOf, there}
 use Rattle.numbers.proofs.Laws.Value.{read-all}
 use Rattle.numbers.specs.Written.{bytesOf, Bytes}
 use Rattle.numbers.proofs.Laws.Written.{bytes-length, number-read, number-small, number-written}
@@ -18,16 +18,16 @@ use Rattle.numbers.specs.declared.Endian.{Endian}
 use Rattle.numbers.specs.declared.Endian.the-variants.{Big, Little}
 use Rattle.standard.specs.Numbers.{OnList, fundamentalTypes}
 use Rattle.standard.specs.Entries.{Value, Attribute, writtenAttribute}
-use Rattle.standard.specs.Types.{Typed, Says}
+use Rattle.standard.specs.Types.{Typed, Says, fund, mod-fund, user, mod-user}
 use Rattle.standard.specs.Subscripts.{Dimension, writtenDimension, writtenSubscripts}
 use Rattle.format.specs.Lookup.{lookup}
 use Rattle.format.specs.FundType.{fundTypeOf}
 use Rattle.format.specs.Known.{known}
-use Rattle.format.specs.FormKind.{formOf}
+use Rattle.format.specs.FormKind.{forms, formOf}
 use Rattle.format.specs.SubscriptFormat.{subscriptFormats, subscriptFormatOf}
 use Rattle.format.specs.Said.{Said, gives, refuses, _>>=_}
 use Rattle.format.proofs.Laws.Said.{given-is, given-refused, step-gave, must-gave, past-gave}
-use Rattle.attributes.specs.End.{valueEnd}
+use Rattle.attributes.specs.End.{fixedEnd, blockEnd, valueEnd}
 use Rattle.attributes.specs.Read.{ending, numbered, readAttribute}
 use Rattle.attributes.specs.Ahead.{ReadInside}
 use Rattle.attributes.proofs.Laws.Inside.{read-inside}
@@ -38,18 +38,17 @@ use Rattle.attributes.specs.declared.read.Attribute.the-variants as attribute
 use Rattle.blocks.specs.Types.{numberIn, knownNumber, processType}
 use Rattle.blocks.specs.Subscript.{Part, dimension, element, indexAt, oneMore, constBound, elementAs, elementTypeAt, subscriptAs, nextSubscript}
 use Rattle.blocks.specs.Subscripts.{Array, arrayOf, dimensionWords, Dimensions, elementOr, atEnd, before, raised, step, subscriptsFrom, wholeBlock}
-use Rattle.blocks.specs.Standard.{typeAt, saidFrom, typeNumbers, SaysAt, StandardKind, OfStandard, alike, FromZero, toldOf, elementAt, Plain, ends, more}
+use Rattle.blocks.specs.Standard.{typeAt, saidFrom, typeNumbers, SaysAt, StandardKind, OfStandard, alike, FromZero, toldOf, elementAt, typeBytes, Plain, ends, more}
 use Rattle.blocks.specs.declared.types.TypeKind.{TypeKind}
 use Rattle.blocks.specs.declared.types.TypeKind.the-variants.{Fundamental, UserDefined}
 use Rattle.blocks.specs.declared.types.Type.{«Type»}
 use Rattle.blocks.specs.declared.subscripts.Element.{Element}
 use Rattle.blocks.specs.declared.subscripts.Element.the-variants as sofar
 use Rattle.blocks.proofs.Laws.Placed.{stands-split, stands-within}
-use Rattle.blocks.proofs.Laws.Subscript.{used-inside}
 use Rattle.blocks.proofs.Laws.Subscripts.{at-end, one-turn}
 use Rattle.blocks.proofs.Laws.StandardTypes.{fundamental-small, body-stands}
 use Rattle.blocks.proofs.Laws.StandardTypesOnly.{number-gave, says-at, type-number-only, type-only}
-use Rattle.blocks.proofs.Laws.StandardSubscripts.{Comes, attribute-length, attribute-value, attribute-read, element-read, dimension-length, index-stands, high-stands, whole-read}
+use Rattle.blocks.proofs.Laws.StandardSubscripts.{Comes, value-ends, attribute-length, attribute-number, attribute-value, attribute-read, dimension-length, index-stands, high-stands, whole-read}
 
 -- ---- what stands behind a place
 
@@ -108,29 +107,106 @@ module _ (e : Endian) (s : List ℕ) (at : ℕ) where
 same-end : {n value next next′ : ℕ} → attribute.Read n value next ≡ attribute.Read n value next′ → next ≡ next′
 same-end p = cc
 
-same-element : {of of′ : «Type»} {used used′ : ℕ} → gives (element of used) ≡ gives (element of′ used′) → (of ≡ of′) × (used ≡ used′)
-same-element p = (cc, cc)
+-- ---- where it ends
+
+-- a value of so many bytes ends behind them
+abbrev EndsAfter : ℕ → ℕ → End → Type 0
+EndsAfter at n (end.At next) = next ≡ at + n
+EndsAfter at n (end.Short field) = Unit
+
+fixed-after : (s : List ℕ) (at w : ℕ) → EndsAfter at w (fixedEnd s at w)
+unfolding fixedEnd
+fixed-after s at w = cond-all (EndsAfter at w) (there s at w) (λ k. refl) (λ k. tt)
+
+from-length : (at w n : ℕ) (x : End) → EndsAfter (at + w) n x → EndsAfter at (w + n) x
+from-length at w n (end.At next) p = p ∙ add-assoc at w n
+from-length at w n (end.Short field) p = tt
+
+block-after : (e : Endian) (s : List ℕ) (at : ℕ) → EndsAfter at (2 + valueOf e 2 s at) (blockEnd e 2 s at)
+unfolding blockEnd
+block-after e s at =
+    let n : ℕ = valueOf e 2 s at in
+    read-all (λ n. fixedEnd s (at + 2) n) (end.Short at) e 2 s at (EndsAfter at (2 + n))
+    (λ t. from-length at 2 n (fixedEnd s (at + 2) n) (fixed-after s (at + 2) n)) (λ t. tt)
+
+-- by the number of a type's attribute
+module _ (e : Endian) (s : List ℕ) (at : ℕ) where
+  abbrev KindAfter : ℕ → Type 0
+  KindAfter kind = EndsAfter at (typeBytes e s kind at) (valueEnd (formOf kind) e s at)
+
+  each-after : {kind : ℕ} (i : ℕ) → i < length typeNumbers → getD typeNumbers i 0 ≡ kind → KindAfter kind
+  unfolding typeBytes typeNumbers valueEnd formOf forms lookup
+  each-after zero h p = subst KindAfter p (fixed-after s at 2)
+  each-after (suc zero) h p = subst KindAfter p (block-after e s at)
+  each-after (suc (suc zero)) h p = subst KindAfter p (fixed-after s at 4)
+  each-after (suc (suc (suc zero))) h p = subst KindAfter p (block-after e s at)
+  each-after (suc (suc (suc (suc i)))) h p = absurd (omega arith)
+
+  kind-after : {kind : ℕ} → OnList kind typeNumbers → KindAfter kind
+  kind-after on = each-after (on .index) (on .inside) (on .stands)
+
+-- the number of an attribute that says a type is one of the four
+says-number : {e : Endian} {t : Typed} {kind : ℕ} {value : Value} → Says e t kind value → OnList kind typeNumbers
+unfolding typeNumbers
+says-number (fund type on) = record { index = 0; inside = omega arith; stands = refl }
+says-number (mod-fund ms type on) = record { index = 1; inside = omega arith; stands = refl }
+says-number (user key small) = record { index = 2; inside = omega arith; stands = refl }
+says-number (mod-user ms key small) = record { index = 3; inside = omega arith; stands = refl }
+
+-- an attribute that was read ends where its value does
+abbrev ReadAfter : Endian → List ℕ → ℕ → reader.Attribute → Type 0
+ReadAfter e s at (attribute.Read n value next) = OnList n typeNumbers → next ≡ at + 2 + typeBytes e s n (at + 2)
+ReadAfter e s at (attribute.Short field) = Unit
+ReadAfter e s at (attribute.Unknown field) = Unit
+
+ending-after : (e : Endian) (s : List ℕ) (at n : ℕ) (x : End) → (OnList n typeNumbers → EndsAfter (at + 2) (typeBytes e s n (at + 2)) x)
+    → ReadAfter e s at (ending n (at + 2) x)
+unfolding ending
+ending-after e s at n (end.At next) f = f
+ending-after e s at n (end.Short field) f = tt
+
+read-after : (e : Endian) (s : List ℕ) (at : ℕ) {n value next : ℕ} → readAttribute [] e s at ≡ attribute.Read n value next → OnList n typeNumbers
+    → next ≡ at + 2 + typeBytes e s n (at + 2)
+unfolding readAttribute numbered
+read-after e s at p =
+    let m : ℕ = valueOf e 2 s at in
+    let after : ReadAfter e s at (readAttribute [] e s at) =
+    read-all (numbered [] e s at) (attribute.Short at) e 2 s at (ReadAfter e s at)
+    (λ t. cond-all (ReadAfter e s at) (known [] m) (λ k. ending-after e s at m (valueEnd (formOf m) e s (at + 2)) (kind-after e s (at + 2))) (λ k. tt))
+    (λ t. tt)
+    in
+    subst (ReadAfter e s at) p after
+
+-- of the rest of a block it is the same
+bytes-behind : (e : Endian) (s : List ℕ) (at kind i : ℕ) → typeBytes e (drop at s) kind i ≡ typeBytes e s kind (at + i)
+unfolding typeBytes
+bytes-behind e s at kind i = rw (value-drop e 2 s at i)
 
 -- what an element type was read from: the attribute behind its format
-record ElementFrom (e : Endian) (s : List ℕ) (of : «Type») (used : ℕ) : Type 0 where
+record ElementFrom (e : Endian) (s : List ℕ) (p : Part) : Type 0 where
+  of : «Type»
+  used : ℕ
+  is : p ≡ element of used
   number : ℕ
   reads : readAttribute [] e s 1 ≡ attribute.Read number 3 used
   gave : processType (alike e) s number 3 ≡ gives of
 
-element-steps : (e : Endian) (s : List ℕ) {of : «Type»} {used : ℕ} (a : reader.Attribute) → readAttribute [] e s 1 ≡ a
-    → elementAs e s a ≡ gives (element of used) → ElementFrom e s of used
+element-steps : (e : Endian) (s : List ℕ) {p : Part} (a : reader.Attribute) → readAttribute [] e s 1 ≡ a → elementAs e s a ≡ gives p
+    → ElementFrom e s p
 unfolding elementAs
-element-steps e s {of} {used} (attribute.Read number value next) r p =
+element-steps e s {p} (attribute.Read number value next) r gave =
     let inside : ReadInside [] s 1 number value next = read-inside [] e s 1 r in
-    let step = step-gave (processType (alike e) s number value) _ p in
-    let same = same-element (step .2) in
+    let step = step-gave (processType (alike e) s number value) _ gave in
     record {
+      of = step .0;
+      used = next;
+      is = given-is (sym (step .2));
       number = number;
-      reads = r ∙ ap (λ (v : ℕ). attribute.Read number v next) (inside .value-place) ∙ ap (λ (k : ℕ). attribute.Read number 3 k) (same .1);
-      gave = ap (processType (alike e) s number) (sym (inside .value-place)) ∙ step .1 ∙ ap gives (same .0);
+      reads = r ∙ ap (λ (v : ℕ). attribute.Read number v next) (inside .value-place);
+      gave = ap (processType (alike e) s number) (sym (inside .value-place)) ∙ step .1;
     }
-element-steps e s (attribute.Short field) r p = absurd (given-refused (sym p))
-element-steps e s (attribute.Unknown field) r p = absurd (given-refused (sym p))
+element-steps e s (attribute.Short field) r gave = absurd (given-refused (sym gave))
+element-steps e s (attribute.Unknown field) r gave = absurd (given-refused (sym gave))
 
 -- ---- by format
 
@@ -214,7 +290,7 @@ module _ (e : Endian) (s : List ℕ) (small : Bytes s) where
       stands-split q ∙ ap (λ (k : ℕ). writtenDimension e (dimensionAt on) ++ drop k s) place
 
   -- the element type that a block is
-  module _ {of : «Type»} {used : ℕ} (f : ElementFrom e s of used) {t : Typed} {value : Value} (w : SaysAt e s (f .number) 3 t value) where
+  module _ {p : Part} (f : ElementFrom e s p) {t : Typed} {value : Value} (w : SaysAt e s (f .number) 3 t value) where
     abbrev attributeOf : Attribute typeNumbers e
     attributeOf =
         record {
@@ -237,11 +313,11 @@ module _ (e : Endian) (s : List ℕ) (small : Bytes s) where
         both-stand s 1 (bytesOf e 2 (f .number)) (w .body) (number-written e 2 s 1 small (omega arith) (read-number e s 1 (f .reads)))
         (subst (λ (k : ℕ). Stands s k (w .body)) place (body-stands w))
 
-    element-written : getD s 0 0 ≡ 8 → used ≡ length s → s ≡ 8 ∷ writtenAttribute typeNumbers e attributeOf
+    element-written : getD s 0 0 ≡ 8 → f .used ≡ length s → s ≡ 8 ∷ writtenAttribute typeNumbers e attributeOf
     element-written byte all =
         let bytes : List ℕ = writtenAttribute typeNumbers e attributeOf in
         let long : length bytes ≡ 2 + length (w .body) = attribute-length e attributeOf (w .says) in
-        let end : used ≡ 1 + 2 + length (w .body) = same-end (sym (f .reads) ∙ attribute-read e attributeOf (w .says) attribute-stands) in
+        let end : f .used ≡ 1 + 2 + length (w .body) = same-end (sym (f .reads) ∙ attribute-read e attributeOf (w .says) attribute-stands) in
         let inside : 3 + length (w .body) ≤ length s = body-stands w .fits in
         let whole : Stands s 0 (8 ∷ bytes) = both-stand s 0 (8 ∷ []) bytes (byte-stands s 0 8 (omega arith) byte) attribute-stands in
         sym (stands-all whole (omega arith))
@@ -256,7 +332,7 @@ before-gave words (refuses number place counts) p = absurd (given-refused (sym p
 
 -- there is something behind a place
 plain-inside : {e : Endian} {block : List ℕ} {at : ℕ} → Plain e block at → at < length block
-plain-inside {e} {block} (ends at of byte gave) = let uses = used-inside e (drop at block) gave in omega (arith, uses .0)
+plain-inside (ends at byte all) = omega arith
 plain-inside (more at byte on bounded rest) = omega (arith, plain-inside rest)
 
 -- written subscripts
@@ -291,18 +367,27 @@ module _ (e : Endian) {block : List ℕ} (small : Bytes block) where
         dimension-split e s rest here stands ∙ ap (λ (u : List ℕ). writtenDimension e (dimensionAt e s rest here) ++ u) (drop-drop 11 at block ∙ w .5),
       )
 
-  -- the last one
-  last-written : (at : ℕ) (of : «Type») → getD block at 0 ≡ 8 → nextSubscript e (drop at block) ≡ gives (element of (length block - at))
-      → OfStandard e block (raised at of) → WrittenAs e (drop at block)
-  unfolding writtenSubscripts
-  last-written at of byte gave standard =
-      let s : List ℕ = drop at block in
-      let first : getD s 0 0 ≡ 8 = first-byte at byte in
-      let all : length block - at ≡ length s = sym (length-drop at block) in
-      let rest : Bytes s = bytes-drop block at small in
-      let f = element-steps e s (readAttribute [] e s 1) refl (format-eight e s gave first) in
-      let is = type-only e rest (f .number) 3 (f .gave) (standard-drop e block at of standard) in
-      ([], attributeOf e s rest f (is .2), is .0, is .2 .says, tt, element-written e s rest f (is .2) first all)
+  -- the last one, which ends the block
+  module _ (at : ℕ) (byte : getD block at 0 ≡ 8) (all : at + 3 + typeBytes e block (valueOf e 2 block (at + 1)) (at + 3) ≡ length block) {p : Part}
+      (f : ElementFrom e (drop at block) p) where
+    last-used : f .used ≡ length (drop at block)
+    last-used =
+        let s : List ℕ = drop at block in
+        let number : f .number ≡ valueOf e 2 block (at + 1) = sym (read-number e s 1 (f .reads)) ∙ value-drop e 2 block at 1 in
+        let behind : typeBytes e s (f .number) 3 ≡ typeBytes e block (valueOf e 2 block (at + 1)) (at + 3) =
+        bytes-behind e block at (f .number) 3 ∙ ap (λ (n : ℕ). typeBytes e block n (at + 3)) number
+        in
+        let end : f .used ≡ 3 + typeBytes e s (f .number) 3 = read-after e s 1 (f .reads) (type-number-only (alike e) s (f .number) 3 (f .gave)) in
+        let long : length s ≡ length block - at = length-drop at block in
+        omega arith
+
+    last-written : OfStandard e block (raised at (f .of)) → WrittenAs e (drop at block)
+    unfolding writtenSubscripts
+    last-written standard =
+        let s : List ℕ = drop at block in
+        let rest : Bytes s = bytes-drop block at small in
+        let is = type-only e rest (f .number) 3 (f .gave) (standard-drop e block at (f .of) standard) in
+        ([], attributeOf e s rest f (is .2), is .0, is .2 .says, tt, element-written e s rest f (is .2) (first-byte at byte) last-used)
 
   -- a turn at a dimension, and what it left to read
   dimension-turn : (at : ℕ) → getD block at 0 ≡ 0 → (turns : ℕ) (el : Element) (n : ℕ) {d : Dimensions}
@@ -323,22 +408,20 @@ module _ (e : Endian) {block : List ℕ} (small : Bytes block) where
       → subscriptsFrom e turns el n at (drop at block) ≡ gives d → length (drop at block) ≤ turns → OfStandard e block (d .array .element)
       → WrittenAs e (drop at block)
   unfolding step atEnd elementOr _>>=_
-  from-written (ends at of byte gave) turns el n {d} p h standard =
+  from-written (ends at byte all) turns el n {d} p h standard =
       let s : List ℕ = drop at block in
-      let used : ℕ = length block - at in
-      let uses = used-inside e s gave in
-      let some : 0 < length s = omega (arith, uses .0, uses .1) in
-      let nothing : length (drop used s) ≡ 0 = length-drop used s ∙ omega (arith, length-drop at block) in
-      let turn : subscriptsFrom e (turns - 1) (sofar.Is (raised at of)) n (at + used) (drop used s) ≡ gives d =
-      sym
-      (one-turn e el n at s turns some h
-      ∙ ap (λ (x : Said Part). x >>= step (λ el′ n′ used. subscriptsFrom e (turns - 1) el′ n′ (at + used) (drop used s)) el n at) gave)
-      ∙ p
+      let next : Element → ℕ → ℕ → Said Dimensions = λ el′ n′ used. subscriptsFrom e (turns - 1) el′ n′ (at + used) (drop used s) in
+      let some : 0 < length s = omega (arith, length-drop at block) in
+      let turn = step-gave (nextSubscript e s) (step next el n at) (sym (one-turn e el n at s turns some h) ∙ p) in
+      let f = element-steps e s (readAttribute [] e s 1) refl (format-eight e s (turn .1) (first-byte at byte)) in
+      let of : «Type» = raised at (f .of) in
+      let used : ℕ = f .used in
+      let nothing : length (drop used s) ≡ 0 = length-drop used s ∙ omega (arith, last-used at byte all f) in
+      let rest : next (sofar.Is of) n used ≡ gives d = ap (step next el n at) (sym (f .is)) ∙ turn .2 in
+      let end : record { array = arrayOf of n; words = [] } ≡ d =
+      given-is (sym (at-end e (sofar.Is of) n (at + used) (drop used s) (turns - 1) nothing) ∙ rest)
       in
-      let end : record { array = arrayOf (raised at of) n; words = [] } ≡ d =
-      given-is (sym (at-end e (sofar.Is (raised at of)) n (at + used) (drop used s) (turns - 1) nothing) ∙ turn)
-      in
-      last-written at of byte gave (subst (λ (x : Dimensions). OfStandard e block (x .array .element)) (sym end) standard)
+      last-written at byte all f (subst (λ (x : Dimensions). OfStandard e block (x .array .element)) (sym end) standard)
   from-written (more at byte on bounded rest) turns el n {d} p h standard =
       let far : at + 11 < length block = plain-inside rest in
       let long : length (drop at block) ≡ length block - at = length-drop at block in
@@ -367,12 +450,6 @@ subscripts-only e {block} small plain {d} p standard =
 
 -- ---- what is written is such
 
--- bytes that end a section are all from their place on
-stands-last : {s : List ℕ} {at : ℕ} {xs : List ℕ} → Stands s at xs → at + length xs ≡ length s → drop at s ≡ xs
-stands-last {s} {at} {xs} q p =
-    let left : length (drop at s) ≡ length s - at = length-drop at s in
-    ext-getD 0 (drop at s) xs (omega arith) (λ i h. getD-drop at s i 0 ∙ q .same i (omega arith))
-
 module _ {numbers : List ℕ} (e : Endian) (a : Attribute numbers e) {t : Typed} (says : Says e t (a .kind) (a .value)) where
   -- the element type stands behind the dimensions
   element-stands : (dims : List Dimension) → Stands (writtenSubscripts e dims a) (length dims * 11) (8 ∷ writtenAttribute numbers e a)
@@ -399,11 +476,21 @@ module _ {numbers : List ℕ} (e : Endian) (a : Attribute numbers e) {t : Typed}
   plain-from : (block : List ℕ) (dims : List Dimension) (at : ℕ) → Stands block at (writtenSubscripts e dims a)
       → at + length (writtenSubscripts e dims a) ≡ length block → FromZero dims → Plain e block at
   unfolding writtenSubscripts writtenDimension
-  plain-from block [] at q end f =
+  plain-from block [] at q far f =
       let long : length (writtenAttribute numbers e a) ≡ 2 + length (a .body) = attribute-length e a says in
-      let used : 3 + length (a .body) ≡ length block - at = omega arith in
-      ends at (typeAt (saidFrom 3 (a .value)) t) (stands-byte block at 8 (writtenAttribute numbers e a) q)
-      (ap (nextSubscript e) (stands-last q end) ∙ element-read e a says ∙ ap (λ (k : ℕ). gives (element (typeAt (saidFrom 3 (a .value)) t) k)) used)
+      let attribute : Stands block (at + 1) (writtenAttribute numbers e a) = back-stands block at (8 ∷ []) (writtenAttribute numbers e a) q in
+      let number : valueOf e 2 block (at + 1) ≡ a .kind = number-read e 2 block (at + 1) (a .kind) (a .small) (attribute-number e a attribute) in
+      let three : at + 1 + 2 ≡ at + 3 = omega arith in
+      let value : valueEnd (formOf (a .kind)) e block (at + 3) ≡ end.At (at + 3 + length (a .body)) =
+      value-ends e says (a .written) (a .has-form) (subst (λ (k : ℕ). Stands block k (a .body)) three (attribute-value e a attribute))
+      in
+      let same : at + 3 + length (a .body) ≡ at + 3 + typeBytes e block (a .kind) (at + 3) =
+      subst (EndsAfter (at + 3) (typeBytes e block (a .kind) (at + 3))) value (kind-after e block (at + 3) (says-number says))
+      in
+      let bytes : typeBytes e block (valueOf e 2 block (at + 1)) (at + 3) ≡ typeBytes e block (a .kind) (at + 3) =
+      ap (λ (n : ℕ). typeBytes e block n (at + 3)) number
+      in
+      ends at (stands-byte block at 8 (writtenAttribute numbers e a) q) (omega arith)
   plain-from block (d ∷ dims) at q end f =
       let front : List ℕ = writtenDimension e d in
       let rest : List ℕ = writtenSubscripts e dims a in

@@ -15,7 +15,7 @@ use Rattle.numbers.proofs.Laws.Written.{bytes-length, number-answers, number-re
 use Rattle.numbers.proofs.Laws.Stands.{Stands, all-stands, none-stands, front-stands, back-stands}
 use Rattle.numbers.specs.declared.Endian.{Endian}
 use Rattle.standard.specs.Numbers.{OnList, fundamentalTypes, Form, formNumber}
-use Rattle.standard.specs.Entries.{Value, number, bytes, block, Written, address, reference, block2, block4, data2, data4, data8, string}
+use Rattle.standard.specs.Entries.{Value, number, bytes, block, text, Text, Written, address, reference, block2, block4, data2, data4, data8, string}
 use Rattle.standard.specs.Types.{Modifier, pointer-to, reference-to, const, volatile, modifierByte, modifierBytes, Base, Typed, Says, fund, mod-fund, user, mod-user}
 use Rattle.format.specs.Lookup.{isOn, lookup}
 use Rattle.format.specs.FundType.{fundTypes, fundTypeOf, parseInt}
@@ -212,12 +212,36 @@ as-block2 (data4 n h) p = absurd (omega arith)
 as-block2 (data8 n h) p = absurd (omega arith)
 as-block2 (string xs t) p = absurd (omega arith)
 
+pub as-data4 : {e : Endian} {form : Form} {value : Value} {body : List ℕ} → Written e form value body → 6 ≡ formNumber form
+    → (n : ℕ) × (n < 256 ^ 4) × (value ≡ number n) × (body ≡ bytesOf e 4 n)
+unfolding formNumber
+as-data4 (address n h) p = absurd (omega arith)
+as-data4 (reference n h) p = absurd (omega arith)
+as-data4 (block2 xs h b) p = absurd (omega arith)
+as-data4 (block4 xs h b) p = absurd (omega arith)
+as-data4 (data2 n h) p = absurd (omega arith)
+as-data4 (data4 n h) p = (n, h, refl, refl)
+as-data4 (data8 n h) p = absurd (omega arith)
+as-data4 (string xs t) p = absurd (omega arith)
+
+pub as-text : {e : Endian} {form : Form} {value : Value} {body : List ℕ} → Written e form value body → 8 ≡ formNumber form
+    → (xs : List ℕ) × Text xs × (value ≡ bytes xs) × (body ≡ text xs)
+unfolding formNumber
+as-text (address n h) p = absurd (omega arith)
+as-text (reference n h) p = absurd (omega arith)
+as-text (block2 xs h b) p = absurd (omega arith)
+as-text (block4 xs h b) p = absurd (omega arith)
+as-text (data2 n h) p = absurd (omega arith)
+as-text (data4 n h) p = absurd (omega arith)
+as-text (data8 n h) p = absurd (omega arith)
+as-text (string xs t) p = (xs, t, refl, refl)
+
 -- ---- what is written is read
 
-same-number : {m n : ℕ} → number m ≡ number n → n ≡ m
+pub same-number : {m n : ℕ} → number m ≡ number n → n ≡ m
 same-number p = cc
 
-same-bytes : {xs ys : List ℕ} → bytes xs ≡ bytes ys → ys ≡ xs
+pub same-bytes : {xs ys : List ℕ} → bytes xs ≡ bytes ys → ys ≡ xs
 same-bytes p = cc
 
 module _ {e : Endian} {form : Form} {body s : List ℕ} {at : ℕ} (q : Stands s at body) where

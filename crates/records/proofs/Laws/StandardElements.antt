@@ -5,7 +5,7 @@ use native.Mathlib.Decide.{decLe}
 use native.Mathlib.Omega.{arith}
 use mathlib.Core.Path.{_≡_, refl, sym, ap, subst, _∙_}
 use mathlib.Core.List.{List, [], _∷_, _++_}
-use lib.ListN.{length, getD, take, drop, length-append}
+use lib.ListN.{length, take, drop, length-append}
 use lib.Dec.{ltb}
 use lib.IntN.{ℤ}
 use borrow.Author.Tests.{lt-ltb, ltb-true}
@@ -24,9 +24,9 @@ use Rattle.format.specs.Said.{Said, gives, _>>=_, placed}
 use Rattle.format.proofs.Laws.Said.{given-is, given-refused, step-gave}
 use Rattle.attributes.specs.Text.{zeroFrom}
 use Rattle.attributes.specs.Parts.{blockAt}
-use Rattle.attributes.proofs.Laws.Text.{zero-here, zero-next, zero-end, zero-after}
+use Rattle.attributes.proofs.Laws.Text.{zero-after, zero-behind, FirstZero, first-zero}
 use Rattle.attributes.specs.declared.decode.Endians.{Endians}
-use Rattle.blocks.proofs.Laws.Placed.{split-stands, stands-part, bytes-within}
+use Rattle.blocks.proofs.Laws.Placed.{split-stands, stands-at, stands-part, bytes-within}
 use Rattle.blocks.proofs.Laws.StandardTypes.{block-stands, block-there}
 use Rattle.records.specs.Scan.{attributeAt}
 use Rattle.records.specs.Enumeration.{sizeBefore, listAt}
@@ -39,53 +39,7 @@ use Rattle.records.specs.declared.elements.Element as reader
 use Rattle.records.specs.declared.elements.Element.the-variants as element
 use Rattle.records.proofs.Laws.Elements.{from-turn, from-end}
 
--- what stands between two parts of a section
-pub stands-at : {s : List ℕ} {at : ℕ} (before body behind : List ℕ) → s ≡ before ++ (body ++ behind) → length before ≡ at → Stands s at body
-stands-at {s} before body behind p h =
-    subst (λ (k : ℕ). Stands s k body) h (subst (λ (u : List ℕ). Stands u (length before) body) (sym p) (split-stands before body behind))
-
 -- ---- the zero behind a text
-
-module _ (s : List ℕ) where
-  zero-behind : (n at : ℕ) → at + n < length s → ((i : ℕ) → i < n → getD s (at + i) 0 ≡ 0 → ⊥) → getD s (at + n) 0 ≡ 0 → zeroFrom s at ≡ at + n
-  zero-behind zero at h before here = zero-here s at (omega arith) (ap (λ (k : ℕ). getD s k 0) (sym (add-zero at)) ∙ here) ∙ sym (add-zero at)
-  zero-behind (suc n) at h before here =
-      let place : at + suc n ≡ at + 1 + n = omega arith in
-      zero-next s at (omega arith) (λ p. before 0 (omega arith) (ap (λ (k : ℕ). getD s k 0) (add-zero at) ∙ p))
-      ∙ zero-behind n (at + 1) (omega arith)
-      (λ i b p. let there : at + suc i ≡ at + 1 + i = omega arith in before (suc i) (omega arith) (ap (λ (k : ℕ). getD s k 0) there ∙ p))
-      (ap (λ (k : ℕ). getD s k 0) (sym place) ∙ here)
-      ∙ sym place
-
-  -- a zero stands at z, and none from `at` on before it
-  record FirstZero (at z : ℕ) : Type 0 where
-    here : getD s z 0 ≡ 0
-    before : (i : ℕ) → at ≤ i → i < z → getD s i 0 ≡ 0 → ⊥
-
-  first-zero : (n at : ℕ) → length s ≤ at + n → zeroFrom s at < length s → FirstZero at (zeroFrom s at)
-  first-zero zero at h found = let end : zeroFrom s at ≡ at = zero-end s at (omega arith) in absurd (omega arith)
-  first-zero (suc n) at h found =
-      elim (decLe (length s) at) [
-        | yes past ↦ let end : zeroFrom s at ≡ at = zero-end s at past in absurd (omega arith)
-        | no inside ↦ elim (decLe (getD s at 0) 0) [
-          | yes none ↦
-              let is : getD s at 0 ≡ 0 = omega arith in
-              subst (FirstZero at) (sym (zero-here s at (lt-of-not-le inside) is))
-              (record { here = is; before = λ i from b p. omega arith })
-          | no some ↦
-              let other : getD s at 0 ≡ 0 → ⊥ = λ p. omega arith in
-              let next : zeroFrom s at ≡ zeroFrom s (at + 1) = zero-next s at (lt-of-not-le inside) other in
-              let later : FirstZero (at + 1) (zeroFrom s (at + 1)) = first-zero n (at + 1) (omega arith) (omega arith) in
-              subst (FirstZero at) (sym next) (record { here = later .here; before = λ i from b p. earlier (later .before) i from b p other })
-        ]
-      ]
-    where
-      earlier : {at z : ℕ} → ((i : ℕ) → at + 1 ≤ i → i < z → getD s i 0 ≡ 0 → ⊥) → (i : ℕ) → at ≤ i → i < z → getD s i 0 ≡ 0 → (getD s at 0 ≡ 0 → ⊥) → ⊥
-      earlier {at} later i from b p other =
-          elim (decLe (at + 1) i) [
-            | yes more ↦ later i more b p
-            | no same ↦ let here : i ≡ at = omega arith in other (ap (λ (k : ℕ). getD s k 0) (sym here) ∙ p)
-          ]
 
 -- a text that stands somewhere ends at its zero
 pub text-ends : {s : List ℕ} {at : ℕ} {xs : List ℕ} → Text xs → Stands s at (text xs) → zeroFrom s at ≡ at + length xs

@@ -1,7 +1,6 @@
 -- What a row says of a member in the standard's words is what its record says.
 use Prim.Native.Nat.{ℕ, _-_, _%_, _^_, _<_}
 use native.Mathlib.Nat.{add-sub-cancel-left}
-use native.Mathlib.Omega.{arith}
 use mathlib.Core.Path.{_≡_, refl, sym, ap, subst, _∙_}
 use mathlib.Core.List.{List}
 use lib.ListN.{length}
@@ -13,8 +12,7 @@ use Rattle.numbers.specs.declared.unsigned.Read16.{Read16}
 use Rattle.numbers.specs.declared.unsigned.Read16.the-variants as read16
 use Rattle.numbers.specs.declared.unsigned.Read32.{Read32}
 use Rattle.numbers.specs.declared.unsigned.Read32.the-variants as read32
-use Rattle.standard.specs.Numbers.{Form, formNumber}
-use Rattle.standard.specs.Entries.{Value, number, bytes, block, text, Text, Written, address, reference, block2, block4, data2, data4, data8, string}
+use Rattle.standard.specs.Entries.{Value, bytes, block, text, Text}
 use Rattle.standard.specs.Locations.{writtenLocation, plus}
 use Rattle.standard.specs.Types.{Typed, Says}
 use Rattle.standard.specs.Members as standard
@@ -29,7 +27,8 @@ use Rattle.attributes.specs.declared.decode.Endians.{Endians}
 use Rattle.blocks.specs.Location.{processOffset}
 use Rattle.blocks.specs.Types.{processType}
 use Rattle.blocks.specs.Standard.{typeAt, saidFrom, SaysAt, alike}
-use Rattle.blocks.proofs.Laws.StandardTypes.{as-data2, as-block2, block-there, type-read}
+use Rattle.blocks.proofs.Laws.Placed.{stands-at}
+use Rattle.blocks.proofs.Laws.StandardTypes.{as-data2, as-data4, as-block2, as-text, same-number, same-bytes, block-there, type-read}
 use Rattle.blocks.proofs.Laws.StandardRead.{offset-read}
 use Rattle.links.specs.Typed.{asValue, asWidened, wordAt}
 use Rattle.records.specs.Scan.{attributeAt}
@@ -45,39 +44,7 @@ use Rattle.records.specs.declared.fields.Name.the-variants as name
 use Rattle.records.specs.declared.fields.Word.{Word}
 use Rattle.records.specs.declared.fields.Word.the-variants as word
 use Rattle.records.specs.declared.member.Bits.{Bits}
-use Rattle.records.proofs.Laws.StandardElements.{stands-at, text-ends}
-
--- ---- a value in the form of its number
-
-as-data4 : {e : Endian} {form : Form} {value : Value} {body : List ℕ} → Written e form value body → 6 ≡ formNumber form
-    → (n : ℕ) × (n < 256 ^ 4) × (value ≡ number n) × (body ≡ bytesOf e 4 n)
-unfolding formNumber
-as-data4 (address n h) p = absurd (omega arith)
-as-data4 (reference n h) p = absurd (omega arith)
-as-data4 (block2 xs h b) p = absurd (omega arith)
-as-data4 (block4 xs h b) p = absurd (omega arith)
-as-data4 (data2 n h) p = absurd (omega arith)
-as-data4 (data4 n h) p = (n, h, refl, refl)
-as-data4 (data8 n h) p = absurd (omega arith)
-as-data4 (string xs t) p = absurd (omega arith)
-
-as-text : {e : Endian} {form : Form} {value : Value} {body : List ℕ} → Written e form value body → 8 ≡ formNumber form
-    → (xs : List ℕ) × Text xs × (value ≡ bytes xs) × (body ≡ text xs)
-unfolding formNumber
-as-text (address n h) p = absurd (omega arith)
-as-text (reference n h) p = absurd (omega arith)
-as-text (block2 xs h b) p = absurd (omega arith)
-as-text (block4 xs h b) p = absurd (omega arith)
-as-text (data2 n h) p = absurd (omega arith)
-as-text (data4 n h) p = absurd (omega arith)
-as-text (data8 n h) p = absurd (omega arith)
-as-text (string xs t) p = (xs, t, refl, refl)
-
-same-number : {m n : ℕ} → number m ≡ number n → n ≡ m
-same-number p = cc
-
-same-bytes : {xs ys : List ℕ} → bytes xs ≡ bytes ys → ys ≡ xs
-same-bytes p = cc
+use Rattle.records.proofs.Laws.StandardElements.{text-ends}
 
 -- ---- where it stands
 
