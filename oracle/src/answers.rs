@@ -83,7 +83,7 @@ fn record<T>(
     if fine(info, tag).is_ok() {
         return answer(asked(|| call(info, tag)), words);
     }
-    let copy = plain(info).ok_or("no copy: every key behind a row is named")?;
+    let copy = plain(info)?;
     let tag = &copy.tags[&tag.key];
     match fine(&copy, tag) {
         Ok(()) => answer(asked_of_copy(|| call(&copy, tag)), words),
@@ -246,7 +246,7 @@ fn sized<T>(
             return told(found, deepest, words);
         }
     }
-    let copy = plain(info).ok_or("no copy: every key behind a row is named")?;
+    let copy = plain(info)?;
     match seen(&copy) {
         Ok((_, deepest)) => told(asked_of_copy(|| call(&copy)), deepest, words),
         Err(Why::Refused) => refused_by(&SIZED),

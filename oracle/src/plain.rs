@@ -149,13 +149,15 @@ impl<'a> Plain<'a> {
     }
 }
 
-/// The copy: every row at its key, with what counts of it and inside it. None where every key behind a row is named.
-pub fn plain(info: &DwarfInfo) -> Option<DwarfInfo> {
+/// The copy: every row at its key, with what counts of it and inside it; or why there is none.
+pub fn plain(info: &DwarfInfo) -> Result<DwarfInfo, &'static str> {
     let mut laid = Plain { from: &info.tags, to: TagMap::new(), named: named(info), next: INSIDE };
     for tag in info.tags.values() {
-        laid.lay(tag, tag.key, if is_sized(tag.kind) || record_of(tag.kind).is_some() { 2 } else { 0 })?;
+        // A row and its members' own children.
+        let levels = if is_sized(tag.kind) || record_of(tag.kind).is_some() { 2 } else { 0 };
+        laid.lay(tag, tag.key, levels).ok_or("no copy: every key behind a row is named")?;
     }
     let mut copy = info.clone();
     copy.tags = laid.to;
-    Some(copy)
+    Ok(copy)
 }
