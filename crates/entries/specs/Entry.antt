@@ -10,14 +10,14 @@ use Rattle.numbers.specs.declared.Endian.{Endian}
 use Rattle.numbers.specs.declared.Endian.the-variants.{Big, Little}
 use Rattle.format.specs.Known.{known}
 use Rattle.format.specs.TagKind as tag
-use Rattle.format.specs.Said.{Said, gives, refuse, _>>=_, placed}
+use Rattle.format.specs.Said.{Said, gives, refuse, unread, _>>=_, placed}
 use Rattle.format.specs.declared.refusal.Reason.the-variants as reason
 use Rattle.tables.specs.declared.row.Row.{Row}
 use Rattle.tables.specs.declared.row.Attr.{Attr}
 use Rattle.entries.specs.Head.{headAt}
 use Rattle.entries.specs.Run.{AttrsRead, readRun}
 use Rattle.entries.specs.declared.head.Head.{Head}
-use Rattle.entries.specs.declared.head.Head.the-variants.{Null, Skipped, Root, Ordinary, Refused}
+use Rattle.entries.specs.declared.head.Head.the-variants.{Null, Skipped, Root, Ordinary, Unread}
 
 -- what reading an entry comes to: its row (none for padding that is stepped over), its attributes, where reading stopped; of an erased root also the
 -- data endianness inside it and where it ends. A refusal's place is the entry's key
@@ -54,7 +54,7 @@ rootKind high = cond high tag.Subroutine tag.LocalVariable
 -- the data endianness of a root at `at`: outside erased data two bytes are looked at, and if they are no known attribute number it flips
 unfoldable pub rootEndian : List ℕ → List ℕ → Bool → Endian → ℕ → Said Endian
 rootEndian vendors s true e at = gives e
-rootEndian vendors s false e at = readAt (λ n. gives (cond (known vendors n) e (flip e))) (refuse reason.Short at) e 2 s (at + 6)
+rootEndian vendors s false e at = readAt (λ n. gives (cond (known vendors n) e (flip e))) (unread reason.Short at (at + 6)) e 2 s (at + 6)
 
 module _ (r : Source) where
   -- the attributes of the entry at `at`: they begin after size and tag
@@ -76,7 +76,7 @@ module _ (r : Source) where
   entryFrom levels m at a (Ordinary kind end) = do
     run ← attributes (m .endian) false end at
     gives (next (row (m .erased) false (m .endian) at kind a (run .attrs) ∷ []) (run .attrs) (run .stopped))
-  entryFrom levels m at a (Refused why) = refuse why at
+  entryFrom levels m at a (Unread why byte) = unread why at byte
 
   -- the entry at `at`, whose attributes begin with number a of the table
   unfoldable pub readEntry : Bool → ℕ → Mode → ℕ → ℕ → Said Entry

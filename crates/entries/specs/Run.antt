@@ -8,14 +8,15 @@ use Rattle.format.specs.Settings.{plays}
 use Rattle.numbers.specs.Value.{readAt}
 use Rattle.numbers.specs.declared.Endian.{Endian}
 use Rattle.format.specs.AttributeKind as number
-use Rattle.format.specs.Said.{Said, gives, refuse, _>>=_}
+use Rattle.format.specs.Said.{Said, gives, unread, _>>=_}
 use Rattle.format.specs.declared.refusal.Reason.the-variants as reason
 use Rattle.attributes.specs.Read.{readAttribute}
 use Rattle.attributes.specs.declared.read.Attribute.{Attribute}
 use Rattle.attributes.specs.declared.read.Attribute.the-variants.{Read, Short, Unknown}
 use Rattle.tables.specs.declared.row.Attr.{Attr}
 
--- what reading attributes comes to: the attributes, whether a HighPc was among them, and where reading stopped. A refusal's place is the field's
+-- what reading attributes comes to: the attributes, whether a HighPc was among them, and where reading stopped. A refusal's place and
+-- byte are the field's first byte: an entry tells it at its key
 pub record AttrsRead : Type 0 where
   pub attrs : List Attr
   pub high : Bool
@@ -38,8 +39,8 @@ unfoldable pub readOn : Attribute → (ℕ → ℕ → Said AttrsRead) → Said 
 readOn (Read n value next) follow = do
   later ← follow n next
   gives (ran (attr n value ∷ later .attrs) (later .high) (later .stopped))
-readOn (Short field) follow = refuse reason.Short field
-readOn (Unknown field) follow = refuse reason.Attribute field
+readOn (Short field) follow = unread reason.Short field field
+readOn (Unknown field) follow = unread reason.Attribute field field
 
 -- the attributes from `at` up to `end`; at most as many as the first number, which is never reached. Only an erased root looks for a HighPc
 unfoldable pub readRun : Source → Endian → Bool → ℕ → ℕ → Bool → ℕ → Said AttrsRead

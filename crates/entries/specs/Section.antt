@@ -8,7 +8,7 @@ use Rattle.entries.specs.Source.{source, mode}
 use Rattle.lent.specs.Outcome.{Outcomes}
 use Rattle.format.specs.Limits.{sectionLimit, erasedLimit}
 use Rattle.format.specs.Settings.{settingsHold}
-use Rattle.format.specs.Said.{Said, gives, refusal, wanting, must, _>>=_, _>>_, inRooms, fillsRooms}
+use Rattle.format.specs.Said.{Said, gives, refusal, unread, wanting, must, _>>=_, _>>_, inRooms, fillsRooms}
 use Rattle.format.specs.declared.settings.Settings.{Settings}
 use Rattle.format.specs.declared.refusal.Reason.the-variants as reason
 use Rattle.tables.specs.Holds.{fitting}
@@ -18,17 +18,19 @@ use Rattle.entries.specs.Walk.{Entries, readTags}
 use Rattle.entries.specs.declared.section.Count.{Count}
 use Rattle.entries.specs.declared.section.Count.the-variants as count
 use Rattle.entries.specs.declared.section.Section.{Section}
-use Rattle.entries.specs.declared.section.Section.the-variants.{Read, Refused, Room}
+use Rattle.entries.specs.declared.section.Section.the-variants.{Read, Refused, Unread, Room}
 
 -- what counting says
 unfoldable pub saidCount : Count → Said Counts
 saidCount (count.Counted counts) = gives counts
 saidCount (count.Refused why) = refusal why
+saidCount (count.Unread why byte) = unread (why .reason) (why .place) byte
 
 -- what reading says
 unfoldable pub saidSection : Section → Said Counts
 saidSection (Read counts) = gives counts
 saidSection (Refused why) = refusal why
+saidSection (Unread why byte) = unread (why .reason) (why .place) byte
 saidSection (Room counts) = wanting (counts .rows ∷ counts .attrs ∷ [])
 
 -- the whole section, from its first byte to its last: outside erased data, in section endianness, sixteen levels allowed

@@ -43,7 +43,10 @@ pub enum Entry {
     Next(State),
     // A root was read: its inside follows, in this endianness, up to this end.
     Inside(State, Endian, usize),
-    Refused(Reason),
+    // A root where no further level is allowed: refusal 7.
+    Nested,
+    // Refusals 4 to 6: the first byte of the field that could not be read or was not known.
+    Unread(Reason, usize),
 }
 
 fn flipped(e: Endian) -> Endian
@@ -98,7 +101,7 @@ pub struct Shape {
 
 pub enum Body {
     Read(State),
-    Refused(Reason),
+    Unread(Reason, usize),
 }
 
 // The attributes of the entry at a state's place are read and stored, then its row.
@@ -144,14 +147,14 @@ fn read_body(
                 attrs: n,
             })
         }
-        AttrsRead::Refused(why) => Body::Refused(why),
+        AttrsRead::Unread(why, byte) => Body::Unread(why, byte),
     }
 }
 
-// The data endianness of a root, or that there are no two bytes to look at.
+// The data endianness of a root; or where the two bytes to look at, which are not there, would begin.
 pub enum Look {
     Is(Endian),
-    Short,
+    Short(usize),
 }
 
 fn root_endian(s: &[u8], vendors: &[u16], mode: Mode, at: usize) -> Look
@@ -170,7 +173,7 @@ fn root_endian(s: &[u8], vendors: &[u16], mode: Mode, at: usize) -> Look
                 Look::Is(flipped(e))
             }
         }
-        Read16::Short => Look::Short,
+        Read16::Short => Look::Short(at + 6),
     }
 }
 
@@ -193,7 +196,7 @@ fn read_root(
         ⌝ }
 {
     if levels == 0 {
-        return Entry::Refused(Reason::Nested);
+        return Entry::Nested;
     }
     match root_endian(s, vendors, mode, from.at) {
         Look::Is(e) => {
@@ -206,10 +209,10 @@ fn read_root(
             };
             match read_body(s, vendors, global, rows, attrs, shape, from) {
                 Body::Read(state) => Entry::Inside(state, e, end),
-                Body::Refused(why) => Entry::Refused(why),
+                Body::Unread(why, byte) => Entry::Unread(why, byte),
             }
         }
-        Look::Short => Entry::Refused(Reason::Short),
+        Look::Short(byte) => Entry::Unread(Reason::Short, byte),
     }
 }
 
@@ -262,7 +265,7 @@ fn read_ordinary(
     };
     match read_body(s, vendors, global, rows, attrs, shape, from) {
         Body::Read(state) => Entry::Next(state),
-        Body::Refused(why) => Entry::Refused(why),
+        Body::Unread(why, byte) => Entry::Unread(why, byte),
     }
 }
 
@@ -304,6 +307,6 @@ pub(crate) fn read_entry(
             end,
             from,
         ),
-        Head::Refused(why) => Entry::Refused(why),
+        Head::Unread(why, byte) => Entry::Unread(why, byte),
     }
 }

@@ -20,7 +20,8 @@ pub enum Head {
     // An erased root, and an ordinary entry of some kind: where it ends.
     Root(usize),
     Ordinary { kind: u16, end: usize },
-    Refused(Reason),
+    // A field that could not be read, or a tag that is not known: its first byte.
+    Unread(Reason, usize),
 }
 
 fn null_end(at: usize, size: u32) -> usize
@@ -34,8 +35,8 @@ fn null_end(at: usize, size: u32) -> usize
     }
 }
 
-fn tag_head(erased: bool, end: usize, kind: u16) -> Head
-    ensures { λ r. ⌜ r ≡ tagHead erased end kind ⌝ }
+fn tag_head(erased: bool, end: usize, place: usize, kind: u16) -> Head
+    ensures { λ r. ⌜ r ≡ tagHead erased end place kind ⌝ }
 {
     if is_tag(kind) {
         if kind == PADDING {
@@ -48,7 +49,7 @@ fn tag_head(erased: bool, end: usize, kind: u16) -> Head
             Head::Ordinary { kind, end }
         }
     } else {
-        Head::Refused(Reason::Tag)
+        Head::Unread(Reason::Tag, place)
     }
 }
 
@@ -60,8 +61,8 @@ fn size_head(erased: bool, s: &[u8], e: Endian, at: usize, size: u32) -> Head
         return Head::Null(null_end(at, size));
     }
     match u16_at(s, at + 4, e) {
-        Read16::Value(kind) => tag_head(erased, at + size as usize, kind),
-        Read16::Short => Head::Refused(Reason::Short),
+        Read16::Value(kind) => tag_head(erased, at + size as usize, at + 4, kind),
+        Read16::Short => Head::Unread(Reason::Short, at + 4),
     }
 }
 
@@ -71,6 +72,6 @@ pub(crate) fn head_at(erased: bool, s: &[u8], e: Endian, at: usize) -> Head
 {
     match u32_at(s, at, e) {
         Read32::Value(size) => size_head(erased, s, e, at, size),
-        Read32::Short => Head::Refused(Reason::Short),
+        Read32::Short => Head::Unread(Reason::Short, at),
     }
 }

@@ -21,7 +21,8 @@ ghost use Rattle.entries.specs.Inside.Promise.{RunReady, RunRead};
 // Where reading stopped, how many attributes the table then has, whether a HighPc was among those read.
 pub enum AttrsRead {
     Ran { at: usize, attrs: usize, high: bool },
-    Refused(Reason),
+    // The first byte of the field that could not be read, or of the number that is not known.
+    Unread(Reason, usize),
 }
 
 // Does the number play the role? 0 stands for absent.
@@ -92,8 +93,8 @@ pub(crate) fn read_run(
                 high = high | (root & (number == HIGH_PC));
                 place = next;
             }
-            Attribute::Short(_) => return AttrsRead::Refused(Reason::Short),
-            Attribute::Unknown(_) => return AttrsRead::Refused(Reason::Attribute),
+            Attribute::Short(field) => return AttrsRead::Unread(Reason::Short, field),
+            Attribute::Unknown(field) => return AttrsRead::Unread(Reason::Attribute, field),
         }
     }
     AttrsRead::Ran {

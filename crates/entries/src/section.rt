@@ -27,13 +27,19 @@ ghost use Rattle.entries.specs.Section.{saidCount, saidSection, wholeWal
 // What counting answers.
 pub enum Count {
     Counted(Counts),
+    // 1, 2 or 7.
     Refused(Refusal),
+    // 4, 5 or 6: also the first byte of the field that could not be read or was not known.
+    Unread { why: Refusal, byte: u64 },
 }
 
 // What reading answers.
 pub enum Section {
     Read(Counts),
+    // 1, 2 or 7.
     Refused(Refusal),
+    // 4, 5 or 6: also the first byte of the field that could not be read or was not known.
+    Unread { why: Refusal, byte: u64 },
     // Refusal 8, at 0: what is needed.
     Room(Counts),
 }
@@ -111,7 +117,14 @@ pub fn count_debug_section(s: &[u8], settings: Settings, vendors: &[u16], sizes:
             rows: state.rows,
             attrs: state.attrs,
         }),
-        Walk::Refused(why, place) => refused(why, place as u64),
+        Walk::Nested(key) => refused(Reason::Nested, key as u64),
+        Walk::Unread { why, key, byte } => Count::Unread {
+            why: Refusal {
+                reason: why,
+                place: key as u64,
+            },
+            byte: byte as u64,
+        },
     }
 }
 
@@ -155,5 +168,6 @@ pub fn read_debug_section(
             }
         }
         Count::Refused(why) => Section::Refused(why),
+        Count::Unread { why, byte } => Section::Unread { why, byte },
     }
 }

@@ -12,8 +12,13 @@ ghost use Rattle.entries.specs.Inside.Promise.{Ready, farthest, WalkRead
 
 pub enum Walk {
     Walked(State),
-    // The reason, and the innermost entry's key.
-    Refused(Reason, usize),
+    // Refusal 7, and refusals 4 to 6 with the first byte of the field; each with the innermost entry's key.
+    Nested(usize),
+    Unread {
+        why: Reason,
+        key: usize,
+        byte: usize,
+    },
 }
 
 // The entries from a state up to `end`: the Rust's `read_tags`.
@@ -55,10 +60,18 @@ pub(crate) fn read_tags(
                     next,
                 ) {
                     Walk::Walked(after) => state = after,
-                    Walk::Refused(why, place) => return Walk::Refused(why, place),
+                    Walk::Nested(key) => return Walk::Nested(key),
+                    Walk::Unread { why, key, byte } => return Walk::Unread { why, key, byte },
                 }
             }
-            Entry::Refused(why) => return Walk::Refused(why, state.at),
+            Entry::Nested => return Walk::Nested(state.at),
+            Entry::Unread(why, byte) => {
+                return Walk::Unread {
+                    why,
+                    key: state.at,
+                    byte,
+                };
+            }
         }
     }
     Walk::Walked(state)

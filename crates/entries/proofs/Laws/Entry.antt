@@ -12,7 +12,7 @@ use Rattle.numbers.specs.declared.Endian.{Endian}
 use Rattle.numbers.specs.declared.Endian.the-variants.{Big, Little}
 use Rattle.format.specs.Known.{known}
 use Rattle.format.specs.TagKind as tag
-use Rattle.format.specs.Said.{Said, gives, refuses, refuse, _>>=_, placed}
+use Rattle.format.specs.Said.{Said, gives, refuses, refuse, unread, _>>=_, placed}
 use Rattle.format.proofs.Laws.Said.{case-said}
 use Rattle.format.specs.declared.refusal.Reason.{Reason}
 use Rattle.format.specs.declared.refusal.Reason.the-variants as reason
@@ -60,15 +60,15 @@ told-ran (refuses number field counts) attrs {place = place} {n} {high} a t =
     absurd (omega arith)
 
 -- and one that was refused is told at any place
-told-failed : (what : Said AttrsRead) (attrs : ℕ) {r : run.the-data} {why : Reason} → ((key : ℕ) → saidRun key r ≡ runAnswer attrs (placed key what))
-    → r ≡ run.Refused why → (key : ℕ) → placed key what ≡ refuse why key
+told-failed : (what : Said AttrsRead) (attrs : ℕ) {r : run.the-data} {why : Reason} {byte : ℕ} → ((key : ℕ) → saidRun key r ≡ runAnswer attrs (placed key what))
+    → r ≡ run.Unread why byte → (key : ℕ) → placed key what ≡ unread why key byte
 unfolding saidRun placed _>>=_
-told-failed (gives x) attrs {why = why} a t key =
-    let same : refuse why 0 ≡ gives (run.Ran (x .stopped) (attrs + length (x .attrs)) (x .high)) = case-said (saidRun 0) (a 0) t in
+told-failed (gives x) attrs {why = why} {byte} a t key =
+    let same : unread why 0 byte ≡ gives (run.Ran (x .stopped) (attrs + length (x .attrs)) (x .high)) = case-said (saidRun 0) (a 0) t in
     let z : _≡_ {A = ℕ} 0 1 = cc in
     absurd (omega arith)
-told-failed (refuses number field counts) attrs {why = why} a t key =
-    let same : _≡_ {A = Said run.the-data} (refuse why key) (refuses number key counts) = case-said (saidRun key) (a key) t in
+told-failed (refuses number field counts) attrs {why = why} {byte} a t key =
+    let same : _≡_ {A = Said run.the-data} (unread why key byte) (refuses number key counts) = case-said (saidRun key) (a key) t in
     cc
 
 module _ (s : List ℕ) (from : State) (ready : BodyReady s from) (shape : Shape) (what : Said AttrsRead) {rows₀ rows₁ attrs₀ attrs₁ : List ℕ} where
@@ -113,8 +113,8 @@ module _ (s : List ℕ) (from : State) (ready : BodyReady s from) (shape : Shape
             );
       }
 
-  pub body-refused : {r : run.the-data} {why : Reason} → RunRead s (from .at + 6) (from .attrs) what r attrs₀ attrs₁ → r ≡ run.Refused why
-      → BodyRead s from shape (placed (from .at) what) (body.Refused why) rows₀ rows₁ attrs₀ attrs₁
+  pub body-refused : {r : run.the-data} {why : Reason} {byte : ℕ} → RunRead s (from .at + 6) (from .attrs) what r attrs₀ attrs₁ → r ≡ run.Unread why byte
+      → BodyRead s from shape (placed (from .at) what) (body.Unread why byte) rows₀ rows₁ attrs₀ attrs₁
   unfolding saidBody _>>=_
   body-refused q t =
       let is = told-failed what (from .attrs) (q .answer) t (from .at) in
@@ -169,26 +169,36 @@ module _ (s : List ℕ) (from : State) {rows₀ rows₁ attrs₀ attrs₁ : List
       absurd (omega arith)
 
   -- what refuses the attributes refuses the entry
-  pub body-stops : (shape : Shape) (entryOf : AttrsRead → Entry) (what : Said AttrsRead) {b : body.the-data} {why : Reason}
-      → BodyRead s from shape what b rows₀ rows₁ attrs₀ attrs₁ → b ≡ body.Refused why
-      → EntryRead s from (what >>= (λ run. gives (entryOf run))) (entry.Refused why) rows₀ rows₁ attrs₀ attrs₁
+  pub body-stops : (shape : Shape) (entryOf : AttrsRead → Entry) (what : Said AttrsRead) {b : body.the-data} {why : Reason} {byte : ℕ}
+      → BodyRead s from shape what b rows₀ rows₁ attrs₀ attrs₁ → b ≡ body.Unread why byte
+      → EntryRead s from (what >>= (λ run. gives (entryOf run))) (entry.Unread why byte) rows₀ rows₁ attrs₀ attrs₁
   unfolding saidBody saidEntry _>>=_
-  body-stops shape entryOf (gives x) {b} {why} q t =
-      let same : refuse why (from .at) ≡ gives (advanced from 1 (length (x .attrs)) (x .stopped)) = case-said (saidBody (from .at)) (q .answer) t in
+  body-stops shape entryOf (gives x) {b} {why} {byte} q t =
+      let same : unread why (from .at) byte ≡ gives (advanced from 1 (length (x .attrs)) (x .stopped)) = case-said (saidBody (from .at)) (q .answer) t in
       let z : _≡_ {A = ℕ} 0 1 = cc in
       absurd (omega arith)
-  body-stops shape entryOf (refuses number place counts) {b} {why} q t =
-      let same : _≡_ {A = Said State} (refuse why (from .at)) (refuses number place counts) = case-said (saidBody (from .at)) (q .answer) t in
+  body-stops shape entryOf (refuses number place counts) {b} {why} {byte} q t =
+      let same : _≡_ {A = Said State} (unread why (from .at) byte) (refuses number place counts) = case-said (saidBody (from .at)) (q .answer) t in
       record { answer = cc; stores = tt }
 
   -- a refusal that the entry is by its definition
-  pub stopped : {what : Said Entry} (why : Reason) → what ≡ refuse why (from .at) → EntryRead s from what (entry.Refused why) rows₀ rows₁ attrs₀ attrs₁
-  unfolding saidEntry _>>=_
-  stopped why p =
+  refused : {what : Said Entry} {r : entry.the-data} {number place : ℕ} {told : List ℕ} → what ≡ refuses number place told
+      → saidEntry (from .at) r ≡ refuses number place told → EntryRead s from what r rows₀ rows₁ attrs₀ attrs₁
+  unfolding _>>=_
+  refused p q =
       record {
-        answer = ap (λ (w : Said Entry). w >>= (λ x. gives (entryAnswer from x))) (sym p);
+        answer = q ∙ ap (λ (w : Said Entry). w >>= (λ x. gives (entryAnswer from x))) (sym p);
         stores = subst (λ (w : Said Entry). EntryStores s from w rows₀ rows₁ attrs₀ attrs₁) (sym p) tt;
       }
+
+  pub stopped : {what : Said Entry} (why : Reason) {byte : ℕ} → what ≡ unread why (from .at) byte
+      → EntryRead s from what (entry.Unread why byte) rows₀ rows₁ attrs₀ attrs₁
+  unfolding saidEntry
+  stopped why p = refused p refl
+
+  pub too-deep : {what : Said Entry} → what ≡ refuse reason.Nested (from .at) → EntryRead s from what entry.Nested rows₀ rows₁ attrs₀ attrs₁
+  unfolding saidEntry
+  too-deep p = refused p refl
 
   -- the same entry under another name
   pub renamed : {what what′ : Said Entry} {r : entry.the-data} → what ≡ what′ → EntryRead s from what′ r rows₀ rows₁ attrs₀ attrs₁
@@ -209,8 +219,8 @@ module _ (vendors : List ℕ) (global : ℕ) (s : List ℕ) (isErased : Bool) (e
   root-is zero h is t = absurd (h refl)
   root-is (suc l) h is t = rw (← case-said (saidLook at) is t)
 
-  pub root-short : (levels : ℕ) {r : look.the-data} → (levels ≡ 0 → ⊥) → saidLook at r ≡ rootEndian vendors s isErased e at → r ≡ look.Short
-      → entryFrom (source vendors global s) levels (mode isErased e) at a (head.Root end) ≡ refuse reason.Short at
+  pub root-short : (levels : ℕ) {r : look.the-data} {byte : ℕ} → (levels ≡ 0 → ⊥) → saidLook at r ≡ rootEndian vendors s isErased e at → r ≡ look.Short byte
+      → entryFrom (source vendors global s) levels (mode isErased e) at a (head.Root end) ≡ unread reason.Short at byte
   unfolding entryFrom saidLook _>>=_
   root-short zero h is t = absurd (h refl)
   root-short (suc l) h is t = rw (← case-said (saidLook at) is t)
@@ -222,20 +232,20 @@ module _ (vendors s : List ℕ) (e : Endian) (at : ℕ) where
   endian-inside h = rw h
 
   pub endian-known : {isErased : Bool} (n : ℕ) → isErased ≡ false → known vendors n ≡ true
-      → gives (cond (known vendors n) e (flip e)) ≡ readAt (λ k. gives (cond (known vendors k) e (flip e))) (refuse reason.Short at) e 2 s (at + 6)
+      → gives (cond (known vendors n) e (flip e)) ≡ readAt (λ k. gives (cond (known vendors k) e (flip e))) (unread reason.Short at (at + 6)) e 2 s (at + 6)
       → saidLook at (look.Is e) ≡ rootEndian vendors s isErased e at
   unfolding rootEndian saidLook
   endian-known n h k p = rw h (ap (λ (b : Bool). gives (cond b e (flip e))) (sym k) ∙ p)
 
   pub endian-flipped : {isErased : Bool} (n : ℕ) {other : Endian} → isErased ≡ false → known vendors n ≡ false → other ≡ flip e
-      → gives (cond (known vendors n) e (flip e)) ≡ readAt (λ k. gives (cond (known vendors k) e (flip e))) (refuse reason.Short at) e 2 s (at + 6)
+      → gives (cond (known vendors n) e (flip e)) ≡ readAt (λ k. gives (cond (known vendors k) e (flip e))) (unread reason.Short at (at + 6)) e 2 s (at + 6)
       → saidLook at (look.Is other) ≡ rootEndian vendors s isErased e at
   unfolding rootEndian saidLook
   endian-flipped n h k f p = rw h (ap gives f ∙ ap (λ (b : Bool). gives (cond b e (flip e))) (sym k) ∙ p)
 
   pub endian-short : {isErased : Bool} → isErased ≡ false
-      → refuse reason.Short at ≡ readAt (λ k. gives (cond (known vendors k) e (flip e))) (refuse reason.Short at) e 2 s (at + 6)
-      → saidLook at look.Short ≡ rootEndian vendors s isErased e at
+      → unread reason.Short at (at + 6) ≡ readAt (λ k. gives (cond (known vendors k) e (flip e))) (unread reason.Short at (at + 6)) e 2 s (at + 6)
+      → saidLook at (look.Short (at + 6)) ≡ rootEndian vendors s isErased e at
   unfolding rootEndian saidLook
   endian-short h p = rw h p
 

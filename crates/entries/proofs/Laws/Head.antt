@@ -17,7 +17,7 @@ use Rattle.format.specs.declared.refusal.Reason.the-variants as reason
 use Rattle.entries.specs.Head.{nullEnd, tagHead, sizeHead, headAt}
 use Rattle.entries.specs.Inside.Promise.{HeadBounds, HeadRead}
 use Rattle.entries.specs.declared.head.Head.{Head}
-use Rattle.entries.specs.declared.head.Head.the-variants.{Null, Skipped, Root, Ordinary, Refused}
+use Rattle.entries.specs.declared.head.Head.the-variants.{Null, Skipped, Root, Ordinary, Unread}
 
 -- a null entry's end
 module _ (at size : ℕ) where
@@ -36,24 +36,24 @@ module _ (at size : ℕ) where
       (λ t. let k : 4 < size = leb-false size 4 t in (omega arith, omega arith))
 
 -- a tag
-module _ (erased : Bool) (end kind : ℕ) where
-  pub tag-root : isOn kind tags ≡ true → kind ≡ tag.Padding → erased ≡ true → Root end ≡ tagHead erased end kind
+module _ (erased : Bool) (end place kind : ℕ) where
+  pub tag-root : isOn kind tags ≡ true → kind ≡ tag.Padding → erased ≡ true → Root end ≡ tagHead erased end place kind
   unfolding tagHead
   tag-root m p h = rw (m, eq-eqb kind tag.Padding p, h)
 
-  pub tag-skipped : isOn kind tags ≡ true → kind ≡ tag.Padding → erased ≡ false → Skipped end ≡ tagHead erased end kind
+  pub tag-skipped : isOn kind tags ≡ true → kind ≡ tag.Padding → erased ≡ false → Skipped end ≡ tagHead erased end place kind
   unfolding tagHead
   tag-skipped m p h = rw (m, eq-eqb kind tag.Padding p, h)
 
-  pub tag-ordinary : isOn kind tags ≡ true → (kind ≡ tag.Padding → ⊥) → Ordinary kind end ≡ tagHead erased end kind
+  pub tag-ordinary : isOn kind tags ≡ true → (kind ≡ tag.Padding → ⊥) → Ordinary kind end ≡ tagHead erased end place kind
   unfolding tagHead
   tag-ordinary m p = rw (m, ne-eqb kind tag.Padding p)
 
-  pub tag-unknown : isOn kind tags ≡ false → Refused reason.Tag ≡ tagHead erased end kind
+  pub tag-unknown : isOn kind tags ≡ false → Unread reason.Tag place ≡ tagHead erased end place kind
   unfolding tagHead
   tag-unknown m = rw m
 
-  tag-bounds : (s : List ℕ) (at : ℕ) → at + 6 ≤ length s → at + 8 ≤ end → end ≤ at + 2 ^ 32 → HeadBounds s at (tagHead erased end kind)
+  tag-bounds : (s : List ℕ) (at : ℕ) → at + 6 ≤ length s → at + 8 ≤ end → end ≤ at + 2 ^ 32 → HeadBounds s at (tagHead erased end place kind)
   unfolding tagHead
   tag-bounds s at h k l =
       cond-all (HeadBounds s at) (isOn kind tags)
@@ -71,28 +71,29 @@ module _ (erased : Bool) (s : List ℕ) (e : Endian) (at size : ℕ) (here : at 
       let high : end ≤ at + 8 = subst (λ (n : ℕ). n ≤ at + 8) q (b .1) in
       record { answer = rw (lt-ltb size 8 h) (ap Null p); bounds = (here, low, high) }
 
-  pub size-tag : (kind : ℕ) {r : Head} → 8 ≤ size → size < 2 ^ 32 → at + 6 ≤ length s → r ≡ tagHead erased (at + size) kind
-      → tagHead erased (at + size) kind ≡ readAt (tagHead erased (at + size)) (Refused reason.Short) e 2 s (at + 4)
+  pub size-tag : (kind : ℕ) {r : Head} → 8 ≤ size → size < 2 ^ 32 → at + 6 ≤ length s → r ≡ tagHead erased (at + size) (at + 4) kind
+      → tagHead erased (at + size) (at + 4) kind ≡ readAt (tagHead erased (at + size) (at + 4)) (Unread reason.Short (at + 4)) e 2 s (at + 4)
       → HeadRead s at (sizeHead erased s e at size) r
   unfolding sizeHead
   size-tag kind {r} h l k p q =
       record {
         answer = rw (le-ltb size 8 h) (p ∙ q);
-        bounds = subst (HeadBounds s at) (sym p) (tag-bounds erased (at + size) kind s at k (omega arith) (omega arith));
+        bounds = subst (HeadBounds s at) (sym p) (tag-bounds erased (at + size) (at + 4) kind s at k (omega arith) (omega arith));
       }
 
-  pub size-short : 8 ≤ size → Refused reason.Short ≡ readAt (tagHead erased (at + size)) (Refused reason.Short) e 2 s (at + 4)
-      → HeadRead s at (sizeHead erased s e at size) (Refused reason.Short)
+  pub size-short : 8 ≤ size
+      → Unread reason.Short (at + 4) ≡ readAt (tagHead erased (at + size) (at + 4)) (Unread reason.Short (at + 4)) e 2 s (at + 4)
+      → HeadRead s at (sizeHead erased s e at size) (Unread reason.Short (at + 4))
   unfolding sizeHead
   size-short h p = record { answer = rw (le-ltb size 8 h) p; bounds = tt }
 
 -- a head that was read after its size
 pub head-sized : (erased : Bool) (s : List ℕ) (e : Endian) (at size : ℕ) {r : Head} → HeadRead s at (sizeHead erased s e at size) r
-    → sizeHead erased s e at size ≡ readAt (sizeHead erased s e at) (Refused reason.Short) e 4 s at → HeadRead s at (headAt erased s e at) r
+    → sizeHead erased s e at size ≡ readAt (sizeHead erased s e at) (Unread reason.Short at) e 4 s at → HeadRead s at (headAt erased s e at) r
 unfolding headAt
 head-sized erased s e at size h p = record { answer = h .answer ∙ p; bounds = h .bounds }
 
 pub head-short : (erased : Bool) (s : List ℕ) (e : Endian) (at : ℕ)
-    → Refused reason.Short ≡ readAt (sizeHead erased s e at) (Refused reason.Short) e 4 s at → HeadRead s at (headAt erased s e at) (Refused reason.Short)
+    → Unread reason.Short at ≡ readAt (sizeHead erased s e at) (Unread reason.Short at) e 4 s at → HeadRead s at (headAt erased s e at) (Unread reason.Short at)
 unfolding headAt
 head-short erased s e at p = record { answer = p; bounds = tt }

@@ -31,7 +31,7 @@ use Rattle.entries.proofs.Laws.Walk.{join}
 use Rattle.entries.proofs.Laws.KnownRun.{AllKnown, none-known, RunKnown, by-test, run-known}
 use Rattle.format.proofs.Laws.Said.{placed-keeps}
 use Rattle.entries.specs.declared.head.Head.{Head}
-use Rattle.entries.specs.declared.head.Head.the-variants.{Null, Root, Refused}
+use Rattle.entries.specs.declared.head.Head.the-variants.{Null, Root, Unread}
 
 -- a row whose run begins at `run`, and its own attributes
 pub record RowRead (s vendors : List ℕ) (run : ℕ) (r : Row) (own : List Attr) : Type 0 where
@@ -158,7 +158,7 @@ module _ (s vendors : List ℕ) (at a : ℕ) where
       abbrev HeadRows : Head → Type 0
       HeadRows h = EntryRows s vendors at a (entryFrom (source vendors global s) levels (mode isErased e) at a h)
 
-      tag-rows : (erased : Bool) (size kind : ℕ) → 8 ≤ size → at + 4 ≤ length s → HeadRows (tagHead erased (at + size) kind)
+      tag-rows : (erased : Bool) (size kind : ℕ) → 8 ≤ size → at + 4 ≤ length s → HeadRows (tagHead erased (at + size) (at + 4) kind)
       unfolding entryFrom tagHead
       tag-rows erased size kind some room =
           cond-all HeadRows (isOn kind tags)
@@ -180,10 +180,10 @@ module _ (s vendors : List ℕ) (at a : ℕ) where
       unfolding entryFrom readEntry headAt sizeHead
       entry-rows erased =
           let size : ℕ = valueOf e 4 s at in
-          read-all (sizeHead erased s e at) (Refused reason.Short) e 4 s at HeadRows
+          read-all (sizeHead erased s e at) (Unread reason.Short at) e 4 s at HeadRows
           (λ t. let room : at + 4 ≤ length s = there-inside s at 4 t in
           cond-all HeadRows (ltb size 8) (λ few. null-rows size room)
-          (λ some. read-all (tagHead erased (at + size)) (Refused reason.Short) e 2 s (at + 4) HeadRows
+          (λ some. read-all (tagHead erased (at + size) (at + 4)) (Unread reason.Short (at + 4)) e 2 s (at + 4) HeadRows
           (λ u. tag-rows erased size (valueOf e 2 s (at + 4)) (ltb-false size 8 some) room) (λ u. tt)))
           (λ t. tt)
 

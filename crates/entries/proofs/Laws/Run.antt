@@ -12,7 +12,7 @@ use Rattle.entries.specs.Source.{source}
 use Rattle.numbers.specs.Value.{readAt}
 use Rattle.numbers.specs.declared.Endian.{Endian}
 use Rattle.format.specs.AttributeKind as number
-use Rattle.format.specs.Said.{Said, gives, refuses, refuse, _>>=_, placed}
+use Rattle.format.specs.Said.{Said, gives, refuses, unread, _>>=_, placed}
 use Rattle.format.specs.declared.refusal.Reason.{Reason}
 use Rattle.format.specs.declared.refusal.Reason.the-variants as reason
 use Rattle.attributes.specs.Read.{readAttribute}
@@ -107,12 +107,12 @@ module _ (vendors : List ℕ) (global : ℕ) (s : List ℕ) (e : Endian) (root :
   turn-read f high place h k p = rw (lt-ltb place end h, k, p, readRun)
 
   turn-failed : (f : ℕ) (high : Bool) (place field : ℕ) → place < end → runEnds global s e high place ≡ false
-      → readAttribute vendors e s place ≡ Short field → readRun (source vendors global s) e root end (suc f) high place ≡ refuse reason.Short field
+      → readAttribute vendors e s place ≡ Short field → readRun (source vendors global s) e root end (suc f) high place ≡ unread reason.Short field field
   unfolding readRun readOn
   turn-failed f high place field h k p = rw (lt-ltb place end h, k, p, readRun)
 
   turn-unknown : (f : ℕ) (high : Bool) (place field : ℕ) → place < end → runEnds global s e high place ≡ false
-      → readAttribute vendors e s place ≡ Unknown field → readRun (source vendors global s) e root end (suc f) high place ≡ refuse reason.Attribute field
+      → readAttribute vendors e s place ≡ Unknown field → readRun (source vendors global s) e root end (suc f) high place ≡ unread reason.Attribute field field
   unfolding readRun readOn
   turn-unknown f high place field h k p = rw (lt-ltb place end h, k, p, readRun)
 
@@ -192,25 +192,25 @@ module _ (vendors : List ℕ) (global : ℕ) (s : List ℕ) (e : Endian) (root :
     pub ends : runEnds global s e high place ≡ true → RunRead s at attrs (whole at) (run.Ran place n high) table₀ table
     ends k = stopped (turn-ends (l .turns) high place k)
 
-    refused : (why : Reason) (field : ℕ) → readRun (source vendors global s) e root end (l .turns) high place ≡ refuse why field
-        → RunRead s at attrs (whole at) (run.Refused why) table₀ table
+    refused : (why : Reason) (field : ℕ) → readRun (source vendors global s) e root end (l .turns) high place ≡ unread why field field
+        → RunRead s at attrs (whole at) (run.Unread why field) table₀ table
     unfolding saidRun placed before _>>=_
     refused why field p =
-        let all : refuse why field ≡ whole at = comes-to p in
+        let all : unread why field field ≡ whole at = comes-to p in
         record {
           answer = λ key. ap (λ (w : Said AttrsRead). runAnswer attrs (placed key w)) all;
           stores = subst (λ (r : Said AttrsRead). RunStores s at attrs r table₀ table) all tt;
         }
 
     pub short : {field : ℕ} → place < end → runEnds global s e high place ≡ false → readAttribute vendors e s place ≡ Short field
-        → RunRead s at attrs (whole at) (run.Refused reason.Short) table₀ table
+        → RunRead s at attrs (whole at) (run.Unread reason.Short field) table₀ table
     short {field} h k p =
         let left = one-left (l .turns) (l .fuel) in
         refused reason.Short field
         (ap (λ (t : ℕ). readRun (source vendors global s) e root end t high place) (left .1) ∙ turn-failed (left .0) high place field h k p)
 
     pub unknown : {field : ℕ} → place < end → runEnds global s e high place ≡ false → readAttribute vendors e s place ≡ Unknown field
-        → RunRead s at attrs (whole at) (run.Refused reason.Attribute) table₀ table
+        → RunRead s at attrs (whole at) (run.Unread reason.Attribute field) table₀ table
     unknown {field} h k p =
         let left = one-left (l .turns) (l .fuel) in
         refused reason.Attribute field

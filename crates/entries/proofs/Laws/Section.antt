@@ -12,7 +12,7 @@ use borrow.Author.Tests.{le-leb, lt-leb, lt-ltb, le-ltb, ltb-true}
 use Rattle.lent.specs.Outcome.{Outcomes, BothGiven, outcomes}
 use Rattle.format.specs.Limits.{sectionLimit, entryLimit, attributeLimit}
 use Rattle.format.specs.Settings.{settingsHold}
-use Rattle.format.specs.Said.{Said, gives, refuses, refuse, refusal, wanting, must, _>>=_, _>>_, inRooms, fillsRooms}
+use Rattle.format.specs.Said.{Said, gives, refuses, refuse, refusal, unread, wanting, must, _>>=_, _>>_, inRooms, fillsRooms}
 use Rattle.format.proofs.Laws.Said.{case-said, must-gave, step-gave}
 use Rattle.format.specs.declared.settings.Settings.{Settings}
 use Rattle.format.specs.declared.refusal.Reason.{Reason}
@@ -90,10 +90,15 @@ module _ (settings : Settings) (vendors sizes s : List ℕ) where
           let m : to .attrs ≡ length (told .0 .attrs) = ap (λ (x : State). x .attrs) (told .2) ∙ zero-add (length (told .0 .attrs)) in
           ap₂ (λ (i j : ℕ). gives (counts i j)) n m ∙ count-as k (told .1)
 
-      pub count-refused : {c : Count} {why : Reason} {at : ℕ} → r ≡ walk.Refused why at → c ≡ count.Refused (record { reason = why; place = at })
+      pub count-nested : {c : Count} {key : ℕ} → r ≡ walk.Nested key → c ≡ count.Refused (record { reason = reason.Nested; place = key })
           → saidCount c ≡ countDebugSection settings vendors sizes s
-      unfolding saidCount _>>=_
-      count-refused t p = ap saidCount p ∙ count-as k (told-refused start (wholeWalk settings vendors s) w t)
+      unfolding saidCount saidWalk _>>=_
+      count-nested t p = ap saidCount p ∙ count-as k (told-refused start (wholeWalk settings vendors s) w t refl)
+
+      pub count-unread : {why : Reason} {key byte : ℕ} → r ≡ walk.Unread why key byte
+          → saidCount (count.Unread (record { reason = why; place = key }) byte) ≡ countDebugSection settings vendors sizes s
+      unfolding saidCount saidWalk _>>=_
+      count-unread t = count-as k (told-refused start (wholeWalk settings vendors s) w t refl)
 
   -- ---- what counting tells
 
@@ -154,14 +159,24 @@ module _ (settings : Settings) (vendors sizes s : List ℕ) where
           (record { answer-is = ap (λ (x : Counts). wanting (x .rows ∷ x .attrs ∷ [])) (sym (told .counts-are)); first-is = refl; second-is = refl })
 
     -- what refuses counting refuses reading
-    refused-as : (d : Said Entries) (next : Entries → Outcomes (Said Counts) ℕ ℕ) (why : Refusal) → refusal why ≡ (d >>= (λ all. gives (countsOf all)))
-        → inRooms rows attrs d next ≡ outcomes (refusal why) rows attrs
+    refused-as : (d : Said Entries) (next : Entries → Outcomes (Said Counts) ℕ ℕ) {number place : ℕ} {told : List ℕ}
+        → refuses number place told ≡ (d >>= (λ all. gives (countsOf all))) → inRooms rows attrs d next ≡ outcomes (refuses number place told) rows attrs
     unfolding inRooms _>>=_
-    refused-as (gives all) next why p = let z : _≡_ {A = ℕ} 0 1 = cc in absurd (omega arith)
-    refused-as (refuses number place wanted) next why p = ap (λ (x : Said Counts). outcomes x rows attrs) (sym p)
+    refused-as (gives all) next p = let z : _≡_ {A = ℕ} 0 1 = cc in absurd (omega arith)
+    refused-as (refuses number place told) next p = ap (λ (x : Said Counts). outcomes x rows attrs) (sym p)
+
+    refused-too : {r x : Count} {number place : ℕ} {told : List ℕ} → saidCount r ≡ countDebugSection settings vendors sizes s → r ≡ x
+        → saidCount x ≡ refuses number place told → BothGiven (readDebugSection settings vendors sizes s rows attrs) (refuses number place told) rows attrs
+    unfolding countDebugSection readDebugSection
+    refused-too p t k =
+        outcome (refused-as (sectionEntries settings vendors sizes s) _ (sym k ∙ case-said saidCount p t)) (record { answer-is = refl; first-is = refl; second-is = refl })
 
     pub read-refused : {r : Count} {why : Refusal} → saidCount r ≡ countDebugSection settings vendors sizes s → r ≡ count.Refused why
         → BothGiven (readDebugSection settings vendors sizes s rows attrs) (refusal why) rows attrs
-    unfolding saidCount countDebugSection readDebugSection
-    read-refused {why = why} p t =
-        outcome (refused-as (sectionEntries settings vendors sizes s) _ why (case-said saidCount p t)) (record { answer-is = refl; first-is = refl; second-is = refl })
+    unfolding saidCount
+    read-refused p t = refused-too p t refl
+
+    pub read-unread : {r : Count} {why : Refusal} {byte : ℕ} → saidCount r ≡ countDebugSection settings vendors sizes s → r ≡ count.Unread why byte
+        → BothGiven (readDebugSection settings vendors sizes s rows attrs) (unread (why .reason) (why .place) byte) rows attrs
+    unfolding saidCount
+    read-unread p t = refused-too p t refl

@@ -18,7 +18,7 @@ use Rattle.numbers.proofs.Laws.Stands.{Stands, front-stands}
 use Rattle.numbers.proofs.Laws.Written.{bytes-length, number-read, inside-there}
 use Rattle.standard.specs.Numbers.{paddingTag}
 use Rattle.standard.specs.Entries.{writtenAttributes, Die, null, padding, entry, writtenDie}
-use Rattle.format.specs.Said.{Said, gives, refuse, _>>=_, placed}
+use Rattle.format.specs.Said.{Said, gives, unread, _>>=_, placed}
 use Rattle.format.specs.Lookup.{isOn}
 use Rattle.format.specs.TagKind as tag
 use Rattle.format.specs.declared.refusal.Reason.the-variants as reason
@@ -28,7 +28,7 @@ use Rattle.entries.specs.Head.{nullEnd, tagHead, sizeHead, headAt}
 use Rattle.entries.specs.Run.{readRun}
 use Rattle.entries.specs.Entry.{Entry, next, flagOf, littleFlag, flagsOf, attributes, entryFrom, readEntry}
 use Rattle.entries.specs.Standard.{taken, dataFlag, dieAttrs, dieRows}
-use Rattle.entries.specs.declared.head.Head.the-variants.{Null, Skipped, Ordinary, Refused}
+use Rattle.entries.specs.declared.head.Head.the-variants.{Null, Skipped, Ordinary, Unread}
 use Rattle.entries.proofs.Laws.Tagged.{Tagged, tagged, tagged-length, tag-read}
 use Rattle.entries.proofs.Laws.StandardAgrees.{tag-known}
 use Rattle.entries.proofs.Laws.StandardRun.{attributes-long, run-read}
@@ -46,19 +46,19 @@ module _ (e : Endian) (s : List ℕ) (at : ℕ) {size : ℕ} (says : valueOf e 4
   null-head some few = rw (inside-there s at 4 (omega arith), says, lt-ltb size 8 few) (ap Null (null-end at size some))
 
   module _ {kind : ℕ} (tells : valueOf e 2 s (at + 4) ≡ kind) (long : 8 ≤ size) where
-    tagged-head : headAt false s e at ≡ tagHead false (at + size) kind
+    tagged-head : headAt false s e at ≡ tagHead false (at + size) (at + 4) kind
     unfolding headAt sizeHead readAt
     tagged-head = rw (inside-there s at 4 (omega arith), says, le-ltb size 8 long, inside-there s (at + 4) 2 (omega arith), tells)
 
     pub padding-head : kind ≡ paddingTag → headAt false s e at ≡ Skipped (at + size)
     unfolding tagHead isOn tag.tags
-    padding-head p = tagged-head ∙ ap (tagHead false (at + size)) p
+    padding-head p = tagged-head ∙ ap (tagHead false (at + size) (at + 4)) p
 
     pub ordinary-head : isOn kind tag.tags ≡ true → (kind ≡ paddingTag → ⊥) → headAt false s e at ≡ Ordinary kind (at + size)
     unfolding tagHead
     ordinary-head k p = tagged-head ∙ rw (k, ne-eqb kind tag.Padding p)
 
-    pub unknown-head : isOn kind tag.tags ≡ false → headAt false s e at ≡ Refused reason.Tag
+    pub unknown-head : isOn kind tag.tags ≡ false → headAt false s e at ≡ Unread reason.Tag (at + 4)
     unfolding tagHead
     unknown-head k = tagged-head ∙ rw k
 
@@ -88,7 +88,7 @@ module _ (r : Source) (levels : ℕ) (e : Endian) (at a : ℕ) where
   unfolding readEntry entryFrom attributes
   ordinary-read h = rw (h, data-flag e)
 
-  pub refused-read : headAt false (r .section) e at ≡ Refused reason.Tag → Reads (refuse reason.Tag at)
+  pub refused-read : headAt false (r .section) e at ≡ Unread reason.Tag (at + 4) → Reads (unread reason.Tag at (at + 4))
   unfolding readEntry entryFrom
   refused-read h = rw h
 

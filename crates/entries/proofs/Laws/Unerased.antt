@@ -36,7 +36,7 @@ use Rattle.entries.proofs.Laws.Section.{section-gave}
 use Rattle.entries.proofs.Laws.Filled.{answer-read}
 use Rattle.entries.proofs.Laws.KnownRun.{by-test}
 use Rattle.entries.specs.declared.head.Head.{Head}
-use Rattle.entries.specs.declared.head.Head.the-variants.{Null, Skipped, Root, Ordinary, Refused}
+use Rattle.entries.specs.declared.head.Head.the-variants.{Null, Skipped, Root, Ordinary, Unread}
 
 -- none of the rows is erased
 abbrev Plain : List Row → Type 0
@@ -59,15 +59,15 @@ NoRoot (Root end) = ⊥
 NoRoot (Null place) = Unit
 NoRoot (Skipped place) = Unit
 NoRoot (Ordinary kind end) = Unit
-NoRoot (Refused why) = Unit
+NoRoot (Unread why byte) = Unit
 
 no-root : (s : List ℕ) (e : Endian) (at : ℕ) → NoRoot (headAt false s e at)
 unfolding headAt sizeHead tagHead
 no-root s e at =
     let size : ℕ = valueOf e 4 s at in
-    read-all (sizeHead false s e at) (Refused reason.Short) e 4 s at NoRoot
+    read-all (sizeHead false s e at) (Unread reason.Short at) e 4 s at NoRoot
     (λ t. cond-all NoRoot (ltb size 8) (λ few. tt)
-    (λ some. read-all (tagHead false (at + size)) (Refused reason.Short) e 2 s (at + 4) NoRoot
+    (λ some. read-all (tagHead false (at + size) (at + 4)) (Unread reason.Short (at + 4)) e 2 s (at + 4) NoRoot
     (λ u. cond-all NoRoot (isOn (valueOf e 2 s (at + 4)) tags)
     (λ k. cond-all NoRoot (eqb (valueOf e 2 s (at + 4)) tag.Padding) (λ p. tt) (λ p. tt))
     (λ k. tt))
@@ -91,7 +91,7 @@ entry-from-plain vendors global s levels e at a (Null place) p = (plain-flags e,
 entry-from-plain vendors global s levels e at a (Skipped place) p = tt
 entry-from-plain vendors global s levels e at a (Root end) p = absurd p
 entry-from-plain vendors global s levels e at a (Ordinary kind end) p = ordinary-plain e at kind a (attributes (source vendors global s) e false end at)
-entry-from-plain vendors global s levels e at a (Refused why) p = tt
+entry-from-plain vendors global s levels e at a (Unread why byte) p = tt
 
 entry-plain : (vendors : List ℕ) (global : ℕ) (s : List ℕ) (levels : ℕ) (e : Endian) (at a : ℕ) → EntryPlain (readEntry (source vendors global s) false levels (mode false e) at a)
 unfolding readEntry

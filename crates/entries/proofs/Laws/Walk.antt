@@ -11,7 +11,7 @@ use lib.Seq.{sets, length-sets}
 use borrow.Author.Tests.{lt-ltb, le-ltb}
 use Rattle.entries.specs.Source.{source, mode}
 use Rattle.numbers.specs.declared.Endian.{Endian}
-use Rattle.format.specs.Said.{Said, gives, refuses, refuse, _>>=_}
+use Rattle.format.specs.Said.{Said, gives, refuses, refuse, unread, _>>=_}
 use Rattle.format.proofs.Laws.Said.{case-said}
 use Rattle.format.specs.declared.refusal.Reason.{Reason}
 use Rattle.format.specs.declared.refusal.Reason.the-variants as reason
@@ -87,14 +87,15 @@ told-inside from (refuses number place counts) {to = to} {e} {end} a t =
     let z : _≡_ {A = ℕ} 0 1 = cc in
     absurd (omega arith)
 
-told-stop : (from : State) (what : Said Entry) {r : entry.the-data} {why : Reason} → Answers from what r → r ≡ entry.Refused why → what ≡ refuse why (from .at)
-unfolding saidEntry entryAnswer _>>=_
-told-stop from (gives x) {why = why} a t =
-    let same : refuse why (from .at) ≡ gives (entryAnswer from x) = case-said (saidEntry (from .at)) a t in
+told-stop : (from : State) (what : Said Entry) {r x : entry.the-data} {number place : ℕ} {told : List ℕ} → Answers from what r → r ≡ x
+    → saidEntry (from .at) x ≡ refuses number place told → what ≡ refuses number place told
+unfolding entryAnswer _>>=_
+told-stop from (gives x) {number = number} {place} {told} a t k =
+    let same : refuses number place told ≡ gives (entryAnswer from x) = sym k ∙ case-said (saidEntry (from .at)) a t in
     let z : _≡_ {A = ℕ} 0 1 = cc in
     absurd (omega arith)
-told-stop from (refuses number place counts) {why = why} a t =
-    let same : _≡_ {A = Said entry.the-data} (refuse why (from .at)) (refuses number place counts) = case-said (saidEntry (from .at)) a t in
+told-stop from (refuses number′ place′ told′) {number = number} {place} {told} a t k =
+    let same : _≡_ {A = Said entry.the-data} (refuses number place told) (refuses number′ place′ told′) = sym k ∙ case-said (saidEntry (from .at)) a t in
     cc
 
 pub told-walked : (from : State) (what : Said Entries) {r : walk.the-data} {to : State} → saidWalk r ≡ walked from what → r ≡ walk.Walked to
@@ -108,15 +109,15 @@ told-walked from (refuses number place counts) {to = to} a t =
     let z : _≡_ {A = ℕ} 0 1 = cc in
     absurd (omega arith)
 
-pub told-refused : (from : State) (what : Said Entries) {r : walk.the-data} {why : Reason} {at : ℕ} → saidWalk r ≡ walked from what → r ≡ walk.Refused why at
-    → what ≡ refuse why at
-unfolding saidWalk walked _>>=_
-told-refused from (gives all) {why = why} {at} a t =
-    let same : refuse why at ≡ gives (advanced from (length (all .rows)) (length (all .attrs)) (all .stopped)) = case-said saidWalk a t in
+pub told-refused : (from : State) (what : Said Entries) {r x : walk.the-data} {number place : ℕ} {told : List ℕ} → saidWalk r ≡ walked from what → r ≡ x
+    → saidWalk x ≡ refuses number place told → what ≡ refuses number place told
+unfolding walked _>>=_
+told-refused from (gives all) {number = number} {place} {told} a t k =
+    let same : refuses number place told ≡ gives (advanced from (length (all .rows)) (length (all .attrs)) (all .stopped)) = sym k ∙ case-said saidWalk a t in
     let z : _≡_ {A = ℕ} 0 1 = cc in
     absurd (omega arith)
-told-refused from (refuses number place counts) {why = why} {at} a t =
-    let same : _≡_ {A = Said State} (refuse why at) (refuses number place counts) = case-said saidWalk a t in
+told-refused from (refuses number′ place′ told′) {number = number} {place} {told} a t k =
+    let same : _≡_ {A = Said State} (refuses number place told) (refuses number′ place′ told′) = sym k ∙ case-said saidWalk a t in
     cc
 
 -- ---- stores one after the other
@@ -179,7 +180,7 @@ module _ (vendors : List ℕ) (global : ℕ) (erased : Bool) (s : List ℕ) wher
       never (head.Skipped place) t = let z : _≡_ {A = ℕ} 0 1 = cc in omega arith
       never (head.Root end) t = let z : _≡_ {A = ℕ} 0 1 = cc in omega arith
       never (head.Ordinary kind end) t = no-run kind (attributes (source vendors global s) e false end at) t
-      never (head.Refused why) t = let z : _≡_ {A = ℕ} 0 1 = cc in omega arith
+      never (head.Unread why byte) t = let z : _≡_ {A = ℕ} 0 1 = cc in omega arith
   inside-levels (suc l) isErased e at a q = omega arith
 
   -- ---- the loop
@@ -296,13 +297,14 @@ module _ (vendors : List ℕ) (global : ℕ) (erased : Bool) (s : List ℕ) wher
           ∙ ap (λ (t : ℕ). join (l .rs) (l .xs) (left t (now .attrs) (now .at))) (sym (at-least .1))
           ∙ l .rest
 
-      stops : {why : Reason} {at : ℕ} {rows₁ attrs₁ : List ℕ} → ((f : ℕ) → left (suc f) (now .attrs) (now .at) ≡ refuse why at)
-          → WalkRead from (whole (from .attrs) (from .at)) (walk.Refused why at) rows₀ rows₁ attrs₀ attrs₁
-      unfolding join saidWalk walked _>>=_
-      stops {why} {at} {rows₁} {attrs₁} step =
-          let all : refuse why at ≡ whole (from .attrs) (from .at) = comes-to step in
+      stops : {w : walk.the-data} {number place : ℕ} {told : List ℕ} {rows₁ attrs₁ : List ℕ} → saidWalk w ≡ refuses number place told
+          → ((f : ℕ) → left (suc f) (now .attrs) (now .at) ≡ refuses number place told)
+          → WalkRead from (whole (from .attrs) (from .at)) w rows₀ rows₁ attrs₀ attrs₁
+      unfolding join walked _>>=_
+      stops {number = number} {place} {told} {rows₁} {attrs₁} is step =
+          let all : refuses number place told ≡ whole (from .attrs) (from .at) = comes-to step in
           record {
-            answer = ap (walked from) all;
+            answer = is ∙ ap (walked from) all;
             stores = subst (λ (w : Said Entries). WalkStores from w rows₀ rows₁ attrs₀ attrs₁) all tt;
           }
 
@@ -353,13 +355,22 @@ module _ (vendors : List ℕ) (global : ℕ) (erased : Bool) (s : List ℕ) wher
             omega arith
 
         -- an entry that is refused
-        pub refused-here : {why : Reason} → r ≡ entry.Refused why
-            → WalkRead from (whole (from .attrs) (from .at)) (walk.Refused why (now .at)) rows₀ rows₁ attrs₀ attrs₁
+        refused-here : {x : entry.the-data} {w : walk.the-data} {number place : ℕ} {told : List ℕ} → r ≡ x → saidEntry (now .at) x ≡ refuses number place told
+            → saidWalk w ≡ refuses number place told → WalkRead from (whole (from .attrs) (from .at)) w rows₀ rows₁ attrs₀ attrs₁
         unfolding _>>=_
-        refused-here t =
-            let is = told-stop now (entryHere (now .at) (now .attrs)) (q .answer) t in
-            stops
+        refused-here t k j =
+            let is = told-stop now (entryHere (now .at) (now .attrs)) (q .answer) t k in
+            stops j
             (λ f. turn f (now .attrs) (now .at) h ∙ ap (λ (w : Said Entry). onward f (now .attrs) w) is)
+
+        pub nested-here : r ≡ entry.Nested → WalkRead from (whole (from .attrs) (from .at)) (walk.Nested (now .at)) rows₀ rows₁ attrs₀ attrs₁
+        unfolding saidEntry saidWalk
+        nested-here t = refused-here t refl refl
+
+        pub unread-here : {why : Reason} {byte : ℕ} → r ≡ entry.Unread why byte
+            → WalkRead from (whole (from .attrs) (from .at)) (walk.Unread why (now .at) byte) rows₀ rows₁ attrs₀ attrs₁
+        unfolding saidEntry saidWalk
+        unread-here t = refused-here t refl refl
 
         -- a root, of which the inside was read too
         module _ {to : State} {e′ : Endian} {end′ : ℕ} (t : r ≡ entry.Inside to e′ end′) where
@@ -437,16 +448,27 @@ module _ (vendors : List ℕ) (global : ℕ) (erased : Bool) (s : List ℕ) wher
                 let place′ : after .at ≡ told′ .0 .stopped = ap (λ (x : State). x .at) (told′ .2) in
                 omega arith
 
-            pub refused-inside : {why : Reason} {at : ℕ} → r′ ≡ walk.Refused why at
-                → WalkRead from (whole (from .attrs) (from .at)) (walk.Refused why at) rows₀ rows₂ attrs₀ attrs₂
+            refused-inside : {x : walk.the-data} {number place : ℕ} {besides : List ℕ} → r′ ≡ x → saidWalk x ≡ refuses number place besides
+                → WalkRead from (whole (from .attrs) (from .at)) x rows₀ rows₂ attrs₀ attrs₂
             unfolding join _>>=_
-            refused-inside {why} {at} t′ =
+            refused-inside {number = number} {place} {besides} t′ k =
                 let told = told-inside now (entryHere (now .at) (now .attrs)) (q .answer) t in
-                let is = told-refused to (readTags (source vendors global s) erased (levels - 1) (mode true e′) end′ (to .attrs) (to .at)) (w .answer) t′ in
-                let place : readTags (source vendors global s) erased (levels - 1) (mode true e′) end′ (now .attrs + length (told .1)) (told .2) ≡ refuse why at =
+                let is = told-refused to (readTags (source vendors global s) erased (levels - 1) (mode true e′) end′ (to .attrs) (to .at)) (w .answer) t′ k in
+                let same : readTags (source vendors global s) erased (levels - 1) (mode true e′) end′ (now .attrs + length (told .1)) (told .2)
+                ≡ refuses number place besides =
                 ap (λ (x : State). readTags (source vendors global s) erased (levels - 1) (mode true e′) end′ (x .attrs) (x .at)) (sym (told .4)) ∙ is
                 in
-                stops (turn-inside (told .1) (told .2) (told .0) (told .3) (refuse why at) place)
+                stops k (turn-inside (told .1) (told .2) (told .0) (told .3) (refuses number place besides) same)
+
+            pub nested-inside : {key : ℕ} → r′ ≡ walk.Nested key
+                → WalkRead from (whole (from .attrs) (from .at)) (walk.Nested key) rows₀ rows₂ attrs₀ attrs₂
+            unfolding saidWalk
+            nested-inside t′ = refused-inside t′ refl
+
+            pub unread-inside : {why : Reason} {key byte : ℕ} → r′ ≡ walk.Unread why key byte
+                → WalkRead from (whole (from .attrs) (from .at)) (walk.Unread why key byte) rows₀ rows₂ attrs₀ attrs₂
+            unfolding saidWalk
+            unread-inside t′ = refused-inside t′ refl
 
       -- every turn goes forward, and the tables keep their lengths
       pub rows-kept : length rows ≡ length rows₀

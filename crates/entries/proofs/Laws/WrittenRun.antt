@@ -16,7 +16,7 @@ use Rattle.standard.specs.Numbers.{Form, formNumber}
 use Rattle.standard.specs.Entries.{Attribute, writtenAttribute, writtenAttributes}
 use Rattle.standard.specs.Exact.{ValueEnds, Attributes}
 use Rattle.standard.specs.Exact as exact
-use Rattle.format.specs.Said.{gives, refuse}
+use Rattle.format.specs.Said.{gives, unread}
 use Rattle.format.specs.Known.{known}
 use Rattle.format.specs.declared.refusal.Reason.the-variants as reason
 use Rattle.format.proofs.Laws.Said.{step-gave, given-is, given-refused}
@@ -68,7 +68,7 @@ module _ (vendors : List ℕ) (e : Endian) (s : List ℕ) (at : ℕ) {next : ℕ
 
 -- an unknown number refuses the run
 run-refused : (r : Source) (e : Endian) (end f : ℕ) {at : ℕ} → at < end → readAttribute (r .vendors) e (r .section) at ≡ Unknown at
-    → readRun r e false end (suc f) false at ≡ refuse reason.Attribute at
+    → readRun r e false end (suc f) false at ≡ unread reason.Attribute at at
 unfolding readRun readOn runEnds
 run-refused r e end f {at} h p = rw (lt-ltb at end h, p, readRun)
 

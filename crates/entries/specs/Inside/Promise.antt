@@ -8,7 +8,7 @@ use lib.ListN.{length}
 use lib.Seq.{sets}
 use Rattle.numbers.specs.declared.Endian.{Endian}
 use Rattle.format.specs.Limits.{sectionLimit}
-use Rattle.format.specs.Said.{Said, gives, refuses, refuse, _>>=_, placed}
+use Rattle.format.specs.Said.{Said, gives, refuses, refuse, unread, _>>=_, placed}
 use Rattle.format.specs.TagKind as tag
 use Rattle.format.specs.declared.refusal.Reason.the-variants as reason
 use Rattle.tables.specs.Row.{rowWidth, attrWidth, rowsWords, attrsWords}
@@ -26,7 +26,7 @@ use Rattle.entries.specs.declared.entry.Look.{Look}
 use Rattle.entries.specs.declared.entry.Look.the-variants as look
 use Rattle.entries.specs.declared.entry.Entry as entry
 use Rattle.entries.specs.declared.head.Head.{Head}
-use Rattle.entries.specs.declared.head.Head.the-variants.{Null, Skipped, Root, Ordinary, Refused}
+use Rattle.entries.specs.declared.head.Head.the-variants.{Null, Skipped, Root, Ordinary, Unread}
 use Rattle.entries.specs.declared.walk.Walk as walk
 
 -- ---- what an entry begins with
@@ -37,7 +37,7 @@ HeadBounds s at (Null place) = (at + 4 ≤ length s) × (at + 4 ≤ place) × (p
 HeadBounds s at (Skipped place) = (at + 4 ≤ length s) × (at + 4 ≤ place) × (place ≤ at + 2 ^ 32)
 HeadBounds s at (Root end) = (at + 6 ≤ length s) × (end ≤ at + 2 ^ 32)
 HeadBounds s at (Ordinary kind end) = (at + 6 ≤ length s) × (end ≤ at + 2 ^ 32)
-HeadBounds s at (Refused why) = Unit
+HeadBounds s at (Unread why byte) = Unit
 
 -- what reading a head answers
 pub record HeadRead (s : List ℕ) (at : ℕ) (what r : Head) : Type 0 where
@@ -55,7 +55,7 @@ pub record RunReady (s : List ℕ) (at attrs : ℕ) : Type 0 where
 -- what the code says, a refusal told at a place
 unfoldable pub saidRun : ℕ → run.AttrsRead → Said run.AttrsRead
 saidRun key (run.the-variants.Ran place n high) = gives (run.the-variants.Ran place n high)
-saidRun key (run.the-variants.Refused why) = refuse why key
+saidRun key (run.the-variants.Unread why byte) = unread why key byte
 
 -- its answer: place and count go on, `attrs` being the count before
 abbrev pub runAnswer : ℕ → Said AttrsRead → Said run.AttrsRead
@@ -144,7 +144,7 @@ pub record BodyReady (s : List ℕ) (from : State) : Type 0 where
 -- what the code says of the entry at a place
 unfoldable pub saidBody : ℕ → Body → Said State
 saidBody key (body.Read state) = gives state
-saidBody key (body.Refused why) = refuse why key
+saidBody key (body.Unread why byte) = unread why key byte
 
 -- its answer: one row more, and the attributes
 abbrev pub bodyAnswer : State → Said AttrsRead → Said State
@@ -166,13 +166,14 @@ pub record BodyRead (s : List ℕ) (from : State) (shape : Shape) (what : Said A
 -- what the code says of a root's endianness
 unfoldable pub saidLook : ℕ → Look → Said Endian
 saidLook key (look.Is e) = gives e
-saidLook key look.Short = refuse reason.Short key
+saidLook key (look.Short byte) = unread reason.Short key byte
 
 -- the same of an entry
 unfoldable pub saidEntry : ℕ → entry.Entry → Said entry.Entry
 saidEntry key (entry.the-variants.Next state) = gives (entry.the-variants.Next state)
 saidEntry key (entry.the-variants.Inside state e end) = gives (entry.the-variants.Inside state e end)
-saidEntry key (entry.the-variants.Refused why) = refuse why key
+saidEntry key entry.the-variants.Nested = refuse reason.Nested key
+saidEntry key (entry.the-variants.Unread why byte) = unread why key byte
 
 unfoldable pub entryAnswer : State → Entry → entry.Entry
 entryAnswer from (next rs xs place) = entry.the-variants.Next (advanced from (length rs) (length xs) place)
@@ -191,7 +192,8 @@ pub record EntryRead (s : List ℕ) (from : State) (what : Said Entry) (r : entr
 -- what the walk says
 unfoldable pub saidWalk : walk.Walk → Said State
 saidWalk (walk.the-variants.Walked state) = gives state
-saidWalk (walk.the-variants.Refused why place) = refuse why place
+saidWalk (walk.the-variants.Nested key) = refuse reason.Nested key
+saidWalk (walk.the-variants.Unread why key byte) = unread why key byte
 
 -- and of entries one after the other: where reading then stands
 unfoldable pub walked : State → Said Entries → Said State

@@ -5,14 +5,14 @@ use native.Mathlib.Omega.{arith}
 use Rattle.entries.proofs.entry.read_body.Statement.{statement}
 use Rattle.entries.proofs.entry.read_body.Tie as tie
 
-sub-t24 : tie.Need-sub-t24
-sub-t24 c = run-few _ _ _ _ (c .before .before .before .before .before .before .before .before .before .before .before .before .before .before .before .before .before .pre .ready .small) (c .before .before .before .before .before .before .before .before .before .before .read-run .ensures) (c .before .before .before .before .before .before .at .given .1) .0
+sub-t25 : tie.Need-sub-t25
+sub-t25 c = run-few _ _ _ _ (c .before .before .before .before .before .before .before .before .before .before .before .before .before .before .before .before .before .pre .ready .small) (c .before .before .before .before .before .before .before .before .before .before .read-run .ensures) (c .before .before .before .before .before .before .at .given .1) .0
 
-cast-t25 : tie.Need-cast-t25
-cast-t25 c = omega (arith, run-few _ _ _ _ (c .before .before .before .before .before .before .before .before .before .before .before .before .before .before .before .before .before .pre .ready .small) (c .before .before .before .before .before .before .before .before .before .before .read-run .ensures) (c .before .before .before .before .before .before .at .given .1) .1)
+cast-t26 : tie.Need-cast-t26
+cast-t26 c = omega (arith, run-few _ _ _ _ (c .before .before .before .before .before .before .before .before .before .before .before .before .before .before .before .before .before .pre .ready .small) (c .before .before .before .before .before .before .before .before .before .before .read-run .ensures) (c .before .before .before .before .before .before .at .given .1) .1)
 
-add-t24 : tie.Need-add-t24
-add-t24 c = omega (arith, c .before .before .before .before .before .before .before .before .before .before .before .before .before .before .before .before .before .before .before .before .before .before .pre .ready .rows-few, c .before .before .before .before .before .before .before .before .before .before .before .before .before .before .before .before .before .before .before .before .before .before .pre .here, c .before .before .before .before .before .before .before .before .before .before .before .before .before .before .before .before .before .before .before .before .before .before .pre .ready .small)
+add-t25 : tie.Need-add-t25
+add-t25 c = omega (arith, c .before .before .before .before .before .before .before .before .before .before .before .before .before .before .before .before .before .before .before .before .before .before .pre .ready .rows-few, c .before .before .before .before .before .before .before .before .before .before .before .before .before .before .before .before .before .before .before .before .before .before .pre .here, c .before .before .before .before .before .before .before .before .before .before .before .before .before .before .before .before .before .before .before .before .before .before .pre .ready .small)
 
 returns : tie.Need-returns
 unfolding attributes
@@ -36,10 +36,10 @@ read-body-spec =
     (λ c. search needs)
     (λ c κs. search needs)
     (λ c. search needs)
-    sub-t24
-    cast-t25
+    sub-t25
+    cast-t26
     (λ c κs. search needs)
-    add-t24
+    add-t25
     (λ c. search needs)
     (λ c. search needs)
     (λ c. search needs)

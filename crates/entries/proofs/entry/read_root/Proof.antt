@@ -1,10 +1,10 @@
-use Rattle.entries.proofs.Laws.Entry.{rooted-read, body-stops, stopped, renamed, nested, root-is, root-short}
+use Rattle.entries.proofs.Laws.Entry.{rooted-read, body-stops, stopped, too-deep, renamed, nested, root-is, root-short}
 use borrow.Author.Needs.{needs}
 use Rattle.entries.proofs.entry.read_root.Statement.{statement}
 use Rattle.entries.proofs.entry.read_root.Tie as tie
 
 returns : tie.Need-returns
-returns c = stopped _ _ _ (nested _ _ _ _ _ _ _ _ _ (c .if1 .taken))
+returns c = too-deep _ _ (nested _ _ _ _ _ _ _ _ _ (c .if1 .taken))
 
 returns-2 : tie.Need-returns-2
 returns-2 c =
@@ -17,7 +17,7 @@ returns-3 c =
     (body-stops _ _ _ _ _ (c .before .before .before .before .before .before .before .read-body .ensures) (c .before .why .given .1))
 
 returns-4 : tie.Need-returns-4
-returns-4 c = stopped _ _ _ (root-short _ _ _ _ _ _ _ _ _ (c .before .before .before .if1 .left) (c .before .before .root-endian .ensures) (c .enum-told .given .1))
+returns-4 c = stopped _ _ _ (root-short _ _ _ _ _ _ _ _ _ (c .before .before .before .before .if1 .left) (c .before .before .before .root-endian .ensures) (c .before .byte .given .1))
 
 pub read-root-spec : {M : Type 1} → statement M
 read-root-spec =

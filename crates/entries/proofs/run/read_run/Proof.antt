@@ -20,8 +20,8 @@ same-length c = kept _ _ _ _ _ _ (c .before .before .before .loop .inv)
 returns : tie.Need-returns Inv-loop μ-loop
 returns c = ends _ _ _ _ _ _ (c .before .before .before .loop .inv) (sym (c .before .run-ends .ensures) ∙ c .if1 .taken)
 
-cast-t23 : tie.Need-cast-t23 Inv-loop μ-loop
-cast-t23 c = record { fits = value-small _ _ _ _ _ _ (c .before .before .before .before .before .before .before .before .loop .inv) (sym (c .before .before .before .before .read-attribute .ensures) ∙ c .before .before .number .given .1) }
+cast-t25 : tie.Need-cast-t25 Inv-loop μ-loop
+cast-t25 c = record { fits = value-small _ _ _ _ _ _ (c .before .before .before .before .before .before .before .before .loop .inv) (sym (c .before .before .before .before .read-attribute .ensures) ∙ c .before .before .number .given .1) }
 
 loop-less : tie.Need-loop-less Inv-loop μ-loop
 loop-less c = falls _ _ _ _ _ _ (c .before .before .before .before .before .before .before .before .before .before .before .loop .inv) (c .before .before .before .before .before .before .before .before .before .before .loop-test .taken) (sym (c .before .before .before .before .before .before .before .read-attribute .ensures) ∙ c .before .before .before .before .before .number .given .1)
@@ -32,18 +32,18 @@ loop-again c =
     (sym (c .before .before .before .before .before .before .before .read-attribute .ensures) ∙ c .before .before .before .before .before .number .given .1) (c .before .before .put-attr .ensures)
 
 same-length-2 : tie.Need-same-length-2 Inv-loop μ-loop
-same-length-2 c = kept _ _ _ _ _ _ (c .before .before .before .before .before .before .loop .inv)
+same-length-2 c = kept _ _ _ _ _ _ (c .before .before .before .before .before .before .before .loop .inv)
 
 returns-2 : tie.Need-returns-2 Inv-loop μ-loop
 returns-2 c =
-    short _ _ _ _ _ _ (c .before .before .before .before .before .before .loop .inv) (c .before .before .before .before .before .loop-test .taken) (sym (c .before .before .before .before .run-ends .ensures) ∙ c .before .before .before .if1 .left) (sym (c .before .before .read-attribute .ensures) ∙ c .enum-told .given .1)
+    short _ _ _ _ _ _ (c .before .before .before .before .before .before .before .loop .inv) (c .before .before .before .before .before .before .loop-test .taken) (sym (c .before .before .before .before .before .run-ends .ensures) ∙ c .before .before .before .before .if1 .left) (sym (c .before .before .before .read-attribute .ensures) ∙ c .before .field .given .1)
 
 same-length-3 : tie.Need-same-length-3 Inv-loop μ-loop
-same-length-3 c = kept _ _ _ _ _ _ (c .before .before .before .before .before .before .loop .inv)
+same-length-3 c = kept _ _ _ _ _ _ (c .before .before .before .before .before .before .before .loop .inv)
 
 returns-3 : tie.Need-returns-3 Inv-loop μ-loop
 returns-3 c =
-    unknown _ _ _ _ _ _ (c .before .before .before .before .before .before .loop .inv) (c .before .before .before .before .before .loop-test .taken) (sym (c .before .before .before .before .run-ends .ensures) ∙ c .before .before .before .if1 .left) (sym (c .before .before .read-attribute .ensures) ∙ c .enum-told2 .given .1)
+    unknown _ _ _ _ _ _ (c .before .before .before .before .before .before .before .loop .inv) (c .before .before .before .before .before .before .loop-test .taken) (sym (c .before .before .before .before .before .run-ends .ensures) ∙ c .before .before .before .before .if1 .left) (sym (c .before .before .before .read-attribute .ensures) ∙ c .before .field2 .given .1)
 
 same-length-4 : tie.Need-same-length-4 Inv-loop μ-loop
 same-length-4 c = kept _ _ _ _ _ _ (c .before .loop .inv)
@@ -64,7 +64,7 @@ read-run-spec =
     (λ c κs. search needs)
     (λ c. search needs)
     (λ c. search needs)
-    cast-t23
+    cast-t25
     (λ c κs. search needs)
     (λ c. search needs)
     loop-less

@@ -1,5 +1,5 @@
 use borrow.Author.Tests.{not-true, not-false}
-use Rattle.entries.proofs.Laws.Section.{count-settings, count-long, count-read, count-refused}
+use Rattle.entries.proofs.Laws.Section.{count-settings, count-long, count-read, count-nested, count-unread}
 use borrow.Author.Needs.{needs}
 use mathlib.Core.Path.{sym, _∙_}
 use Rattle.entries.proofs.section.count_debug_section.Statement.{statement}
@@ -17,8 +17,12 @@ returns-3 c =
 
 returns-4 : tie.Need-returns-4
 returns-4 c =
-    count-refused _ _ _ _ (sym (c .before .before .before .before .before .before .before .settings-hold .ensures) ∙ not-false _ (c .before .before .before .before .before .before .if1 .left)) (c .before .before .before .before .before .if2 .left) (c .before .before .before .before .count-whole .ensures) (c .before .before .why .given .1)
+    count-nested _ _ _ _ (sym (c .before .before .before .before .before .before .before .settings-hold .ensures) ∙ not-false _ (c .before .before .before .before .before .before .if1 .left)) (c .before .before .before .before .before .if2 .left) (c .before .before .before .before .count-whole .ensures) (c .before .before .key .given .1)
     (c .refused3 .ensures)
+
+returns-5 : tie.Need-returns-5
+returns-5 c =
+    count-unread _ _ _ _ (sym (c .before .before .before .before .before .before .settings-hold .ensures) ∙ not-false _ (c .before .before .before .before .before .if1 .left)) (c .before .before .before .before .if2 .left) (c .before .before .before .count-whole .ensures) (c .before .why .given .1)
 
 pub count-debug-section-spec : {M : Type 1} → statement M
 count-debug-section-spec =
@@ -33,5 +37,7 @@ count-debug-section-spec =
     (λ c. search needs)
     (λ c. search needs)
     (λ c κs. search needs)
+    (λ c. search needs)
     returns-3
-    returns-4)
+    returns-4
+    returns-5)

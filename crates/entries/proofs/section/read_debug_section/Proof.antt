@@ -1,4 +1,4 @@
-use Rattle.entries.proofs.Laws.Section.{countable, countable-short, read-done, read-room, read-refused}
+use Rattle.entries.proofs.Laws.Section.{countable, countable-short, read-done, read-room, read-refused, read-unread}
 use Rattle.entries.specs.Section.{saidSection}
 use borrow.Author.Needs.{needs}
 use mathlib.Core.Path.{sym, _∙_}
@@ -21,6 +21,10 @@ returns-3 : tie.Need-returns-3
 unfolding saidSection
 returns-3 c = read-refused _ _ _ _ _ _ (c .before .before .before .count-debug-section .ensures) (c .before .why .given .1)
 
+returns-4 : tie.Need-returns-4
+unfolding saidSection
+returns-4 c = read-unread _ _ _ _ _ _ (c .before .before .before .count-debug-section .ensures) (c .before .why2 .given .1)
+
 pub read-debug-section-spec : {M : Type 1} → statement M
 read-debug-section-spec =
     tie.close
@@ -32,6 +36,8 @@ read-debug-section-spec =
     (λ c. search needs)
     (λ c. search needs)
     (λ c. search needs)
+    (λ c. search needs)
     returns
     returns-2
-    returns-3)
+    returns-3
+    returns-4)

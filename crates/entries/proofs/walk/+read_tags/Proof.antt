@@ -1,5 +1,5 @@
 use Rattle.entries.specs.Source.{mode}
-use Rattle.entries.proofs.Laws.Walk.{Loop, begin, done, again, falls as forward, refused-here, inside-ready, inside-near, level-left, again-inside, falls-inside, refused-inside, rows-kept, attrs-kept}
+use Rattle.entries.proofs.Laws.Walk.{Loop, begin, done, again, falls as forward, nested-here, unread-here, inside-ready, inside-near, level-left, again-inside, falls-inside, nested-inside, unread-inside, rows-kept, attrs-kept}
 use borrow.Author.Needs.{needs}
 use native.Mathlib.Omega.{arith}
 use Prim.Native.Nat.{ℕ, _-_, _<_}
@@ -67,25 +67,43 @@ read-tags-same-length-2 : (t : ℕ) → read-tags-lts.Need-same-length-2 (G t) (
 read-tags-same-length-2 t c = c .before .before .before .before .before .before .before .read-tags .kept .1 .1 .1 .1 .0 ∙ c .before .before .before .before .before .before .before .before .before .before .before .before .before .before .before .before .before .read-entry .kept .1 .1 .1 .1 .0 ∙ attrs-kept _ _ _ _ _ _ _ _ (c .before .before .before .before .before .before .before .before .before .before .before .before .before .before .before .before .before .before .before .before .before .before .loop .inv)
 
 read-tags-returns : (t : ℕ) → read-tags-lts.Need-returns (G t) (read-tags-at t) read-tags.Post read-tags-Inv-loop read-tags-μ-loop
-read-tags-returns t c = refused-inside _ _ _ _ _ _ _ _ (c .before .before .before .before .before .before .before .before .before .before .before .before .before .before .before .before .before .before .before .before .before .before .loop .inv) (c .before .before .before .before .before .before .before .before .before .before .before .before .before .before .before .before .before .before .before .before .if1 .taken) (c .before .before .before .before .before .before .before .before .before .before .before .before .before .before .before .before .before .read-entry .ensures) (c .before .before .before .before .before .before .before .before .before .before .before .next2 .given .1) (c .before .before .before .before .before .before .before .read-tags .ensures) (c .before .why .given .1)
+read-tags-returns t c = nested-inside _ _ _ _ _ _ _ _ (c .before .before .before .before .before .before .before .before .before .before .before .before .before .before .before .before .before .before .before .before .before .before .loop .inv) (c .before .before .before .before .before .before .before .before .before .before .before .before .before .before .before .before .before .before .before .before .if1 .taken) (c .before .before .before .before .before .before .before .before .before .before .before .before .before .before .before .before .before .read-entry .ensures) (c .before .before .before .before .before .before .before .before .before .before .before .next2 .given .1) (c .before .before .before .before .before .before .before .read-tags .ensures) (c .before .key .given .1)
 
 read-tags-same-length-3 : (t : ℕ) → read-tags-lts.Need-same-length-3 (G t) (read-tags-at t) read-tags.Post read-tags-Inv-loop read-tags-μ-loop
-read-tags-same-length-3 t c = c .before .before .before .before .before .before .before .read-entry .kept .1 .1 .1 .0 ∙ rows-kept _ _ _ _ _ _ _ _ (c .before .before .before .before .before .before .before .before .before .before .before .before .loop .inv)
+read-tags-same-length-3 t c = c .before .before .before .before .before .before .before .read-tags .kept .1 .1 .1 .0 ∙ c .before .before .before .before .before .before .before .before .before .before .before .before .before .before .before .before .before .read-entry .kept .1 .1 .1 .0 ∙ rows-kept _ _ _ _ _ _ _ _ (c .before .before .before .before .before .before .before .before .before .before .before .before .before .before .before .before .before .before .before .before .before .before .loop .inv)
 
 read-tags-same-length-4 : (t : ℕ) → read-tags-lts.Need-same-length-4 (G t) (read-tags-at t) read-tags.Post read-tags-Inv-loop read-tags-μ-loop
-read-tags-same-length-4 t c = c .before .before .before .before .before .before .before .read-entry .kept .1 .1 .1 .1 .0 ∙ attrs-kept _ _ _ _ _ _ _ _ (c .before .before .before .before .before .before .before .before .before .before .before .before .loop .inv)
+read-tags-same-length-4 t c = c .before .before .before .before .before .before .before .read-tags .kept .1 .1 .1 .1 .0 ∙ c .before .before .before .before .before .before .before .before .before .before .before .before .before .before .before .before .before .read-entry .kept .1 .1 .1 .1 .0 ∙ attrs-kept _ _ _ _ _ _ _ _ (c .before .before .before .before .before .before .before .before .before .before .before .before .before .before .before .before .before .before .before .before .before .before .loop .inv)
 
 read-tags-returns-2 : (t : ℕ) → read-tags-lts.Need-returns-2 (G t) (read-tags-at t) read-tags.Post read-tags-Inv-loop read-tags-μ-loop
-read-tags-returns-2 t c = refused-here _ _ _ _ _ _ _ _ (c .before .before .before .before .before .before .before .before .before .before .before .before .loop .inv) (c .before .before .before .before .before .before .before .before .before .before .if1 .taken) (c .before .before .before .before .before .before .before .read-entry .ensures) (c .before .why2 .given .1)
+read-tags-returns-2 t c = unread-inside _ _ _ _ _ _ _ _ (c .before .before .before .before .before .before .before .before .before .before .before .before .before .before .before .before .before .before .before .before .before .before .loop .inv) (c .before .before .before .before .before .before .before .before .before .before .before .before .before .before .before .before .before .before .before .before .if1 .taken) (c .before .before .before .before .before .before .before .before .before .before .before .before .before .before .before .before .before .read-entry .ensures) (c .before .before .before .before .before .before .before .before .before .before .before .next2 .given .1) (c .before .before .before .before .before .before .before .read-tags .ensures) (c .before .why .given .1)
 
 read-tags-same-length-5 : (t : ℕ) → read-tags-lts.Need-same-length-5 (G t) (read-tags-at t) read-tags.Post read-tags-Inv-loop read-tags-μ-loop
-read-tags-same-length-5 t c = rows-kept _ _ _ _ _ _ _ _ (c .before .before .loop .inv)
+read-tags-same-length-5 t c = c .before .before .before .before .before .before .read-entry .kept .1 .1 .1 .0 ∙ rows-kept _ _ _ _ _ _ _ _ (c .before .before .before .before .before .before .before .before .before .before .before .loop .inv)
 
 read-tags-same-length-6 : (t : ℕ) → read-tags-lts.Need-same-length-6 (G t) (read-tags-at t) read-tags.Post read-tags-Inv-loop read-tags-μ-loop
-read-tags-same-length-6 t c = attrs-kept _ _ _ _ _ _ _ _ (c .before .before .loop .inv)
+read-tags-same-length-6 t c = c .before .before .before .before .before .before .read-entry .kept .1 .1 .1 .1 .0 ∙ attrs-kept _ _ _ _ _ _ _ _ (c .before .before .before .before .before .before .before .before .before .before .before .loop .inv)
 
 read-tags-returns-3 : (t : ℕ) → read-tags-lts.Need-returns-3 (G t) (read-tags-at t) read-tags.Post read-tags-Inv-loop read-tags-μ-loop
-read-tags-returns-3 t c = done _ _ _ _ _ _ _ _ (c .before .before .loop .inv) (c .if1 .left)
+read-tags-returns-3 t c = nested-here _ _ _ _ _ _ _ _ (c .before .before .before .before .before .before .before .before .before .before .before .loop .inv) (c .before .before .before .before .before .before .before .before .before .if1 .taken) (c .before .before .before .before .before .before .read-entry .ensures) (c .enum-told .given .1)
+
+read-tags-same-length-7 : (t : ℕ) → read-tags-lts.Need-same-length-7 (G t) (read-tags-at t) read-tags.Post read-tags-Inv-loop read-tags-μ-loop
+read-tags-same-length-7 t c = c .before .before .before .before .before .before .before .read-entry .kept .1 .1 .1 .0 ∙ rows-kept _ _ _ _ _ _ _ _ (c .before .before .before .before .before .before .before .before .before .before .before .before .loop .inv)
+
+read-tags-same-length-8 : (t : ℕ) → read-tags-lts.Need-same-length-8 (G t) (read-tags-at t) read-tags.Post read-tags-Inv-loop read-tags-μ-loop
+read-tags-same-length-8 t c = c .before .before .before .before .before .before .before .read-entry .kept .1 .1 .1 .1 .0 ∙ attrs-kept _ _ _ _ _ _ _ _ (c .before .before .before .before .before .before .before .before .before .before .before .before .loop .inv)
+
+read-tags-returns-4 : (t : ℕ) → read-tags-lts.Need-returns-4 (G t) (read-tags-at t) read-tags.Post read-tags-Inv-loop read-tags-μ-loop
+read-tags-returns-4 t c = unread-here _ _ _ _ _ _ _ _ (c .before .before .before .before .before .before .before .before .before .before .before .before .loop .inv) (c .before .before .before .before .before .before .before .before .before .before .if1 .taken) (c .before .before .before .before .before .before .before .read-entry .ensures) (c .before .why2 .given .1)
+
+read-tags-same-length-9 : (t : ℕ) → read-tags-lts.Need-same-length-9 (G t) (read-tags-at t) read-tags.Post read-tags-Inv-loop read-tags-μ-loop
+read-tags-same-length-9 t c = rows-kept _ _ _ _ _ _ _ _ (c .before .before .loop .inv)
+
+read-tags-same-length-10 : (t : ℕ) → read-tags-lts.Need-same-length-10 (G t) (read-tags-at t) read-tags.Post read-tags-Inv-loop read-tags-μ-loop
+read-tags-same-length-10 t c = attrs-kept _ _ _ _ _ _ _ _ (c .before .before .loop .inv)
+
+read-tags-returns-5 : (t : ℕ) → read-tags-lts.Need-returns-5 (G t) (read-tags-at t) read-tags.Post read-tags-Inv-loop read-tags-μ-loop
+read-tags-returns-5 t c = done _ _ _ _ _ _ _ _ (c .before .before .loop .inv) (c .if1 .left)
 
 pub +read-tags-spec : {M : Type 1} → statement M
 +read-tags-spec = close μ-read-tags λ t. read-tags-lts.spec (G t)
@@ -112,6 +130,14 @@ pub +read-tags-spec : {M : Type 1} → statement M
     (read-tags-same-length-3 t)
     (read-tags-same-length-4 t)
     (read-tags-returns-2 t)
+    (λ c. search needs)
     (read-tags-same-length-5 t)
     (read-tags-same-length-6 t)
     (read-tags-returns-3 t)
+    (λ c. search needs)
+    (read-tags-same-length-7 t)
+    (read-tags-same-length-8 t)
+    (read-tags-returns-4 t)
+    (read-tags-same-length-9 t)
+    (read-tags-same-length-10 t)
+    (read-tags-returns-5 t)
