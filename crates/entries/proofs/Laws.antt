@@ -2,7 +2,9 @@
 -- `StandardRead` (what the standard writes is read, with its values), `StandardWritten` (what is accepted and exact was so written) and `ExactWritten`
 -- (every written section is exact). `StandardAgrees`: the standard's tables, forms and extents are the reader's; `Tagged`, `Standard..`, `Written..` and
 -- `Index` are steps on the way. `Filled`: a table that was read passes the table test; `KnownRun`, `RowsRead` lead to it. `Unerased`: with erased
--- entries left out no row is erased. `Back`: what is said leads back to the enum. `Only`: no second answer fits.
+-- entries left out no row is erased. `WantedCall`: the byte that 4 to 6 tell, of both public calls; over `Wanted` (what refuses an entry is a field, and
+-- the byte its first), `WantedOnly` (the converse), `WantedExactly` (the converse of the whole section) and `WantedPlace` (where the byte lies). `Back`:
+-- what is said leads back to the enum. `Only`: no second answer fits.
 pub mod Head
 pub mod Run
 pub mod Entry
@@ -26,4 +28,9 @@ pub mod StandardCall
 pub mod KnownRun
 pub mod RowsRead
 pub mod Filled
+pub mod Wanted
+pub mod WantedOnly
+pub mod WantedExactly
+pub mod WantedPlace
+pub mod WantedCall
 pub mod Unerased

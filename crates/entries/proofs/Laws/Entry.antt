@@ -60,7 +60,7 @@ told-ran (refuses number field counts) attrs {place = place} {n} {high} a t =
     absurd (omega arith)
 
 -- and one that was refused is told at any place
-told-failed : (what : Said AttrsRead) (attrs : ℕ) {r : run.the-data} {why : Reason} {byte : ℕ} → ((key : ℕ) → saidRun key r ≡ runAnswer attrs (placed key what))
+pub told-failed : (what : Said AttrsRead) (attrs : ℕ) {r : run.the-data} {why : Reason} {byte : ℕ} → ((key : ℕ) → saidRun key r ≡ runAnswer attrs (placed key what))
     → r ≡ run.Unread why byte → (key : ℕ) → placed key what ≡ unread why key byte
 unfolding saidRun placed _>>=_
 told-failed (gives x) attrs {why = why} {byte} a t key =

@@ -55,6 +55,11 @@ rows-lower : {s vendors : List ℕ} {lower least run place : ℕ} {rs : List Row
 rows-lower h (no-rows k) = no-rows (le-trans h k)
 rows-lower h (more-rows k r later) = more-rows (le-trans h k) r later
 
+-- what follows stands no lower
+pub rows-ahead : {s vendors : List ℕ} {least run place : ℕ} {rs : List Row} {xs : List Attr} → RowsRead s vendors least run rs xs place → least ≤ place
+rows-ahead (no-rows h) = h
+rows-ahead (more-rows h r later) = let more = rows-ahead later in omega arith
+
 -- rows, and rows after them
 pub rows-then : {s vendors : List ℕ} {least run place last : ℕ} {rs rs′ : List Row} {xs xs′ : List Attr} → RowsRead s vendors least run rs xs place
     → RowsRead s vendors place (run + length xs) rs′ xs′ last → RowsRead s vendors least run (rs ++ rs′) (xs ++ xs′) last
@@ -135,7 +140,7 @@ module _ (s vendors : List ℕ) (at a : ℕ) where
 
   module _ (global : ℕ) where
     -- the attributes of an entry are known
-    attributes-known : (e : Endian) (root : Bool) (end : ℕ) → RunKnown s vendors e (at + 6) (attributes (source vendors global s) e root end at)
+    pub attributes-known : (e : Endian) (root : Bool) (end : ℕ) → RunKnown s vendors e (at + 6) (attributes (source vendors global s) e root end at)
     unfolding attributes
     attributes-known e root end =
         placed-keeps (RunKnown s vendors e (at + 6)) at _ (run-known s vendors e global root end (suc (length s)) false (at + 6)) (λ number counts. tt)

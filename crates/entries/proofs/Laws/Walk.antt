@@ -151,7 +151,7 @@ module _ (vendors : List ℕ) (global : ℕ) (erased : Bool) (s : List ℕ) wher
   withinOf zero e end b at = refuse reason.Nested at
   withinOf (suc l) e end b at = readTags (source vendors global s) erased l (mode true e) end b at
 
-  walk-levels : (levels : ℕ) (isErased : Bool) (e : Endian) (end a at : ℕ)
+  pub walk-levels : (levels : ℕ) (isErased : Bool) (e : Endian) (end a at : ℕ)
       → entriesFrom (source vendors global s) erased (withinOf levels) levels (mode isErased e) end (suc (length s)) a at ≡ readTags (source vendors global s) erased levels (mode isErased e) end a at
   unfolding withinOf readTags
   walk-levels zero isErased e end a at = refl
