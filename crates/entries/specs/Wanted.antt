@@ -123,16 +123,16 @@ module _ (r : Source) (erased : Bool) (levels : ℕ) (m : Mode) (key : ℕ) wher
 -- ---- how reading comes to an entry
 
 module _ (r : Source) (erased : Bool) (e : Endian) where
-  -- to a place, with so many levels still allowed, in this mode, up to this end, behind so many attributes: from the section's beginning, past an entry,
-  -- into an erased root, and out of it behind what stands inside
+  -- to a place, with so many levels still allowed, in this mode, up to this end, behind so many attributes: from the section's beginning, past an
+  -- entry, into an erased root, and out of it behind what stands inside
   pub data Comes : ℕ → Mode → ℕ → ℕ → ℕ → Type 0 where
     begins : Comes erasedLimit (mode false e) (length (r .section)) 0 0
     passes : {l : ℕ} {m : Mode} {end a at place : ℕ} {rs : List Row} {xs : List Attr} → Comes l m end a at → at < end
         → readEntry r erased l m at a ≡ gives (next rs xs place) → Comes l m end (a + length xs) place
     enters : {l : ℕ} {m : Mode} {end a at place end′ : ℕ} {row : Row} {xs : List Attr} {e′ : Endian} → Comes (suc l) m end a at → at < end
         → readEntry r erased (suc l) m at a ≡ gives (inside row xs place e′ end′) → Comes l (mode true e′) end′ (a + length xs) place
-    leaves : {l : ℕ} {m : Mode} {end a at place end′ : ℕ} {row : Row} {xs : List Attr} {e′ : Endian} {all : Entries} → Comes (suc l) m end a at → at < end
-        → readEntry r erased (suc l) m at a ≡ gives (inside row xs place e′ end′)
+    leaves : {l : ℕ} {m : Mode} {end a at place end′ : ℕ} {row : Row} {xs : List Attr} {e′ : Endian} {all : Entries} → Comes (suc l) m end a at
+        → at < end → readEntry r erased (suc l) m at a ≡ gives (inside row xs place e′ end′)
         → readTags r erased l (mode true e′) end′ (a + length xs) place ≡ gives all
         → Comes (suc l) m end (a + length (xs ++ all .attrs)) (all .stopped)
 

@@ -1,5 +1,5 @@
--- What a call says, in document 01's numbers and values: an answer; or a refusal, which is its number, its place and what it tells besides: with 8 the
--- counts that are needed, with 4 to 6 the byte that was wanted (document 02, K2), else nothing. Every enum that is an answer has one definition,
+-- What a call says, in document 01's numbers and values: an answer; or a refusal, which is its number, its place and what it tells besides: with 8
+-- the counts that are needed, with 4 to 6 the byte that was wanted (document 02, K2), else nothing. Every enum that is an answer has one definition,
 -- `said..`, that gives this for each of its cases, and promises are made of it.
 use Prim.Native.Nat.{ℕ}
 use mathlib.Core.Bool.{Bool, cond}
