@@ -6,7 +6,7 @@ use oracle::{
     answers::{self, Settings, by_key, is_sized, record_of},
     blocks::{self, BLOCK_QUESTIONS, TYPES},
     form::{Stream, Words, kind},
-    known::{ATTRIBUTES, LEVELS, ROWS},
+    known::{ATTRIBUTES, LEVELS, ROWS, tells_byte},
     sections::{Rng, Writer},
     shapes::Shaper,
     theirs::keep_panics,
@@ -91,7 +91,10 @@ impl Cases {
         match by_key(info, question, key) {
             Ok(body) => {
                 if body.0.len() == 12 && body.0[4..8] == [0; 4] && body.0[11] & 0x80 != 0 {
-                    self.add("refused by one of several numbers: the Rust is not run, or ours stops before it", 1);
+                    self.add(
+                        "refused by one of several numbers: the Rust is not run, or ours stops before it",
+                        1,
+                    );
                 }
                 group.push((question, body));
             }
@@ -148,11 +151,16 @@ impl Cases {
 
     fn section(&mut self, class: &str, bytes: &[u8], settings: Settings) -> io::Result<()> {
         let (body, info) = answers::section(bytes, settings);
-        let read = if info.is_some() { "read" } else { "refused or over the limits" };
+        let read = if info.is_ok() { "read" } else { "refused or over the limits" };
         self.add(format!("sections, {class}"), 1);
         self.add(format!("sections, {class}: {read}"), 1);
+        if let Err(number) = info
+            && tells_byte(number)
+        {
+            self.add(format!("sections refused with a byte ({number})"), 1);
+        }
         let mut group = vec![(kind::SECTION, body)];
-        if let Some(info) = info {
+        if let Ok(info) = info {
             for key in self.asked_keys(&info) {
                 self.ask_row(&mut group, &info, key);
             }
