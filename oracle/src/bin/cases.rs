@@ -308,6 +308,36 @@ impl Cases {
         Ok(())
     }
 
+    /// A section that wants more than it has, cut at every byte.
+    fn every_cut(&mut self, w: &Writer) -> io::Result<()> {
+        let settings = Settings { e: w.e, erased: true, producer: Producer::OTHER };
+        (1..=w.bytes.len()).try_for_each(|len| self.section("cut", &w.bytes[..len], settings))
+    }
+
+    /// Cuts in every field: of an entry with each form, of the same as a root with an entry and a null inside, behind which the next may begin past the end.
+    fn cuts(&mut self) -> io::Result<()> {
+        let endians = if self.stride > 1 { &BOTH[..1] } else { &BOTH };
+        for &e in endians {
+            let mut ordinary = Writer::new(e);
+            ordinary.entry_sized(e, 0x14, |size| size + 1, |w| every_form(w, e));
+            self.every_cut(&ordinary)?;
+            for data in BOTH {
+                let mut root = Writer::new(e);
+                let inside = |w: &mut Writer| {
+                    every_form(w, data);
+                    w.attribute(data, 0x121, 0, &[]);
+                    w.attribute(data, 0x2022, 0, &[]);
+                    w.entry(data, 0x0c, |w| w.attribute(data, 0x38, 0, b"ab"));
+                    w.number(7, 4, data);
+                    w.bytes.extend([0; 3]);
+                };
+                root.entry_sized(e, 0, |size| size + 1, inside);
+                self.every_cut(&root)?;
+            }
+        }
+        Ok(())
+    }
+
     fn block(&mut self, class: &str, question: u32, body: Words) -> io::Result<()> {
         self.add(format!("blocks, {class}"), 1);
         self.group(vec![(question, body)])
@@ -425,6 +455,17 @@ impl Cases {
     }
 }
 
+/// An attribute of each form; texts and blocks have one byte and more.
+fn every_form(w: &mut Writer, data: Endian) {
+    for number in [0x111, 0x12, 0x55, 0xb6, 0x1c7] {
+        w.attribute(data, number, 7, &[]);
+    }
+    for number in [0x23, 0xf4, 0x38] {
+        w.attribute(data, number, 0, b"a");
+        w.attribute(data, number, 0, b"bcd");
+    }
+}
+
 /// All byte strings of up to so many bytes.
 fn all_bytes(most: usize) -> impl Iterator<Item = Vec<u8>> {
     (0..=most).flat_map(|len| (0u32..1 << (8 * len)).map(move |n| n.to_be_bytes()[4 - len..].to_vec()))
@@ -494,6 +535,7 @@ fn all(words: &[String], shown: Option<u32>) -> io::Result<()> {
     c.every_number()?;
     c.short_blocks()?;
     c.short_sections()?;
+    c.cuts()?;
     c.report();
     c.stream.end()
 }
