@@ -1,6 +1,6 @@
 -- Settings, answers and tables as they cross to a program in Rust or C: numbers and slices. A number that stands for a choice always means one, so
 -- crossing itself refuses nothing.
-use Prim.Native.Nat.{ℕ}
+use Prim.Native.Nat.{ℕ, _^_, _-_}
 use mathlib.Core.Path.{_≡_}
 use mathlib.Core.Bool.{Bool, not, cond}
 use mathlib.Core.List.{List, [], _∷_}
@@ -68,9 +68,16 @@ crossed given wanted held (refuses number place (n ∷ more)) = toldWith number 
 unfoldable pub inOrder : List ℕ → Results
 inOrder counts = results (getD counts 0 0) (getD counts 1 0) (getD counts 2 0)
 
--- of counting and reading: rows and attributes
+-- no byte is told: no place that reading comes to is that far
+abbrev pub noByte : ℕ
+noByte = 2 ^ 64 - 1
+
+-- of counting and reading: rows and attributes, with 8 those that are needed, at any other refusal what they held before; and the byte that 4 to 6 tell
 unfoldable pub countsTold : Results → Said Counts → Told
-countsTold held d = crossed (λ c. results (c .rows) (c .attrs) 0) inOrder held d
+countsTold held (gives c) = toldWith 0 0 (results (c .rows) (c .attrs) noByte)
+countsTold held (refuses number place []) = toldWith number place (results (held .first) (held .second) noByte)
+countsTold held (refuses number place (byte ∷ [])) = toldWith number place (results (held .first) (held .second) byte)
+countsTold held (refuses number place (rows ∷ attrs ∷ more)) = toldWith number place (results rows attrs noByte)
 
 -- of a size, an offset, and a listing's rows: the number itself
 unfoldable pub numberTold : Results → Said ℕ → Told
@@ -104,8 +111,9 @@ pub record SaysThree (told : Told) (number place first second third : ℕ) : Typ
   pub third-is : third ≡ told .third
 
 -- what is handed back says what reading answered, from results that held this before; the lent tables hold what its outcome has
-pub record SectionCrosses (held : Results) (o : Outcomes (Said Counts) ℕ ℕ) (number place rows attrs : ℕ) (rowTable attrTable : List ℕ) : Type 0 where
-  pub says : SaysTwo (countsTold held (o .answer)) number place rows attrs
+pub record SectionCrosses (held : Results) (o : Outcomes (Said Counts) ℕ ℕ) (number place rows attrs byte : ℕ)
+    (rowTable attrTable : List ℕ) : Type 0 where
+  pub says : SaysThree (countsTold held (o .answer)) number place rows attrs byte
   pub row-table : rowTable ≡ o .first
   pub attr-table : attrTable ≡ o .second
 

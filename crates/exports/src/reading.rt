@@ -1,4 +1,5 @@
-// Reading and counting. Results: how many rows and attributes were read or, with 8, are needed; at any other refusal they hold what they held.
+// Reading and counting. Results: how many rows and attributes were read or, with 8, are needed, and at any other refusal what they held; the third is the byte
+// that 4 to 6 tell, which is part of the answer and always written.
 use crate::settings::settings_from;
 use crate::told::Results;
 use crate::told::Told;
@@ -9,18 +10,34 @@ use entries::section::Section;
 use entries::section::count_debug_section;
 use entries::section::read_debug_section;
 use format::refusal::Reason;
+use format::refusal::Refusal;
 use format::refusal::number_of;
 use tables::row::Counts;
 ghost use mathlib.Core.Path.{_≡_};
 ghost use Rattle.entries.specs.Section.{saidCount, saidSection, countDebugSection, readDebugSection};
-ghost use Rattle.exports.specs.Crossing.{results, settingsFrom, countsTold, SaysTwo, SectionCrosses};
-ghost use Rattle.exports.specs.Inside.Told.{toldAs};
+ghost use Rattle.exports.specs.Crossing.{results, settingsFrom, noByte, countsTold, SaysThree, SectionCrosses};
+ghost use Rattle.exports.specs.Inside.Told.{toldAs, refusedAs};
+
+// No byte is told: no place that reading comes to is that far.
+const NO_BYTE: u64 = 0xffff_ffff_ffff_ffff;
 
 // The counts that were read, or are needed.
 fn counted_as(number: u32, counts: Counts) -> Told
-    ensures { λ r. ⌜ r ≡ toldAs number (counts .rows) (counts .attrs) 0 ⌝ }
+    ensures { λ r. ⌜ r ≡ toldAs number (counts .rows) (counts .attrs) noByte ⌝ }
 {
-    told_as(number, counts.rows as u64, counts.attrs as u64, 0)
+    told_as(number, counts.rows as u64, counts.attrs as u64, NO_BYTE)
+}
+
+// A refusal with this byte; the counts hold what they held.
+fn refused_with(why: Refusal, held: Results, byte: u64) -> Told
+    ensures { λ r. ⌜ r ≡ refusedAs why (results (held .first) (held .second) byte) ⌝ }
+{
+    let results = Results {
+        first: held.first,
+        second: held.second,
+        third: byte,
+    };
+    refused_as(why, results)
 }
 
 fn count_told(answer: Count, held: Results) -> Told
@@ -28,7 +45,8 @@ fn count_told(answer: Count, held: Results) -> Told
 {
     match answer {
         Count::Counted(counts) => counted_as(0, counts),
-        Count::Refused(why) => refused_as(why, held),
+        Count::Refused(why) => refused_with(why, held, NO_BYTE),
+        Count::Unread { why, byte } => refused_with(why, held, byte),
     }
 }
 
@@ -37,7 +55,8 @@ fn section_told(answer: Section, held: Results) -> Told
 {
     match answer {
         Section::Read(counts) => counted_as(0, counts),
-        Section::Refused(why) => refused_as(why, held),
+        Section::Refused(why) => refused_with(why, held, NO_BYTE),
+        Section::Unread { why, byte } => refused_with(why, held, byte),
         Section::Room(counts) => counted_as(number_of(Reason::Room), counts),
     }
 }
@@ -58,11 +77,13 @@ pub extern "C" fn capbeacon_count_debug_section(
     place: &mut u64,
     row_count: &mut u64,
     attr_count: &mut u64,
+    byte: &mut u64,
 ) -> u32
     ensures { λ r. ⌜
-        SaysTwo (countsTold (results (now («row_count» .entry)) (now («attr_count» .entry)) 0)
+        SaysThree (countsTold (results (now («row_count» .entry)) (now («attr_count» .entry)) 0)
         (countDebugSection (settingsFrom endian erased producer «global_ref» mangled «overlay_name» «overlay_id»)
         (now (vendors .entry)) (now (sizes .entry)) (now (s .entry)))) r (now (place .exit)) (now («row_count» .exit)) (now («attr_count» .exit))
+        (now (byte .exit))
         ⌝ }
 {
     let settings = settings_from(
@@ -83,6 +104,7 @@ pub extern "C" fn capbeacon_count_debug_section(
     *place = counted.place;
     *row_count = counted.first;
     *attr_count = counted.second;
+    *byte = counted.third;
     counted.number
 }
 
@@ -104,12 +126,13 @@ pub extern "C" fn capbeacon_read_debug_section(
     place: &mut u64,
     row_count: &mut u64,
     attr_count: &mut u64,
+    byte: &mut u64,
 ) -> u32
     ensures { λ r. ⌜
         SectionCrosses (results (now («row_count» .entry)) (now («attr_count» .entry)) 0)
         (readDebugSection (settingsFrom endian erased producer «global_ref» mangled «overlay_name» «overlay_id») (now (vendors .entry))
         (now (sizes .entry)) (now (s .entry)) (now (rows .entry)) (now (attrs .entry))) r (now (place .exit)) (now («row_count» .exit))
-        (now («attr_count» .exit)) (now (rows .exit)) (now (attrs .exit))
+        (now («attr_count» .exit)) (now (byte .exit)) (now (rows .exit)) (now (attrs .exit))
         ⌝ }
 {
     let settings = settings_from(
@@ -133,5 +156,6 @@ pub extern "C" fn capbeacon_read_debug_section(
     *place = told.place;
     *row_count = told.first;
     *attr_count = told.second;
+    *byte = told.third;
     told.number
 }

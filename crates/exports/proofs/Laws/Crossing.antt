@@ -37,16 +37,16 @@ said-three told p = record { says = said-two told p; third-is = ap (λ (x : Told
 
 module _ (held : Results) {settings settings′ : Settings} (same : settings ≡ settings′) (vendors sizes s : List ℕ) where
   pub count-crosses : {z : Said Counts} {t : Told} → z ≡ countDebugSection settings vendors sizes s → t ≡ countsTold held z
-      → SaysTwo (countsTold held (countDebugSection settings′ vendors sizes s)) (t .number) (t .place) (t .first) (t .second)
-  count-crosses p q = said-two _ (q ∙ ap (countsTold held) (p ∙ ap (λ (x : Settings). countDebugSection x vendors sizes s) same))
+      → SaysThree (countsTold held (countDebugSection settings′ vendors sizes s)) (t .number) (t .place) (t .first) (t .second) (t .third)
+  count-crosses p q = said-three _ (q ∙ ap (countsTold held) (p ∙ ap (λ (x : Settings). countDebugSection x vendors sizes s) same))
 
   module _ (rows attrs : List ℕ) where
     pub read-crosses : {z : Said Counts} {t : Told} {rows₁ attrs₁ : List ℕ} → BothGiven (readDebugSection settings vendors sizes s rows attrs) z rows₁ attrs₁
         → t ≡ countsTold held z
-        → SectionCrosses held (readDebugSection settings′ vendors sizes s rows attrs) (t .number) (t .place) (t .first) (t .second) rows₁ attrs₁
+        → SectionCrosses held (readDebugSection settings′ vendors sizes s rows attrs) (t .number) (t .place) (t .first) (t .second) (t .third) rows₁ attrs₁
     read-crosses {z} {t} {rows₁} {attrs₁} p q =
-        subst (λ (x : Settings). SectionCrosses held (readDebugSection x vendors sizes s rows attrs) (t .number) (t .place) (t .first) (t .second) rows₁ attrs₁) same
-        (record { says = said-two _ (q ∙ ap (countsTold held) (p .answer-is)); row-table = p .first-is; attr-table = p .second-is })
+        subst (λ (x : Settings). SectionCrosses held (readDebugSection x vendors sizes s rows attrs) (t .number) (t .place) (t .first) (t .second) (t .third) rows₁ attrs₁) same
+        (record { says = said-three _ (q ∙ ap (countsTold held) (p .answer-is)); row-table = p .first-is; attr-table = p .second-is })
 
     module _ {counts counts′ : Counts} (many : counts ≡ counts′) where
       pub size-crosses : (key : ℕ) {z : Said ℕ} {t : Told} → z ≡ sizeOfKey (table s settings vendors sizes rows attrs counts) key → t ≡ numberTold held z

@@ -22,6 +22,9 @@ only-capbeacon-count-debug-section-row-count κs a z z′ e e′ p q = cc
 pub only-capbeacon-count-debug-section-attr-count : OneRoom reading.capbeacon_count_debug_section.Kinds.ps reading.capbeacon_count_debug_section.Kinds.r (λ κs e. now (e .1 .1 .1 .1 .1 .1 .1 .1 .1 .1 .1 .1 .0)) reading.capbeacon_count_debug_section.Reads.Post
 only-capbeacon-count-debug-section-attr-count κs a z z′ e e′ p q = cc
 
+pub only-capbeacon-count-debug-section-byte : OneRoom reading.capbeacon_count_debug_section.Kinds.ps reading.capbeacon_count_debug_section.Kinds.r (λ κs e. now (e .1 .1 .1 .1 .1 .1 .1 .1 .1 .1 .1 .1 .1 .0)) reading.capbeacon_count_debug_section.Reads.Post
+only-capbeacon-count-debug-section-byte κs a z z′ e e′ p q = cc
+
 -- `reading::capbeacon_read_debug_section`
 pub only-capbeacon-read-debug-section : OneAnswer reading.capbeacon_read_debug_section.Kinds.ps reading.capbeacon_read_debug_section.Kinds.r reading.capbeacon_read_debug_section.Reads.Post
 only-capbeacon-read-debug-section κs a z z′ e e′ p q = cc
@@ -40,6 +43,9 @@ only-capbeacon-read-debug-section-row-count κs a z z′ e e′ p q = cc
 
 pub only-capbeacon-read-debug-section-attr-count : OneRoom reading.capbeacon_read_debug_section.Kinds.ps reading.capbeacon_read_debug_section.Kinds.r (λ κs e. now (e .1 .1 .1 .1 .1 .1 .1 .1 .1 .1 .1 .1 .1 .1 .0)) reading.capbeacon_read_debug_section.Reads.Post
 only-capbeacon-read-debug-section-attr-count κs a z z′ e e′ p q = cc
+
+pub only-capbeacon-read-debug-section-byte : OneRoom reading.capbeacon_read_debug_section.Kinds.ps reading.capbeacon_read_debug_section.Kinds.r (λ κs e. now (e .1 .1 .1 .1 .1 .1 .1 .1 .1 .1 .1 .1 .1 .1 .1 .0)) reading.capbeacon_read_debug_section.Reads.Post
+only-capbeacon-read-debug-section-byte κs a z z′ e e′ p q = cc
 
 -- `size::capbeacon_size_of_key`
 pub only-capbeacon-size-of-key : OneAnswer size.capbeacon_size_of_key.Kinds.ps size.capbeacon_size_of_key.Kinds.r size.capbeacon_size_of_key.Reads.Post
