@@ -1,5 +1,6 @@
--- The starred examples of document 01 ('Examples on each side'), big-endian: what is asked of the public calls' definitions, and what they say, with
--- number and place of a refusal and what lent memory then holds. `examples-hold` computes every row.
+-- The starred examples of document 01 ('Examples on each side') and four of document 02's K2, big-endian: what is asked of the public calls'
+-- definitions, and what they say, with number and place of a refusal, the byte that 4 to 6 of reading tell, and what lent memory then holds.
+-- `examples-hold` computes every row.
 use Prim.Native.Nat.{ℕ}
 use mathlib.Core.Bool.{Bool, true, false}
 use mathlib.Core.List.{List, [], _∷_}
@@ -162,13 +163,13 @@ enumeration-is many = gives (record { name = name.Nothing; «byte_size» = 1; me
 unfoldable pub examples : List Example
 examples =
     section false [] says nothing-read (gives (counts 0 0)) ∷
-    section false (0x00 ∷ 0x00 ∷ 0x00 ∷ []) says nothing-read (refuses 4 0 []) ∷
+    section false (0x00 ∷ 0x00 ∷ 0x00 ∷ []) says nothing-read (refuses 4 0 (0 ∷ [])) ∷
     section false (0x00 ∷ 0x00 ∷ 0x00 ∷ 0x00 ∷ []) says null-read ∷
     section false (0x00 ∷ 0x00 ∷ 0x00 ∷ 0x07 ∷ []) says null-read ∷
     section false (0x00 ∷ 0x00 ∷ 0x00 ∷ 0x08 ∷ 0x00 ∷ 0x00 ∷ []) says nothing-read (gives (counts 0 0)) ∷
-    section true (0x00 ∷ 0x00 ∷ 0x00 ∷ 0x08 ∷ 0x00 ∷ 0x00 ∷ []) says nothing-read (refuses 4 0 []) ∷
-    section false (0x00 ∷ 0x00 ∷ 0x00 ∷ 0x08 ∷ 0x00 ∷ 0x08 ∷ []) says nothing-read (refuses 5 0 []) ∷
-    section false (0x00 ∷ 0x00 ∷ 0x00 ∷ 0x08 ∷ 0x00 ∷ 0x14 ∷ []) says nothing-read (refuses 4 0 []) ∷
+    section true (0x00 ∷ 0x00 ∷ 0x00 ∷ 0x08 ∷ 0x00 ∷ 0x00 ∷ []) says nothing-read (refuses 4 0 (6 ∷ [])) ∷
+    section false (0x00 ∷ 0x00 ∷ 0x00 ∷ 0x08 ∷ 0x00 ∷ 0x08 ∷ []) says nothing-read (refuses 5 0 (4 ∷ [])) ∷
+    section false (0x00 ∷ 0x00 ∷ 0x00 ∷ 0x08 ∷ 0x00 ∷ 0x14 ∷ []) says nothing-read (refuses 4 0 (6 ∷ [])) ∷
     section true erased-entry says tables (outcomes (gives (counts 1 2)) erased-row erased-attrs) ∷
     name-of (one-row true erased-entry erased-row erased-attrs) says text (gives (some (record { place = 8; length = 1 }))) (0x41 ∷ []) ∷
     type-of (one-row true erased-entry erased-row erased-attrs) says value (gives (some 7)) ∷
@@ -191,4 +192,10 @@ examples =
     enumeration (one-row false size-first enumeration-row (number.ByteSize ∷ 8 ∷ number.ElementList ∷ 14 ∷ []))
     says members (outcomes (enumeration-is 1) (negsuc 0 ∷ pos 9 ∷ []) (19 ∷ 1 ∷ 9 ∷ [])) ∷
     enumeration (one-row false list-first enumeration-row (number.ElementList ∷ 8 ∷ number.ByteSize ∷ 17 ∷ []))
-    says members (outcomes (enumeration-is 0) lent-values (lent 3)) ∷ []
+    says members (outcomes (enumeration-is 0) lent-values (lent 3)) ∷
+    -- document 02, K2: a block's bytes, a block's length, a text without its zero, an attribute's number that is not known
+    section false (0x00 ∷ 0x00 ∷ 0x00 ∷ 0x0d ∷ 0x00 ∷ 0x0d ∷ 0x00 ∷ 0x23 ∷ 0x00 ∷ 0x06 ∷ 0x00 ∷ []) says nothing-read (refuses 4 0 (10 ∷ [])) ∷
+    section false (0x00 ∷ 0x00 ∷ 0x00 ∷ 0x0d ∷ 0x00 ∷ 0x0d ∷ 0x00 ∷ 0x23 ∷ 0x00 ∷ []) says nothing-read (refuses 4 0 (8 ∷ [])) ∷
+    section false (0x00 ∷ 0x00 ∷ 0x00 ∷ 0x09 ∷ 0x00 ∷ 0x14 ∷ 0x00 ∷ 0x38 ∷ 0x41 ∷ []) says nothing-read (refuses 4 0 (8 ∷ [])) ∷
+    section false (0x00 ∷ 0x00 ∷ 0x00 ∷ 0x04 ∷ 0x00 ∷ 0x00 ∷ 0x00 ∷ 0x0c ∷ 0x00 ∷ 0x14 ∷ 0x00 ∷ 0xe6 ∷ 0x00 ∷ 0x00 ∷ 0x00 ∷ 0x00 ∷ [])
+    says nothing-read (refuses 6 4 (10 ∷ [])) ∷ []

@@ -225,6 +225,11 @@ pub fn refused_section(body: &[u8], c: Cursor, why: Refusal) -> Cursor {
     long(body, e, why.place)
 }
 
+// One that 4, 5 or 6 refuses: also the byte.
+pub fn unread_section(body: &[u8], c: Cursor, why: Refusal, byte: u64) -> Cursor {
+    long(body, refused_section(body, c, why), byte)
+}
+
 fn if_marked(marked: bool) -> u32 {
     if marked { 3 } else { 0 }
 }

@@ -9,6 +9,7 @@ use crate::cursor::count;
 use crate::cursor::given;
 use crate::cursor::refused_section;
 use crate::cursor::start;
+use crate::cursor::unread_section;
 use crate::cursor::word;
 use crate::cursor::word_of;
 use crate::enumerations::enumeration;
@@ -214,6 +215,9 @@ fn large_section(
             section_read(packet, at, t, c, s, settings, &rows, &attrs, counts)
         }
         Section::Refused(why) => { judged(packet, at, t, 1, body, refused_section(body, c, why)) }
+        Section::Unread { why, byte } => {
+            judged(packet, at, t, 1, body, unread_section(body, c, why, byte))
+        }
         Section::Room(needed) => judged(packet, at, t, 1, body, over_limits(body, c, needed)),
     }
 }
@@ -235,6 +239,9 @@ fn small_section(
             section_read(packet, at, t, c, s, settings, &rows, &attrs, counts)
         }
         Section::Refused(why) => { judged(packet, at, t, 1, body, refused_section(body, c, why)) }
+        Section::Unread { why, byte } => {
+            judged(packet, at, t, 1, body, unread_section(body, c, why, byte))
+        }
         Section::Room(_) => large_section(packet, at, t, c, s, settings),
     }
 }

@@ -8,7 +8,8 @@
 //
 // or `refused N at KEY` in place of the size. Numbers are decimal but for keys; `member`, `hole` and `padding` are followed by offset and size in bytes. Where
 // a base or another child that is no member may take bytes, a stretch without members is `no member`. A structure without ByteSize has `largest end` in place
-// of `size`, or is `declared only` where it has no children either.
+// of `size`, or is `declared only` where it has no children either. A section that is refused has one line alone, `refused N at KEY`; where a field could not be
+// read or was not known ` byte PLACE` follows, its first byte, written as keys are.
 use crate::gaps::Gap;
 use crate::gaps::Stretch;
 use crate::gaps::gap_between;
@@ -65,11 +66,16 @@ fn part(s: &[u8], place: u32, n: u32) -> &[u8] {
 }
 
 // 'refused N at KEY'
-fn put_refusal(buffer: &mut [u8], used: usize, number: u64, place: u64) -> usize {
+fn put_refused(buffer: &mut [u8], used: usize, number: u64, place: u64) -> usize {
     let at = put_text(buffer, used, b"refused ");
     let at = put_decimal(buffer, at, number);
     let at = put_text(buffer, at, b" at ");
-    let at = put_hex(buffer, at, place, 8);
+    put_hex(buffer, at, place, 8)
+}
+
+// The same as a line.
+fn put_refusal(buffer: &mut [u8], used: usize, number: u64, place: u64) -> usize {
+    let at = put_refused(buffer, used, number, place);
     put_text(buffer, at, b"\n")
 }
 
@@ -78,6 +84,17 @@ fn report_refusal(why: Refusal) {
     let mut buffer = [0u8; 64];
     let reason = why.reason;
     let used = put_refusal(&mut buffer, 0, number_of(reason) as u64, why.place);
+    flush(&buffer, used);
+}
+
+// The same with the first byte of the field: a hex viewer finds it there.
+fn report_unread(why: Refusal, byte: u64) {
+    let mut buffer = [0u8; 64];
+    let reason = why.reason;
+    let at = put_refused(&mut buffer, 0, number_of(reason) as u64, why.place);
+    let at = put_text(&mut buffer, at, b" byte ");
+    let at = put_hex(&mut buffer, at, byte, 8);
+    let used = put_text(&mut buffer, at, b"\n");
     flush(&buffer, used);
 }
 
@@ -454,6 +471,7 @@ pub fn report(s: &[u8], preset: Preset) {
     ) {
         Section::Read(counts) => report_layouts(s, preset, &rows, &attrs, counts),
         Section::Refused(why) => report_refusal(why),
+        Section::Unread { why, byte } => report_unread(why, byte),
         Section::Room(found) => report_room(
             b"entries",
             found.rows as u64,

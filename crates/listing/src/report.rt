@@ -152,6 +152,8 @@ fn report_answer(
     match answer {
         Section::Read(counts) => report_tree(section, rows, attrs, counts, page),
         Section::Refused(why) => report_refusal(why, page),
+        // Document 01's line has no byte.
+        Section::Unread { why, byte: _ } => report_refusal(why, page),
         Section::Room(_) => report_room(page),
     }
 }

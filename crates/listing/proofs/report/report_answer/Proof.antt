@@ -20,7 +20,11 @@ returns-2 c = case-printed saidSection _ (c .before .before .before .before .bef
 
 returns-3 : tie.Need-returns-3
 unfolding saidSection answerText
-returns-3 c = case-printed saidSection _ (c .before .before .before .before .enum-told .given .1) (c .before .before .report-room .ensures)
+returns-3 c = case-printed saidSection _ (c .before .before .before .before .before .answer3 .given .1) (c .before .before .report-refusal2 .ensures)
+
+returns-4 : tie.Need-returns-4
+unfolding saidSection answerText
+returns-4 c = case-printed saidSection _ (c .before .before .before .before .enum-told .given .1) (c .before .before .report-room .ensures)
 
 pub report-answer-spec : {M : Type 1} → statement M
 report-answer-spec =
@@ -33,8 +37,12 @@ report-answer-spec =
     (λ c. search needs)
     (λ c κs. search needs)
     (λ c. search needs)
+    (λ c κs. search needs)
+    (λ c. search needs)
     returns
     (λ c. search needs)
     returns-2
     (λ c. search needs)
-    returns-3)
+    returns-3
+    (λ c. search needs)
+    returns-4)
