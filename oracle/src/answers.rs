@@ -2,7 +2,7 @@
 use crate::{
     foresee::{self, Foreseen, Size, Why},
     form::{Words, kind},
-    known::{ATTRIBUTES, DEPTH, ROWS},
+    known::{ATTRIBUTES, DEPTH, ROWS, tells_byte},
     plain::plain,
     theirs::{Fault, asked, asked_of_copy, read, too_deep},
     util::{
@@ -92,29 +92,34 @@ fn record<T>(
     }
 }
 
-/// The answer to reading a section: rows, attributes and values; or a refusal with its place; or the counts of what is over our limits.
-fn read_words(section: &[u8], settings: Settings, words: &mut Words) -> Option<DwarfInfo> {
+/// The answer to reading a section: rows, attributes and values; or a refusal with its place and byte; or the counts of what is over our limits. Comes to the
+/// section, or to the refusal's number.
+fn read_words(section: &[u8], settings: Settings, words: &mut Words) -> Result<DwarfInfo, u32> {
     let mut info = match read(section, settings.e, settings.erased) {
         Ok(info) => info,
-        Err((number, place)) => {
+        Err((number, place, byte)) => {
             // A root inside 16 others takes 200 bytes: there ours may stop before the Rust fails.
             let may_nest = settings.erased && section.len() >= 198;
-            [if may_nest { 3 } else { 0 }, number, place as u32, (place >> 32) as u32]
-                .iter()
-                .for_each(|w| words.word(*w));
-            return None;
+            words.word(if may_nest { 3 } else { 0 });
+            words.word(number);
+            words.long(place);
+            if tells_byte(number) {
+                words.long(byte);
+            }
+            return Err(number);
         }
     };
     info.producer = settings.producer;
     if let Some(place) = too_deep(section, settings.e, &info.tags) {
-        [0, 7, place as u32, (place >> 32) as u32].iter().for_each(|w| words.word(*w));
-        return None;
+        [0, 7].iter().for_each(|w| words.word(*w));
+        words.long(place);
+        return Err(7);
     }
     let attrs: usize = info.tags.values().map(|tag| tag.attributes.len()).sum();
     let over = info.tags.len() > ROWS || attrs > ATTRIBUTES;
     [if over { 2 } else { 1 }, info.tags.len() as u32, attrs as u32].iter().for_each(|w| words.word(*w));
     if over {
-        return None;
+        return Err(8);
     }
     for tag in info.tags.values() {
         let flags = tag.is_erased as u32
@@ -125,11 +130,11 @@ fn read_words(section: &[u8], settings: Settings, words: &mut Words) -> Option<D
             .for_each(|w| words.word(*w));
         tag.attributes.iter().for_each(|a| words.attribute(a));
     }
-    Some(info)
+    Ok(info)
 }
 
-/// The body of a section's question, and the section if it is read.
-pub fn section(section: &[u8], settings: Settings) -> (Words, Option<DwarfInfo>) {
+/// The body of a section's question, and the section if it is read, else the refusal's number.
+pub fn section(section: &[u8], settings: Settings) -> (Words, Result<DwarfInfo, u32>) {
     let mut words = Words::of(&[settings.word()]);
     words.bytes(section);
     let info = read_words(section, settings, &mut words);

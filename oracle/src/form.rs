@@ -51,6 +51,12 @@ impl Words {
         self.0.extend_from_slice(&w.to_le_bytes());
     }
 
+    /// Two words, the lower first.
+    pub fn long(&mut self, n: u64) {
+        self.word(n as u32);
+        self.word((n >> 32) as u32);
+    }
+
     pub fn bytes(&mut self, bytes: &[u8]) {
         self.word(bytes.len() as u32);
         self.0.extend_from_slice(bytes);
@@ -104,10 +110,7 @@ impl Words {
                 self.word(*v);
             }
             AttributeValue::Data2(v) => self.word(*v as u32),
-            AttributeValue::Data8(v) => {
-                self.word(*v as u32);
-                self.word((*v >> 32) as u32);
-            }
+            AttributeValue::Data8(v) => self.long(*v),
             AttributeValue::Block(v) => self.bytes(v),
             AttributeValue::String(v) => self.text(v),
         }

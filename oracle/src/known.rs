@@ -10,6 +10,11 @@ pub const LEVELS: usize = 16;
 pub const SPECIFICATIONS: usize = 16;
 pub const DEPTH: usize = 32;
 
+/// Does a refusal of reading tell the first byte of the field that could not be read or was not known?
+pub fn tells_byte(number: u32) -> bool {
+    (4..=6).contains(&number)
+}
+
 /// The attribute numbers that document 01 names.
 pub const NAMED: [u16; 57] = [
     0x012, 0x023, 0x038, 0x055, 0x063, 0x072, 0x083, 0x095, 0x0a3, 0x0b6, 0x0c5, 0x0d6, 0x0f4, 0x106, 0x111,
@@ -27,6 +32,7 @@ pub fn vendors() -> Vec<u16> {
 /// The vendor list that the definitions have, `mwVendors` of the crate `format`.
 pub fn preset_vendors() -> Vec<u16> {
     let text = include_str!("../../crates/format/specs/Presets.antt");
-    let list = text.split("\nmwVendors =").nth(1).and_then(|rest| rest.split("[]").next()).expect("mwVendors");
+    let list =
+        text.split("\nmwVendors =").nth(1).and_then(|rest| rest.split("[]").next()).expect("mwVendors");
     list.split("0x").skip(1).map(|n| u16::from_str_radix(&n[..4], 16).expect("a number")).collect()
 }

@@ -26,6 +26,7 @@ unsafe extern "C" {
         place: &mut u64,
         row_count: &mut u64,
         attr_count: &mut u64,
+        byte: &mut u64,
     ) -> u32;
 
     fn capbeacon_read_debug_section(
@@ -49,16 +50,21 @@ unsafe extern "C" {
         place: &mut u64,
         row_count: &mut u64,
         attr_count: &mut u64,
+        byte: &mut u64,
     ) -> u32;
 }
 
-/// A number (0 for read, else the refusal's), the place of a refusal, and the counts read or needed.
+/// What stands for no byte.
+pub const NO_BYTE: u64 = u64::MAX;
+
+/// A number (0 for read, else the refusal's), the place of a refusal, the counts read or needed, and the first byte of the field that could not be read.
 #[derive(Debug, Default, Clone, Copy, PartialEq, Eq)]
 pub struct Answer {
     pub number: u32,
     pub place: u64,
     pub rows: u64,
     pub attrs: u64,
+    pub byte: u64,
 }
 
 pub struct Reader {
@@ -102,6 +108,7 @@ impl Reader {
                 &mut answer.place,
                 &mut answer.rows,
                 &mut answer.attrs,
+                &mut answer.byte,
             )
         };
         answer
@@ -132,6 +139,7 @@ impl Reader {
                 &mut answer.place,
                 &mut answer.rows,
                 &mut answer.attrs,
+                &mut answer.byte,
             )
         };
         answer

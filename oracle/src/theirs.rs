@@ -13,11 +13,22 @@ use std::{
     sync::Mutex,
 };
 
-/// A section that remembers where the innermost entry began: only `read_tags` asks for its place and then reads four bytes.
+/// A section that remembers where the innermost entry and the last field began.
 struct Traced<'a> {
     cursor: Cursor<&'a [u8]>,
+    /// Its place was asked for since the last read: only `read_tags` asks and then reads four bytes.
     asked: bool,
     entry: u64,
+    /// A field is one read; only a text is several, of one byte each.
+    field: u64,
+    /// How many bytes the last read wanted.
+    wanted: usize,
+}
+
+impl<'a> Traced<'a> {
+    fn new(section: &'a [u8]) -> Self {
+        Traced { cursor: Cursor::new(section), asked: false, entry: 0, field: 0, wanted: 0 }
+    }
 }
 
 impl Read for Traced<'_> {
@@ -26,10 +37,15 @@ impl Read for Traced<'_> {
     }
 
     fn read_exact(&mut self, bytes: &mut [u8]) -> io::Result<()> {
-        if self.asked && bytes.len() == 4 {
-            self.entry = self.cursor.position();
+        let (place, wanted) = (self.cursor.position(), bytes.len());
+        if self.asked && wanted == 4 {
+            self.entry = place;
         }
-        self.asked = false;
+        // A number or a length stands before each field of one byte, so one byte after one byte is of the same text.
+        if (self.wanted, wanted) != (1, 1) {
+            self.field = place;
+        }
+        (self.asked, self.wanted) = (false, wanted);
         self.cursor.read_exact(bytes)
     }
 }
@@ -55,9 +71,9 @@ impl Seek for Traced<'_> {
     }
 }
 
-/// What the Rust does: its tags, or the refusal that its error stands for (0 for a panic) and the innermost entry's key.
-pub fn read(section: &[u8], e: Endian, erased: bool) -> Result<DwarfInfo, (u32, u64)> {
-    let mut reader = Traced { cursor: Cursor::new(section), asked: false, entry: 0 };
+/// What the Rust does: its tags, or the refusal that its error stands for (0 for a panic), the innermost entry's key and the first byte of the last field.
+pub fn read(section: &[u8], e: Endian, erased: bool) -> Result<DwarfInfo, (u32, u64, u64)> {
+    let mut reader = Traced::new(section);
     let read = AssertUnwindSafe(|| read_debug_section(&mut reader, e, erased));
     let why = match panic::catch_unwind(read) {
         Ok(Ok(info)) => return Ok(info),
@@ -69,7 +85,7 @@ pub fn read(section: &[u8], e: Endian, erased: bool) -> Result<DwarfInfo, (u32, 
         },
         Err(_) => 0,
     };
-    Err((why, reader.entry))
+    Err((why, reader.entry, reader.field))
 }
 
 /// The key of the first erased root on a level that we do not allow.

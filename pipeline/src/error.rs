@@ -10,18 +10,19 @@ pub struct Needed {
     pub members: u64,
 }
 
-/// A refusal: its number, the place that it names (a key, or 0), and what is needed if its number is 8.
+/// A refusal: its number, the place that it names (a key, or 0), what is needed if its number is 8, and the byte of a field if it is 4 to 6.
 ///
 /// ```
 /// use capbeacon::{Endian, Section, Settings};
 /// let error = Section::read([0, 0, 0], Settings::none(Endian::Big)).unwrap_err();
-/// assert_eq!(error.to_string(), "refused 4 at 00000000: bytes wanted are not there");
+/// assert_eq!(error.to_string(), "refused 4 at 00000000: bytes wanted are not there, from byte 00000000 on");
 /// ```
 #[derive(Debug, Clone, Copy, PartialEq, Eq)]
 pub struct Error {
     pub number: u32,
     pub place: u64,
     pub needed: Needed,
+    pub(crate) byte: Option<u64>,
 }
 
 /// The refusals from 1 on.
@@ -54,11 +55,29 @@ impl Error {
         let at = (self.number as usize).wrapping_sub(1);
         WORDS.get(at).copied().unwrap_or("no refusal has this number")
     }
+
+    /// The first byte of the field that is not there (4) or not known (5, 6); the place is where the entry begins. Other refusals tell none.
+    ///
+    /// ```
+    /// use capbeacon::{Endian, Section, Settings};
+    /// // A null entry, and one whose tag is not known.
+    /// let error = Section::read([0, 0, 0, 4, 0, 0, 0, 8, 0, 8], Settings::none(Endian::Big)).unwrap_err();
+    /// assert_eq!((error.number, error.place, error.byte()), (5, 4, Some(8)));
+    /// assert_eq!(error.to_string(), "refused 5 at 00000004: tag number unknown, at byte 00000008");
+    /// ```
+    pub fn byte(&self) -> Option<u64> {
+        self.byte
+    }
 }
 
 impl fmt::Display for Error {
     fn fmt(&self, f: &mut fmt::Formatter<'_>) -> fmt::Result {
         write!(f, "refused {} at {:08x}: {}", self.number, self.place, self.words())?;
+        match (self.number, self.byte) {
+            (4, Some(byte)) => write!(f, ", from byte {byte:08x} on")?,
+            (_, Some(byte)) => write!(f, ", at byte {byte:08x}")?,
+            (_, None) => {}
+        }
         let Needed { rows, attributes, structures, members } = self.needed;
         let counts =
             [(rows, "rows"), (attributes, "attributes"), (structures, "structures"), (members, "members")];

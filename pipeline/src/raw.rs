@@ -37,6 +37,7 @@ unsafe extern "C" {
         place: &mut u64,
         row_count: &mut u64,
         attr_count: &mut u64,
+        byte: &mut u64,
     ) -> u32;
 
     fn capbeacon_read_debug_section(
@@ -60,6 +61,7 @@ unsafe extern "C" {
         place: &mut u64,
         row_count: &mut u64,
         attr_count: &mut u64,
+        byte: &mut u64,
     ) -> u32;
 
     fn capbeacon_list_tree(
@@ -183,27 +185,39 @@ unsafe extern "C" {
 /// What results hold before a call. A refusal leaves them so, but for the counts that 8 needs.
 pub const HELD: u64 = 0x5a5a_5a5a_5a5a_5a5a;
 
-/// A number (0 for given, else the refusal's), the place of a refusal (0 where nothing is refused), and up to three results.
+/// What stands for no byte.
+pub const NO_BYTE: u64 = u64::MAX;
+
+/// A number (0 for given, else the refusal's), the place of a refusal (0 where nothing is refused), the byte that reading tells with 4 to 6, and up to three
+/// results.
 #[derive(Debug, Clone, Copy, PartialEq, Eq)]
 pub struct Answer {
     pub number: u32,
     pub place: u64,
+    pub byte: u64,
     pub results: [u64; 3],
 }
 
 impl Answer {
-    /// Before the call.
+    /// Before a call that tells no byte.
     fn open() -> Self {
-        Answer { number: 0, place: HELD, results: [HELD; 3] }
+        Answer { number: 0, place: HELD, byte: NO_BYTE, results: [HELD; 3] }
+    }
+
+    /// Before reading, which always writes the byte.
+    fn open_reading() -> Self {
+        Answer { byte: HELD, ..Answer::open() }
     }
 
     /// The results, or the refusal; `needed` says which results tell what 8 needs.
     pub fn given(self, needed: impl Fn([u64; 3]) -> Needed) -> Result<[u64; 3], Error> {
-        match self.number {
-            0 => Ok(self.results),
-            8 => Err(Error { number: 8, place: self.place, needed: needed(self.results) }),
-            number => Err(Error { number, place: self.place, needed: Needed::default() }),
-        }
+        let needed = match self.number {
+            0 => return Ok(self.results),
+            8 => needed(self.results),
+            _ => Needed::default(),
+        };
+        let byte = (self.byte != NO_BYTE).then_some(self.byte);
+        Err(Error { number: self.number, place: self.place, needed, byte })
     }
 }
 
@@ -255,15 +269,16 @@ macro_rules! call {
 
 /// How many rows and attributes a section has.
 pub fn count(s: &[u8], settings: &Settings) -> Answer {
-    let mut answer = Answer::open();
+    let mut answer = Answer::open_reading();
     let [rows, attrs, _] = &mut answer.results;
-    answer.number = call!(capbeacon_count_debug_section, s, settings, &mut answer.place, rows, attrs);
+    let (place, byte) = (&mut answer.place, &mut answer.byte);
+    answer.number = call!(capbeacon_count_debug_section, s, settings, place, rows, attrs, byte);
     answer
 }
 
 /// The same, and both tables filled.
 pub fn read(s: &[u8], settings: &Settings, rows: &mut [u32], attrs: &mut [u32]) -> Answer {
-    let mut answer = Answer::open();
+    let mut answer = Answer::open_reading();
     let [row_count, attr_count, _] = &mut answer.results;
     answer.number = call!(
         capbeacon_read_debug_section,
@@ -276,6 +291,7 @@ pub fn read(s: &[u8], settings: &Settings, rows: &mut [u32], attrs: &mut [u32]) 
         &mut answer.place,
         row_count,
         attr_count,
+        &mut answer.byte,
     );
     answer
 }

@@ -246,7 +246,7 @@ impl Section {
         let [row, number, size, place, first, count, at, length] = words;
         let (row, name) = (row as usize, part(&self.bytes, at as usize, length as usize)?);
         if number != 0 {
-            let error = Error { number: number as u32, place, needed: Needed::default() };
+            let error = Error { number: number as u32, place, needed: Needed::default(), byte: None };
             return Some(Structure { row, name, layout: Err(error) });
         }
         let members = members.chunks_exact(raw::LAID_WIDTH).skip(first as usize).take(count as usize);

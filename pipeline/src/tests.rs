@@ -1,7 +1,7 @@
 //! What the safe functions cannot do: forged tables, and tables and rooms of any length.
 use crate::{
     Endian, Settings,
-    raw::{self, Answer, HELD, Table},
+    raw::{self, Answer, HELD, NO_BYTE, Table},
 };
 
 /// Document 01's input A, and its table.
@@ -44,17 +44,22 @@ fn asked(bytes: &[u8], table: Table) -> [Answer; 4] {
 }
 
 fn given(results: [u64; 3]) -> Answer {
-    Answer { number: 0, place: 0, results }
+    Answer { number: 0, place: 0, byte: NO_BYTE, results }
 }
 
 /// With 8 the counts that are needed.
 fn wanting(results: [u64; 3]) -> Answer {
-    Answer { number: 8, place: 0, results }
+    Answer { number: 8, place: 0, byte: NO_BYTE, results }
 }
 
 /// The results hold what they held.
 fn refused(number: u32, place: u64) -> Answer {
-    Answer { number, place, results: [HELD; 3] }
+    Answer { number, place, byte: NO_BYTE, results: [HELD; 3] }
+}
+
+/// The same of reading with 4, 5 or 6.
+fn unread(number: u32, place: u64, byte: u64) -> Answer {
+    Answer { byte, ..refused(number, place) }
 }
 
 #[test]
@@ -100,8 +105,16 @@ fn rooms_too_small() {
 #[test]
 fn refusals_leave_results_alone() {
     let (mut rows, mut attrs) = ([FILL; 16], [FILL; 9]);
-    assert_eq!(raw::count(&INPUT_A[..0x16], &settings()), refused(4, 0x12));
-    assert_eq!(raw::read(&INPUT_A[..0x16], &settings(), &mut rows, &mut attrs), refused(4, 0x12));
+    let mut read = |bytes: &[u8], settings: &Settings| {
+        let answer = raw::read(bytes, settings, &mut rows, &mut attrs);
+        assert_eq!(raw::count(bytes, settings), answer);
+        answer
+    };
+    assert_eq!(read(&INPUT_A[..0x16], &settings()), unread(4, 0x12, 0x16));
+    assert_eq!(read(&[0, 0, 0, 8, 0, 8], &settings()), unread(5, 0, 4));
+    assert_eq!(read(&[0, 0, 0, 8, 0, 0x14, 0, 0x39], &settings()), unread(6, 0, 6));
+    let broken = Settings { vendors: vec![0x2000], ..settings() };
+    assert_eq!(read(&INPUT_A[..0x16], &broken), refused(1, 0));
     assert_eq!((rows, attrs), ([FILL; 16], [FILL; 9]));
     assert_eq!(raw::offset(&INPUT_A[32..37], Endian::Big), refused(17, 0));
     assert_eq!(raw::offset(&INPUT_A[32..38], Endian::Big), given([0, HELD, HELD]));

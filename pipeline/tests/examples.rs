@@ -83,6 +83,64 @@ fn unknown_tag_and_cut_entry() {
     assert_eq!(refused(read(&[0, 0, 0, 8, 0, 0x14], none())), (4, 0));
 }
 
+/// An entry of which only its size, its tag and these bytes are there.
+fn cut(tag: u8, bytes: &[u8]) -> Vec<u8> {
+    [&[0, 0, 0, 0x40, 0, tag][..], bytes].concat()
+}
+
+#[test]
+fn the_byte_is_the_first_of_the_field() {
+    let fields = [
+        // the size, the tag, an attribute's number
+        (vec![0, 0, 0, 4, 0, 0, 0], (4, 4, 4)),
+        (vec![0, 0, 0, 8, 0], (4, 0, 4)),
+        (vec![0, 0, 0, 8, 0, 8], (5, 0, 4)),
+        (cut(0x14, &[0]), (4, 0, 6)),
+        (cut(0x14, &[0, 0x39]), (6, 0, 6)),
+        (cut(0x14, &[0, 0x55, 0, 7, 0, 0x39]), (6, 0, 10)),
+        // values of 4, 4, 2, 4 and 8 bytes
+        (cut(0x14, &[0x01, 0x11, 0, 0, 0]), (4, 0, 8)),
+        (cut(0x14, &[0x00, 0x12, 0, 0, 0]), (4, 0, 8)),
+        (cut(0x14, &[0x00, 0x55, 0]), (4, 0, 8)),
+        (cut(0x14, &[0x00, 0xb6, 0, 0, 0]), (4, 0, 8)),
+        (cut(0x14, &[0x01, 0xc7, 0, 0, 0, 0, 0, 0, 0]), (4, 0, 8)),
+        // a block's length and its bytes
+        (cut(0x14, &[0x00, 0x23, 0]), (4, 0, 8)),
+        (cut(0x14, &[0x00, 0x23, 0, 6, 4, 0, 0]), (4, 0, 10)),
+        (cut(0x14, &[0x00, 0xf4, 0, 0, 0]), (4, 0, 8)),
+        (cut(0x14, &[0x00, 0xf4, 0xff, 0xff, 0xff, 0xff, 0]), (4, 0, 12)),
+        // a text without its zero
+        (cut(0x14, &[0x00, 0x38]), (4, 0, 8)),
+        (cut(0x14, &[0x00, 0x38, b'A', b'B', b'C']), (4, 0, 8)),
+        // a root's two bytes that are looked at, its first number, an entry inside
+        (cut(0, &[0]), (4, 0, 6)),
+        (cut(0, &[0, 0x39]), (6, 0, 6)),
+        (cut(0, &[0x01, 0x21, 0, 0, 0, 0]), (4, 0, 12)),
+        (cut(0, &[0x01, 0x21, 0, 0, 0, 0, 0, 0, 0, 8]), (4, 12, 16)),
+        // behind the section's end, past a null entry of 7 bytes
+        (cut(0, &[0x01, 0x21, 0, 0, 0, 0, 0, 0, 0, 7]), (4, 19, 19)),
+    ];
+    for (bytes, told) in fields {
+        let error = read(&bytes, erased()).unwrap_err();
+        assert_eq!((error.number, error.place, error.byte().unwrap()), told, "{bytes:x?}");
+    }
+}
+
+#[test]
+fn other_refusals_tell_no_byte() {
+    let mut role = none();
+    role.roles.mangled = 0x2008;
+    let section = read(&INPUT_A, none()).unwrap();
+    let refusals = [
+        read(&[0, 0, 0], role).unwrap_err(),
+        read(&[0; 4 * 4097], none()).unwrap_err(),
+        section.size(1).unwrap_err(),
+        section.layout(0x12).unwrap_err(),
+        offset_of_block(&[], Endian::Big).unwrap_err(),
+    ];
+    assert_eq!(refusals.map(|error| (error.number, error.byte())), [1, 8, 11, 12, 17].map(|n| (n, None)));
+}
+
 #[test]
 fn erased_root_in_the_other_endianness() {
     let section = read(&ERASED, erased()).unwrap();
@@ -217,7 +275,9 @@ fn blocks() {
 #[test]
 fn refusals_in_words() {
     let cut = read(&INPUT_A[..0x16], none()).unwrap_err();
-    assert_eq!(cut.to_string(), "refused 4 at 00000012: bytes wanted are not there");
+    assert_eq!(cut.to_string(), "refused 4 at 00000012: bytes wanted are not there, from byte 00000016 on");
+    let unknown = read(&[0, 0, 0, 8, 0, 0x14, 0, 0x39], none()).unwrap_err();
+    assert_eq!(unknown.to_string(), "refused 6 at 00000000: attribute number unknown, at byte 00000006");
     let many = read(&[0; 4 * 4097], none()).unwrap_err();
     assert_eq!(many.to_string(), "refused 8 at 00000000: more is needed than lent or allowed: 4097 rows");
     assert_eq!((many.needed.rows, many.needed.attributes), (4097, 0));

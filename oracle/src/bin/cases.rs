@@ -6,7 +6,7 @@ use oracle::{
     answers::{self, Settings, by_key, is_sized, record_of},
     blocks::{self, BLOCK_QUESTIONS, TYPES},
     form::{Stream, Words, kind},
-    known::{ATTRIBUTES, LEVELS, ROWS},
+    known::{ATTRIBUTES, LEVELS, ROWS, tells_byte},
     sections::{Rng, Writer},
     shapes::Shaper,
     theirs::keep_panics,
@@ -91,7 +91,10 @@ impl Cases {
         match by_key(info, question, key) {
             Ok(body) => {
                 if body.0.len() == 12 && body.0[4..8] == [0; 4] && body.0[11] & 0x80 != 0 {
-                    self.add("refused by one of several numbers: the Rust is not run, or ours stops before it", 1);
+                    self.add(
+                        "refused by one of several numbers: the Rust is not run, or ours stops before it",
+                        1,
+                    );
                 }
                 group.push((question, body));
             }
@@ -148,11 +151,16 @@ impl Cases {
 
     fn section(&mut self, class: &str, bytes: &[u8], settings: Settings) -> io::Result<()> {
         let (body, info) = answers::section(bytes, settings);
-        let read = if info.is_some() { "read" } else { "refused or over the limits" };
+        let read = if info.is_ok() { "read" } else { "refused or over the limits" };
         self.add(format!("sections, {class}"), 1);
         self.add(format!("sections, {class}: {read}"), 1);
+        if let Err(number) = info
+            && tells_byte(number)
+        {
+            self.add(format!("sections refused with a byte ({number})"), 1);
+        }
         let mut group = vec![(kind::SECTION, body)];
-        if let Some(info) = info {
+        if let Ok(info) = info {
             for key in self.asked_keys(&info) {
                 self.ask_row(&mut group, &info, key);
             }
@@ -300,6 +308,36 @@ impl Cases {
         Ok(())
     }
 
+    /// A section that wants more than it has, cut at every byte.
+    fn every_cut(&mut self, w: &Writer) -> io::Result<()> {
+        let settings = Settings { e: w.e, erased: true, producer: Producer::OTHER };
+        (1..=w.bytes.len()).try_for_each(|len| self.section("cut", &w.bytes[..len], settings))
+    }
+
+    /// Cuts in every field: of an entry with each form, of the same as a root with an entry and a null inside, behind which the next may begin past the end.
+    fn cuts(&mut self) -> io::Result<()> {
+        let endians = if self.stride > 1 { &BOTH[..1] } else { &BOTH };
+        for &e in endians {
+            let mut ordinary = Writer::new(e);
+            ordinary.entry_sized(e, 0x14, |size| size + 1, |w| every_form(w, e));
+            self.every_cut(&ordinary)?;
+            for data in BOTH {
+                let mut root = Writer::new(e);
+                let inside = |w: &mut Writer| {
+                    every_form(w, data);
+                    w.attribute(data, 0x121, 0, &[]);
+                    w.attribute(data, 0x2022, 0, &[]);
+                    w.entry(data, 0x0c, |w| w.attribute(data, 0x38, 0, b"ab"));
+                    w.number(7, 4, data);
+                    w.bytes.extend([0; 3]);
+                };
+                root.entry_sized(e, 0, |size| size + 1, inside);
+                self.every_cut(&root)?;
+            }
+        }
+        Ok(())
+    }
+
     fn block(&mut self, class: &str, question: u32, body: Words) -> io::Result<()> {
         self.add(format!("blocks, {class}"), 1);
         self.group(vec![(question, body)])
@@ -417,6 +455,17 @@ impl Cases {
     }
 }
 
+/// An attribute of each form; texts and blocks have one byte and more.
+fn every_form(w: &mut Writer, data: Endian) {
+    for number in [0x111, 0x12, 0x55, 0xb6, 0x1c7] {
+        w.attribute(data, number, 7, &[]);
+    }
+    for number in [0x23, 0xf4, 0x38] {
+        w.attribute(data, number, 0, b"a");
+        w.attribute(data, number, 0, b"bcd");
+    }
+}
+
 /// All byte strings of up to so many bytes.
 fn all_bytes(most: usize) -> impl Iterator<Item = Vec<u8>> {
     (0..=most).flat_map(|len| (0u32..1 << (8 * len)).map(move |n| n.to_be_bytes()[4 - len..].to_vec()))
@@ -486,6 +535,7 @@ fn all(words: &[String], shown: Option<u32>) -> io::Result<()> {
     c.every_number()?;
     c.short_blocks()?;
     c.short_sections()?;
+    c.cuts()?;
     c.report();
     c.stream.end()
 }

@@ -2,8 +2,8 @@
 //!
 //! Short inputs come first, exhaustively, then SECTIONS sections from SEED, three in four of them damaged copies. Each is read with the erased flag off and on.
 use oracle::{
-    known::{ATTRIBUTES, LEVELS, ROWS},
-    ours::{ATTRIBUTE, Answer, ROW, Reader},
+    known::{ATTRIBUTES, LEVELS, ROWS, tells_byte},
+    ours::{ATTRIBUTE, Answer, NO_BYTE, ROW, Reader},
     sections::{Maker, Writer},
     theirs::{read as rust, too_deep},
     util::{
@@ -44,7 +44,7 @@ fn same_block(section: &[u8], data: Endian, place: usize, form: u32, block: &[u8
     at[..len] == *block
 }
 
-/// What became of one comparison: read by both, refused by both at one place for one reason, or outside our limits.
+/// What became of one comparison: read by both, refused by both at one place and byte for one reason, or outside our limits.
 enum Agreed {
     Read { rows: u64, attrs: u64 },
     Refused(u32),
@@ -55,6 +55,8 @@ struct Compare {
     ours: Reader,
     tally: BTreeMap<String, u64>,
     sections: u64,
+    /// Refusals whose byte was compared.
+    bytes: u64,
     differences: u64,
 }
 
@@ -109,6 +111,9 @@ impl Compare {
         if counted != ours && !outside {
             return Err(format!("counting answers {counted:?}, reading {ours:?}"));
         }
+        if tells_byte(ours.number) == (ours.byte == NO_BYTE) {
+            return Err(format!("a byte where none is told, or none where one is: {ours:?}"));
+        }
         result
     }
 
@@ -116,13 +121,15 @@ impl Compare {
         &self,
         section: &[u8],
         e: Endian,
-        theirs: Result<DwarfInfo, (u32, u64)>,
+        theirs: Result<DwarfInfo, (u32, u64, u64)>,
         ours: Answer,
     ) -> Result<Agreed, String> {
         let info = match (theirs, ours.number) {
             (Ok(info), _) => info,
             (Err(why), 0) => return Err(format!("the Rust refuses {why:x?}, ours reads")),
-            (Err(why), number) if why == (number, ours.place) => return Ok(Agreed::Refused(number)),
+            (Err(why), number) if why == (number, ours.place, ours.byte) => {
+                return Ok(Agreed::Refused(number));
+            }
             // The Rust goes on where we stop, and then fails: that this is the 17th level is not checked here.
             (Err(_), 7) => return Ok(Agreed::Outside("7, and the Rust fails further on")),
             (Err(why), _) => return Err(format!("the Rust refuses {why:x?}, ours {ours:x?}")),
@@ -188,7 +195,8 @@ impl Compare {
                     self.add("  attributes equal".into(), attrs);
                 }
                 Ok(Agreed::Refused(number)) => {
-                    self.add(format!("refused by both ({number}), at one place"), 1)
+                    self.bytes += 1;
+                    self.add(format!("refused by both ({number}), at one place and byte"), 1)
                 }
                 Ok(Agreed::Outside(what)) => self.add(format!("outside our limits ({what})"), 1),
                 Err(what) => {
@@ -366,13 +374,15 @@ fn main() -> ExitCode {
     let sections = numbers.next().unwrap_or(400_000);
     let seed = numbers.next().unwrap_or(1);
     panic::set_hook(Box::new(|_| {}));
-    let mut c = Compare { ours: Reader::new(UNTOUCHED), tally: BTreeMap::new(), sections: 0, differences: 0 };
+    let (ours, tally) = (Reader::new(UNTOUCHED), BTreeMap::new());
+    let mut c = Compare { ours, tally, sections: 0, bytes: 0, differences: 0 };
     c.limits();
     c.every_null();
     c.seeded(sections, seed);
     c.every_word();
     c.every_number();
     c.shortest();
+    println!("{} refusals with the same byte", c.bytes);
     println!("{} differences", c.differences);
     if c.differences == 0 { ExitCode::SUCCESS } else { ExitCode::FAILURE }
 }
