@@ -24,11 +24,11 @@ pub enum Attribute {
     Unknown(usize),
 }
 
-// Where the value of an attribute ends, by its number.
+// Where the value of an attribute ends, by its number. Of one that is not known, the value's place as it was asked: reading's loop then has none to keep.
 pub enum Ending {
     At(usize),
     Short(usize),
-    Unknown,
+    Unknown(usize),
 }
 
 // The end of the value at a place, of the attribute number n. Reading and the table test both ask here, of every attribute.
@@ -41,7 +41,7 @@ pub fn known_end(s: &[u8], value: usize, n: u16, e: Endian, vendors: &[u16]) -> 
             End::Short(field) => Ending::Short(field),
         }
     } else {
-        Ending::Unknown
+        Ending::Unknown(value)
     }
 }
 
@@ -56,7 +56,7 @@ fn numbered_at(s: &[u8], at: usize, n: u16, e: Endian, vendors: &[u16]) -> Attri
             next,
         },
         Ending::Short(field) => Attribute::Short(field),
-        Ending::Unknown => Attribute::Unknown(at),
+        Ending::Unknown(place) => Attribute::Unknown(place - 2),
     }
 }
 

@@ -43,10 +43,10 @@ pub enum Entry {
     Next(State),
     // A root was read: its inside follows, in this endianness, up to this end.
     Inside(State, Endian, usize),
-    // A root where no further level is allowed: refusal 7.
-    Nested,
     // Refusals 4 to 6: the first byte of the field that could not be read or was not known.
     Unread(Reason, usize),
+    // A root where no further level is allowed: refusal 7.
+    Nested,
 }
 
 fn flipped(e: Endian) -> Endian

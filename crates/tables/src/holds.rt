@@ -28,7 +28,7 @@ fn attr_holds(s: &[u8], vendors: &[u16], e: Endian, attr: Attr) -> bool
     match known_end(s, attr.value as usize, attr.number as u16, e, vendors) {
         Ending::At(_) => true,
         Ending::Short(_) => false,
-        Ending::Unknown => false,
+        Ending::Unknown(_) => false,
     }
 }
 

@@ -1,6 +1,7 @@
 -- What the code computes comes to `Read`.
-use Prim.Native.Nat.{ℕ, _+_}
-use mathlib.Core.Path.{_≡_, refl}
+use Prim.Native.Nat.{ℕ, _+_, _-_}
+use native.Mathlib.Omega.{arith}
+use mathlib.Core.Path.{_≡_, refl, sym, ap, _∙_}
 use mathlib.Core.Bool.{Bool, true, false, cond}
 use mathlib.Core.List.{List}
 use Rattle.numbers.specs.declared.Endian.{Endian}
@@ -17,11 +18,11 @@ use Rattle.attributes.specs.declared.read.Attribute.{Attribute}
 use Rattle.attributes.specs.declared.read.Attribute.the-variants as attribute
 use Rattle.attributes.specs.Inside.Read.{ended, knownEnd}
 
--- what it says of the attribute at `at`
-unfoldable pub asAttribute : ℕ → ℕ → ℕ → Ending → Attribute
-asAttribute at value n (At next) = attribute.Read n value next
-asAttribute at value n (Short field) = attribute.Short field
-asAttribute at value n Unknown = attribute.Unknown at
+-- what it says of the attribute whose value stands at `value`
+unfoldable pub asAttribute : ℕ → ℕ → Ending → Attribute
+asAttribute value n (At next) = attribute.Read n value next
+asAttribute value n (Short field) = attribute.Short field
+asAttribute value n (Unknown place) = attribute.Unknown (place - 2)
 
 module _ (vendors : List ℕ) (e : Endian) (s : List ℕ) (value n : ℕ) where
   -- a known number, whose value's end was looked for and told
@@ -30,19 +31,29 @@ module _ (vendors : List ℕ) (e : Endian) (s : List ℕ) (value n : ℕ) where
   unfolding knownEnd
   end-known k f v t = rw (k, ← f, ← v, t)
 
-  pub end-unknown : known vendors n ≡ false → Unknown ≡ knownEnd vendors e s value n
+  pub end-unknown : known vendors n ≡ false → Unknown value ≡ knownEnd vendors e s value n
   unfolding knownEnd
   end-unknown k = rw k
 
-as-numbered : (at value n : ℕ) (b : Bool) (v : End)
-    → asAttribute at value n (cond b (ended v) Unknown) ≡ cond b (ending n value v) (attribute.Unknown at)
+  -- one that is told as unknown is told with its own place
+  pub unknown-place : {v : Ending} {place : ℕ} → v ≡ knownEnd vendors e s value n → v ≡ Unknown place → place ≡ value
+  unfolding knownEnd ended
+  unknown-place {place = place} v t = by-cases (known vendors n) (valueEnd (formOf n) e s value) (sym t ∙ v)
+    where
+      by-cases : (b : Bool) (x : End) → Unknown place ≡ cond b (ended x) (Unknown value) → place ≡ value
+      by-cases true (end.At next) p = let z : _≡_ {A = ℕ} 0 1 = cc in absurd (omega arith)
+      by-cases true (end.Short field) p = let z : _≡_ {A = ℕ} 0 1 = cc in absurd (omega arith)
+      by-cases false x p = cc
+
+as-numbered : (at n : ℕ) (b : Bool) (v : End)
+    → asAttribute (at + 2) n (cond b (ended v) (Unknown (at + 2))) ≡ cond b (ending n (at + 2) v) (attribute.Unknown at)
 unfolding asAttribute ended ending
-as-numbered at value n true (end.At next) = refl
-as-numbered at value n true (end.Short field) = refl
-as-numbered at value n false v = refl
+as-numbered at n true (end.At next) = refl
+as-numbered at n true (end.Short field) = refl
+as-numbered at n false v = let same : at + 2 - 2 ≡ at = omega arith in ap attribute.Unknown same
 
 -- what was told of the value's end says what stands at the attribute's place
 pub numbered-told : (vendors : List ℕ) (e : Endian) (s : List ℕ) (at n : ℕ) {v told : Ending} → v ≡ knownEnd vendors e s (at + 2) n → v ≡ told
-    → asAttribute at (at + 2) n told ≡ numbered vendors e s at n
+    → asAttribute (at + 2) n told ≡ numbered vendors e s at n
 unfolding knownEnd numbered
-numbered-told vendors e s at n v t = rw (← t, v) (as-numbered at (at + 2) n (known vendors n) (valueEnd (formOf n) e s (at + 2)))
+numbered-told vendors e s at n v t = rw (← t, v) (as-numbered at n (known vendors n) (valueEnd (formOf n) e s (at + 2)))

@@ -15,6 +15,6 @@ unfoldable pub ended : End → Ending
 ended (end.At next) = At next
 ended (end.Short field) = Short field
 
--- the end of the value that stands at `value`, of the attribute number n
+-- the end of the value that stands at `value`, of the attribute number n; of one that is not known that place
 unfoldable pub knownEnd : List ℕ → Endian → List ℕ → ℕ → ℕ → Ending
-knownEnd vendors e s value n = cond (known vendors n) (ended (valueEnd (formOf n) e s value)) Unknown
+knownEnd vendors e s value n = cond (known vendors n) (ended (valueEnd (formOf n) e s value)) (Unknown value)

@@ -51,13 +51,13 @@ not-known vendors n small h = rw (beyond 65536 (length attributeKinds) attribute
 unfoldable pub atEnd : Ending → Bool
 atEnd (ending.At next) = true
 atEnd (ending.Short field) = false
-atEnd ending.Unknown = false
+atEnd (ending.Unknown place) = false
 
-at-known : (b : Bool) (v : End) → atEnd (cond b (ended v) ending.Unknown) ≡ (b && isAt v)
+at-known : (b : Bool) (v : End) (place : ℕ) → atEnd (cond b (ended v) (ending.Unknown place)) ≡ (b && isAt v)
 unfolding atEnd ended isAt
-at-known true (end.At next) = refl
-at-known true (end.Short field) = refl
-at-known false v = refl
+at-known true (end.At next) place = refl
+at-known true (end.Short field) place = refl
+at-known false v place = refl
 
 module _ (s vendors : List ℕ) (e : Endian) (a : Attr) where
   pub attr-wide : ((k : ℕ) → getD vendors k 0 < 65536) → 65536 ≤ a .number → false ≡ attrHolds s vendors e a
@@ -67,7 +67,7 @@ module _ (s vendors : List ℕ) (e : Endian) (a : Attr) where
   -- its value's end was looked for, by its number, and told
   pub attr-told : {v told : Ending} → v ≡ knownEnd vendors e s (a .value) (a .number) → v ≡ told → atEnd told ≡ attrHolds s vendors e a
   unfolding attrHolds knownEnd
-  attr-told v t = rw (← t, v) (at-known (known vendors (a .number)) (valueEnd (formOf (a .number)) e s (a .value)))
+  attr-told v t = rw (← t, v) (at-known (known vendors (a .number)) (valueEnd (formOf (a .number)) e s (a .value)) (a .value))
 
 -- ---- a run of attributes, from its k-th on
 
