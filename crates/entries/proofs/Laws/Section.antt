@@ -12,7 +12,7 @@ use borrow.Author.Tests.{le-leb, lt-leb, lt-ltb, le-ltb, ltb-true}
 use Rattle.lent.specs.Outcome.{Outcomes, BothGiven, outcomes}
 use Rattle.format.specs.Limits.{sectionLimit, entryLimit, attributeLimit}
 use Rattle.format.specs.Settings.{settingsHold}
-use Rattle.format.specs.Said.{Said, gives, refuses, refuse, refusal, unread, wanting, must, _>>=_, _>>_, inRooms, fillsRooms}
+use Rattle.format.specs.Said.{Said, gives, refuses, refusal, unread, wanting, must, _>>=_, _>>_, inRooms, fillsRooms}
 use Rattle.format.proofs.Laws.Said.{case-said, must-gave, step-gave}
 use Rattle.format.specs.declared.settings.Settings.{Settings}
 use Rattle.format.specs.declared.refusal.Reason.{Reason}

@@ -11,7 +11,7 @@ use lib.Seq.{sets, length-sets}
 use borrow.Author.Tests.{lt-ltb, le-ltb}
 use Rattle.entries.specs.Source.{source, mode}
 use Rattle.numbers.specs.declared.Endian.{Endian}
-use Rattle.format.specs.Said.{Said, gives, refuses, refuse, unread, _>>=_}
+use Rattle.format.specs.Said.{Said, gives, refuses, refuse, _>>=_}
 use Rattle.format.proofs.Laws.Said.{case-said}
 use Rattle.format.specs.declared.refusal.Reason.{Reason}
 use Rattle.format.specs.declared.refusal.Reason.the-variants as reason

@@ -8,9 +8,9 @@ use mathlib.Core.Path.{_≡_, refl, sym, ap, _∙_, subst}
 use mathlib.Core.Bool.{Bool, true, false, _&&_, _||_}
 use mathlib.Core.List.{List, [], _∷_}
 use lib.ListN.{length, getD}
-use lib.Dec.{leb, ltb, eqb}
-use borrow.Author.Tests.{leb-true, leb-false, ltb-true, ltb-false, eqb-true, eqb-false}
-use Rattle.numbers.specs.Value.{valueOf, there, readAt}
+use lib.Dec.{ltb, eqb}
+use borrow.Author.Tests.{leb-false, ltb-true, ltb-false, eqb-true, eqb-false}
+use Rattle.numbers.specs.Value.{valueOf, there}
 use Rattle.numbers.specs.declared.Endian.{Endian}
 use Rattle.numbers.proofs.Laws.Tests.{cond-all}
 use Rattle.numbers.proofs.Laws.Value.{read-all, there-inside}
@@ -21,7 +21,7 @@ use Rattle.format.specs.AttributeKind as number
 use Rattle.format.specs.TagKind.{tags}
 use Rattle.format.specs.TagKind as tag
 use Rattle.format.specs.Refusal.{numberOf}
-use Rattle.format.specs.Said.{Said, gives, refuses, refuse, unread, _>>=_, placed}
+use Rattle.format.specs.Said.{Said, gives, refuses, _>>=_, placed}
 use Rattle.format.specs.declared.form_kind.FormKind.{FormKind}
 use Rattle.format.specs.declared.form_kind.FormKind.the-variants.{Addr, Ref, Block2, Block4, Data2, Data4, Data8, String, Undefined}
 use Rattle.format.specs.declared.refusal.Reason.the-variants as reason
@@ -36,7 +36,7 @@ use Rattle.attributes.proofs.Laws.Text.{zero-here, zero-next}
 use Rattle.entries.specs.Source.{Source}
 use Rattle.entries.specs.Head.{tagHead, sizeHead, headAt}
 use Rattle.entries.specs.Run.{AttrsRead, ran, attr, runEnds, readOn, readRun}
-use Rattle.entries.specs.Entry.{Entry, row, rootEndian, attributes, entryFrom, readEntry}
+use Rattle.entries.specs.Entry.{Entry, rootEndian, attributes, entryFrom, readEntry}
 use Rattle.entries.specs.Wanted.{Cut, NoZero, OneField, address, reference, data2, data4, data8, TwoFields, block2, block4, Sized, Tagged, IsRoot, ReadAs, as-ordinary, as-root, GoesOn, ReadUpTo, none-yet, one-more, AttributeAt, NumberAt, Wants, no-size, no-tag, unknown-tag, no-look, no-number, unknown-number, no-value, no-zero, no-length, no-bytes}
 use Rattle.entries.specs.declared.entry.Mode.{Mode}
 use Rattle.entries.specs.declared.head.Head.{Head}

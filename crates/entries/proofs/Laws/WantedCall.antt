@@ -3,7 +3,7 @@
 use Prim.Native.Nat.{ℕ, zero, suc, _+_, _<_}
 use mathlib.Core.Path.{_≡_, refl, sym, _∙_, subst}
 use mathlib.Core.Bool.{Bool, true, false}
-use mathlib.Core.Logic.{_⊎_, inl, inr, _↔_}
+use mathlib.Core.Logic.{inl, inr, _↔_}
 use mathlib.Core.List.{List, [], _∷_, _++_}
 use lib.ListN.{length}
 use lib.Dec.{ltb}
@@ -12,7 +12,6 @@ use borrow.Fn.Kinds.{Dens, resT, endedOf}
 use denote.Triple.Clauses.{AtExit}
 use denote.Ref.{now}
 use contract.Lifetimes.{Lfts}
-use Rattle.lent.specs.Outcome.{Outcomes, outcomes}
 use Rattle.numbers.specs.declared.Endian.{Endian}
 use Rattle.format.specs.Limits.{sectionLimit, erasedLimit}
 use Rattle.format.specs.Refusal.{numberOf}
@@ -24,13 +23,12 @@ use Rattle.format.specs.declared.refusal.Reason.the-variants as reason
 use Rattle.format.specs.declared.settings.Settings.{Settings}
 use Rattle.tables.specs.declared.row.Row.{Row}
 use Rattle.tables.specs.declared.row.Attr.{Attr}
-use Rattle.tables.specs.declared.row.Counts.{Counts}
 use Rattle.tables.specs.Holds.{fitting}
 use Rattle.tables.specs.Row.{rowsWords, attrsWords}
 use Rattle.entries.specs.Source.{Source, source, mode}
 use Rattle.entries.specs.Entry.{Entry, next, inside, readEntry}
 use Rattle.entries.specs.Walk.{Entries, entries, entriesThen, wholeEntry, entriesFrom, readTags}
-use Rattle.entries.specs.Section.{saidCount, saidSection, wholeWalk, counts, countsOf, sectionEntries, countDebugSection, readDebugSection}
+use Rattle.entries.specs.Section.{saidCount, saidSection, wholeWalk, countsOf, sectionEntries, countDebugSection, readDebugSection}
 use Rattle.entries.specs.Wanted.{Comes, begins, passes, enters, leaves, Wanted, Tells}
 use Rattle.entries.specs.declared.entry.Mode.{Mode}
 use Rattle.entries.proofs.Laws.KnownRun.{by-test}

@@ -7,7 +7,7 @@ use mathlib.Core.List.{List, [], _∷_, _++_}
 use lib.ListN.{length}
 use lib.Dec.{leb, ltb, eqb}
 use borrow.Author.Tests.{leb-false, ltb-false, lt-ltb}
-use Rattle.numbers.specs.Value.{valueOf, readAt}
+use Rattle.numbers.specs.Value.{valueOf}
 use Rattle.numbers.specs.declared.Endian.{Endian}
 use Rattle.numbers.proofs.Laws.Tests.{cond-all}
 use Rattle.numbers.proofs.Laws.Value.{read-all, there-inside}
@@ -15,7 +15,7 @@ use Rattle.format.specs.Limits.{sectionLimit, erasedLimit}
 use Rattle.format.specs.Lookup.{isOn}
 use Rattle.format.specs.TagKind.{tags}
 use Rattle.format.specs.TagKind as tag
-use Rattle.format.specs.Said.{Said, gives, refuses, refuse, _>>=_}
+use Rattle.format.specs.Said.{Said, gives, refuses, _>>=_}
 use Rattle.format.specs.declared.refusal.Reason.the-variants as reason
 use Rattle.format.specs.declared.settings.Settings.{Settings}
 use Rattle.tables.specs.declared.row.Row.{Row}
@@ -24,14 +24,14 @@ use Rattle.entries.specs.Source.{Source, source, mode}
 use Rattle.entries.specs.Head.{nullEnd, tagHead, sizeHead, headAt}
 use Rattle.entries.specs.Run.{AttrsRead}
 use Rattle.entries.specs.Entry.{Entry, next, inside, rootEndian, attributes, entryFrom, readEntry}
-use Rattle.entries.specs.Walk.{Entries, entries, entriesThen, wholeEntry, entriesFrom, readTags}
+use Rattle.entries.specs.Walk.{Entries, entriesThen, wholeEntry, entriesFrom, readTags}
 use Rattle.entries.specs.Section.{wholeWalk}
 use Rattle.entries.specs.Wanted.{Comes, begins, passes, enters, leaves, Wanted}
 use Rattle.entries.specs.declared.entry.Mode.{Mode}
 use Rattle.entries.specs.declared.head.Head.{Head}
 use Rattle.entries.specs.declared.head.Head.the-variants as head
 use Rattle.entries.proofs.Laws.KnownRun.{RunKnown}
-use Rattle.entries.proofs.Laws.RowsRead.{rows-ahead, attributes-known, WalkRows, walk-rows}
+use Rattle.entries.proofs.Laws.RowsRead.{rows-ahead, attributes-known, walk-rows}
 use Rattle.entries.proofs.Laws.Walk.{withinOf, walk-levels}
 use Rattle.entries.proofs.Laws.WantedOnly.{wants-refused}
 

@@ -2,14 +2,15 @@
 -- entry's key, with that byte. So the fields of `Wants` are all that there are, and no two bytes fit one refusal.
 use Prim.Native.Nat.{ℕ, zero, suc, _+_, _≤_, _<_}
 use native.Mathlib.Omega.{arith}
-use mathlib.Core.Path.{_≡_, refl, sym, ap, _∙_, subst}
+use mathlib.Core.Path.{_≡_, refl, ap, _∙_}
 use mathlib.Core.Bool.{Bool, true, false}
 use mathlib.Core.List.{List, [], _∷_}
-use lib.ListN.{length, getD}
-use lib.Dec.{ltb, eqb}
-use borrow.Author.Tests.{lt-leb, le-leb, le-ltb, eq-eqb, ne-eqb, ltb-true}
+use lib.ListN.{length}
+use lib.Dec.{ltb}
+use borrow.Author.Tests.{lt-leb, le-ltb, ne-eqb, ltb-true}
 use Rattle.numbers.specs.Value.{valueOf, there, readAt}
 use Rattle.numbers.specs.declared.Endian.{Endian}
+use Rattle.numbers.proofs.Laws.Written.{inside-there}
 use Rattle.format.specs.Limits.{sectionLimit}
 use Rattle.format.specs.Lookup.{isOn}
 use Rattle.format.specs.Known.{known}
@@ -17,25 +18,20 @@ use Rattle.format.specs.FormKind.{formOf}
 use Rattle.format.specs.TagKind.{tags}
 use Rattle.format.specs.TagKind as tag
 use Rattle.format.specs.Refusal.{numberOf}
-use Rattle.format.specs.Said.{Said, gives, refuses, unread, _>>=_, placed}
+use Rattle.format.specs.Said.{gives, refuses, unread, _>>=_}
 use Rattle.format.specs.declared.form_kind.FormKind.{FormKind}
 use Rattle.format.specs.declared.form_kind.FormKind.the-variants.{String}
-use Rattle.format.specs.declared.refusal.Reason.{Reason}
 use Rattle.format.specs.declared.refusal.Reason.the-variants as reason
 use Rattle.attributes.specs.Text.{zeroFrom}
 use Rattle.attributes.specs.End.{fixedEnd, blockEnd, textEnd, valueEnd}
 use Rattle.attributes.specs.Read.{ending, numbered, readAttribute}
-use Rattle.attributes.specs.declared.value.End.{End}
 use Rattle.attributes.specs.declared.value.End.the-variants as end
-use Rattle.attributes.specs.declared.read.Attribute.the-variants.{Read, Short, Unknown}
+use Rattle.attributes.specs.declared.read.Attribute.the-variants.{Short, Unknown}
 use Rattle.attributes.proofs.Laws.Text.{zero-after, first-zero}
-use Rattle.tables.specs.Row.{putAttr}
 use Rattle.entries.specs.Source.{Source}
 use Rattle.entries.specs.Head.{tagHead, sizeHead, headAt}
-use Rattle.entries.specs.Run.{AttrsRead, attr, readRun}
-use Rattle.entries.specs.Entry.{Entry, rootEndian, attributes, entryFrom, readEntry}
-use Rattle.entries.specs.Wanted.{Cut, NoZero, OneField, address, reference, data2, data4, data8, TwoFields, block2, block4, Sized, Tagged, IsRoot, ReadAs, as-ordinary, as-root, GoesOn, ReadUpTo, none-yet, one-more, AttributeAt, NumberAt, Wants, no-size, no-tag, unknown-tag, no-look, no-number, unknown-number, no-value, no-zero, no-length, no-bytes}
-use Rattle.entries.specs.Inside.Promise.{RunReady, RunRead}
+use Rattle.entries.specs.Entry.{rootEndian, attributes, entryFrom, readEntry}
+use Rattle.entries.specs.Wanted.{Cut, NoZero, OneField, address, reference, data2, data4, data8, TwoFields, block2, block4, Sized, Tagged, IsRoot, ReadAs, as-ordinary, as-root, ReadUpTo, none-yet, one-more, AttributeAt, NumberAt, Wants, no-size, no-tag, unknown-tag, no-look, no-number, unknown-number, no-value, no-zero, no-length, no-bytes}
 use Rattle.entries.specs.declared.entry.Mode.{Mode}
 use Rattle.entries.specs.declared.head.Head.{Head}
 use Rattle.entries.specs.declared.head.Head.the-variants as head
@@ -43,14 +39,9 @@ use Rattle.entries.proofs.Laws.Run.{Loop, begin, again, short, unknown}
 use Rattle.entries.proofs.Laws.Entry.{told-failed}
 use Rattle.entries.proofs.Laws.KnownRun.{by-test}
 
-module _ (s : List ℕ) (at w : ℕ) where
-  is-cut : Cut s at w → there s at w ≡ false
-  unfolding there
-  is-cut h = lt-leb (at + w) (length s) h
-
-  is-there : at + w ≤ length s → there s at w ≡ true
-  unfolding there
-  is-there h = le-leb (at + w) (length s) h
+is-cut : (s : List ℕ) (at w : ℕ) → Cut s at w → there s at w ≡ false
+unfolding there
+is-cut s at w h = lt-leb (at + w) (length s) h
 
 -- ---- a value's fields
 
@@ -71,8 +62,8 @@ module _ (e : Endian) (s : List ℕ) (at : ℕ) where
   bytes-short : {form : FormKind} {w : ℕ} → TwoFields form w → at + w ≤ length s → Cut s (at + w) (valueOf e w s at)
       → valueEnd form e s at ≡ end.Short (at + w)
   unfolding valueEnd blockEnd fixedEnd readAt
-  bytes-short block2 k h = rw (is-there s at 2 k, is-cut s (at + 2) (valueOf e 2 s at) h)
-  bytes-short block4 k h = rw (is-there s at 4 k, is-cut s (at + 4) (valueOf e 4 s at) h)
+  bytes-short block2 k h = rw (inside-there s at 2 k, is-cut s (at + 2) (valueOf e 2 s at) h)
+  bytes-short block4 k h = rw (inside-there s at 4 k, is-cut s (at + 4) (valueOf e 4 s at) h)
 
   text-short : NoZero s at → valueEnd String e s at ≡ end.Short at
   unfolding valueEnd textEnd
@@ -85,6 +76,12 @@ module _ (e : Endian) (s : List ℕ) (at : ℕ) where
 
 -- ---- an entry's fields
 
+-- the tag of an entry whose attributes are read is there
+pub here-of : {r : Source} {erased : Bool} {levels : ℕ} {m : Mode} {key : ℕ} {root : Bool} {e : Endian} → ReadAs r erased levels m key root e
+    → key + 6 ≤ length (r .section)
+here-of (as-ordinary t k) = t .tag-there
+here-of (as-root root p) = root .tagged .tag-there
+
 module _ (r : Source) (erased : Bool) (levels : ℕ) (m : Mode) (key : ℕ) (small : length (r .section) < sectionLimit) where
   abbrev stop : ℕ
   stop = key + valueOf (m .endian) 4 (r .section) key
@@ -93,11 +90,11 @@ module _ (r : Source) (erased : Bool) (levels : ℕ) (m : Mode) (key : ℕ) (sma
   module _ (sized : Sized r erased levels m key) where
     sized-head : headAt erased (r .section) (m .endian) key ≡ readAt (tagHead erased stop (key + 4)) (head.Unread reason.Short (key + 4)) (m .endian) 2 (r .section) (key + 4)
     unfolding headAt sizeHead readAt
-    sized-head = rw (is-there (r .section) key 4 (sized .size-there), le-ltb (valueOf (m .endian) 4 (r .section) key) 8 (sized .long))
+    sized-head = rw (inside-there (r .section) key 4 (sized .size-there), le-ltb (valueOf (m .endian) 4 (r .section) key) 8 (sized .long))
 
     tagged-head : key + 6 ≤ length (r .section) → headAt erased (r .section) (m .endian) key ≡ tagHead erased stop (key + 4) (valueOf (m .endian) 2 (r .section) (key + 4))
     unfolding readAt
-    tagged-head h = sized-head ∙ rw (is-there (r .section) (key + 4) 2 (omega arith))
+    tagged-head h = sized-head ∙ rw (inside-there (r .section) (key + 4) 2 (omega arith))
 
     untagged-head : Cut (r .section) (key + 4) 2 → headAt erased (r .section) (m .endian) key ≡ head.Unread reason.Short (key + 4)
     unfolding readAt
@@ -157,10 +154,6 @@ module _ (r : Source) (erased : Bool) (levels : ℕ) (m : Mode) (key : ℕ) (sma
         told-failed _ 0 (unknown _ _ _ _ _ _ (t .loop) (a .goes-on .before-end) (a .goes-on .not-ended) p .answer) refl key
 
   -- and the entry
-  here-of : {root : Bool} {e : Endian} → ReadAs r erased levels m key root e → key + 6 ≤ length (r .section)
-  here-of (as-ordinary t k) = t .tag-there
-  here-of (as-root root p) = root .tagged .tag-there
-
   root-refused : (allowed a : ℕ) {e : Endian} {n byte : ℕ} → 0 < allowed → rootEndian (r .vendors) (r .section) (m .erased) (m .endian) key ≡ gives e
       → attributes r e true stop key ≡ refuses n key (byte ∷ []) → entryFrom r allowed m key a (head.Root stop) ≡ refuses n key (byte ∷ [])
   unfolding entryFrom _>>=_
@@ -193,12 +186,12 @@ module _ (r : Source) (erased : Bool) (levels : ℕ) (m : Mode) (key : ℕ) (sma
     number-unknown : at + 2 ≤ length (r .section) → known (r .vendors) (valueOf e 2 (r .section) at) ≡ false
         → readAttribute (r .vendors) e (r .section) at ≡ Unknown at
     unfolding readAttribute numbered readAt
-    number-unknown h k = rw (is-there (r .section) at 2 h, k)
+    number-unknown h k = rw (inside-there (r .section) at 2 h, k)
 
     value-cut : {n field : ℕ} → NumberAt r erased levels m key e at n → valueEnd (formOf n) e (r .section) (at + 2) ≡ end.Short field
         → readAttribute (r .vendors) e (r .section) at ≡ Short field
     unfolding readAttribute numbered readAt ending
-    value-cut h p = rw (is-there (r .section) at 2 (h .number-there), h .number-is, h .number-known, p)
+    value-cut h p = rw (inside-there (r .section) at 2 (h .number-there), h .number-is, h .number-known, p)
 
   -- the theorem
   pub wants-refused : {n byte : ℕ} → Wants r erased levels m key n byte → (a : ℕ) → readEntry r erased levels m key a ≡ refuses n key (byte ∷ [])

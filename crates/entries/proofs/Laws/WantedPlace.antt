@@ -1,7 +1,6 @@
 -- Where the byte that was wanted lies: not before the entry's key, and never so far that the mark for none could be one.
 use Prim.Native.Nat.{ℕ, suc, _+_, _^_, _≤_, _<_}
 use native.Mathlib.Omega.{arith}
-use mathlib.Core.Path.{_≡_}
 use mathlib.Core.Bool.{Bool}
 use mathlib.Core.List.{List}
 use lib.ListN.{length}
@@ -10,15 +9,14 @@ use Rattle.numbers.specs.Written.{Bytes}
 use Rattle.numbers.specs.declared.Endian.{Endian}
 use Rattle.numbers.proofs.Laws.Written.{number-small}
 use Rattle.format.specs.Limits.{sectionLimit}
-use Rattle.format.specs.Said.{Said, gives}
+use Rattle.format.specs.Said.{gives}
 use Rattle.format.specs.declared.settings.Settings.{Settings}
 use Rattle.attributes.proofs.Laws.Inside.{read-inside}
-use Rattle.tables.specs.declared.row.Row.{Row}
-use Rattle.tables.specs.declared.row.Attr.{Attr}
 use Rattle.entries.specs.Source.{Source, source}
-use Rattle.entries.specs.Entry.{Entry, inside, readEntry}
-use Rattle.entries.specs.Wanted.{ReadAs, as-ordinary, as-root, ReadUpTo, none-yet, one-more, AttributeAt, Wants, no-size, no-tag, unknown-tag, no-look, no-number, unknown-number, no-value, no-zero, no-length, no-bytes, Comes, begins, passes, enters, leaves, Wanted}
+use Rattle.entries.specs.Entry.{inside}
+use Rattle.entries.specs.Wanted.{ReadUpTo, none-yet, one-more, AttributeAt, Wants, no-size, no-tag, unknown-tag, no-look, no-number, unknown-number, no-value, no-zero, no-length, no-bytes, Comes, begins, passes, enters, leaves, Wanted}
 use Rattle.entries.specs.declared.entry.Mode.{Mode}
+use Rattle.entries.proofs.Laws.WantedOnly.{here-of}
 use Rattle.entries.proofs.Laws.WantedExactly.{EntryAhead, entry-ahead}
 
 module _ (r : Source) (erased : Bool) (levels : ℕ) (m : Mode) (key : ℕ) where
@@ -31,12 +29,8 @@ module _ (r : Source) (erased : Bool) (levels : ℕ) (m : Mode) (key : ℕ) wher
       let read = read-inside (r .vendors) e (r .section) at p in
       (omega (arith, earlier .0, read .value-place, read .forward), read .inside)
 
-  tag-there : {root : Bool} {e : Endian} → ReadAs r erased levels m key root e → key + 6 ≤ length (r .section)
-  tag-there (as-ordinary t k) = t .tag-there
-  tag-there (as-root root p) = root .tagged .tag-there
-
   attribute-place : {e : Endian} {at : ℕ} → AttributeAt r erased levels m key e at → (key + 6 ≤ at) × (at ≤ length (r .section))
-  attribute-place a = read-place (tag-there (a .read-as)) (a .read-before)
+  attribute-place a = read-place (here-of (a .read-as)) (a .read-before)
 
   -- the byte is never before the key
   pub wants-after : {n byte : ℕ} → Wants r erased levels m key n byte → key ≤ byte

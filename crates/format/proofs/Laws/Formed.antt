@@ -2,11 +2,12 @@
 use Prim.Native.Nat.{ℕ, suc, _%_, _≤_}
 use native.Mathlib.Omega.{arith}
 use mathlib.Core.Path.{_≡_, refl, sym, ap, _∙_}
-use mathlib.Core.Bool.{Bool, true, false, not, _&&_, _||_, cond, false≢true}
+use mathlib.Core.Bool.{Bool, true, not, _&&_, cond, false≢true}
 use mathlib.Core.List.{List, [], _∷_}
 use lib.ListN.{length}
 use lib.Dec.{leb, eqb}
 use borrow.Author.Tests.{leb-true, le-leb, eqb-true}
+use Rattle.numbers.proofs.Laws.Tests.{cond-all}
 use Rattle.format.specs.Lookup.{isOn, lookup}
 use Rattle.format.specs.FormKind.{forms, formOf, formNumber}
 use Rattle.format.specs.AttributeKind.{used, alsoKnown, attributeKinds}
@@ -15,7 +16,6 @@ use Rattle.format.specs.Known.{known}
 use Rattle.format.specs.Limits.{vendorLimit}
 use Rattle.format.specs.Settings.{vendorNumber, vendorsHold, rolesHold, settingsHold}
 use Rattle.format.specs.declared.settings.Settings.{Settings}
-use Rattle.format.specs.declared.form_kind.FormKind.{FormKind}
 use Rattle.format.specs.declared.form_kind.FormKind.the-variants.{Undefined}
 use Rattle.format.proofs.Laws.Computed.{and-left, and-right, below, below-at}
 
@@ -41,15 +41,11 @@ low-formed n t p =
     let none : formNumber (formOf n) ≡ 0 = ap formNumber p in
     omega arith
 
-by-test : {P : Type 0} (b : Bool) → (b ≡ true → P) → (b ≡ false → P) → P
-by-test true f g = f refl
-by-test false f g = g refl
-
 all-formed : (xs : List ℕ) (n : ℕ) → allFormed xs ≡ true → isOn n xs ≡ true → lowFormed n ≡ true
 unfolding allFormed isOn
 all-formed [] n t h = absurd (false≢true h)
 all-formed (x ∷ xs) n t h =
-    by-test (eqb x n) (λ e. ap lowFormed (sym (eqb-true x n e)) ∙ and-left (lowFormed x) (allFormed xs) t)
+    cond-all (λ (k : ℕ). lowFormed n ≡ true) (eqb x n) {x = 0} {y = 0} (λ e. ap lowFormed (sym (eqb-true x n e)) ∙ and-left (lowFormed x) (allFormed xs) t)
     (λ d. all-formed xs n (and-right (lowFormed x) (allFormed xs) t) (rw d at h))
 
 -- document 01's own numbers are such
@@ -77,5 +73,5 @@ known-formed settings vendors sizes t n k =
     and-right (leb (length vendors) vendorLimit) (vendorsHold 0 vendors) (and-left lists roles (and-left (lists && roles) (eqb (length sizes) (length fundTypes)) t))
     in
     low-formed n
-    (by-test (isOn n attributeKinds) (λ e. all-formed attributeKinds n named-formed e)
+    (cond-all (λ (k : ℕ). lowFormed n ≡ true) (isOn n attributeKinds) {x = 0} {y = 0} (λ e. all-formed attributeKinds n named-formed e)
     (λ d. all-formed vendors n (vendors-formed 0 vendors holds) (rw d at k)))
