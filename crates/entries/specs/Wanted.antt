@@ -33,8 +33,8 @@ use Rattle.entries.specs.declared.entry.Mode.{Mode}
 -- ---- fields
 
 -- not all of w bytes from a place on are in the section
-abbrev pub Cut : List ℕ → ℕ → ℕ → Type 0
-Cut s at w = length s < at + w
+abbrev pub NotThere : List ℕ → ℕ → ℕ → Type 0
+NotThere s at w = length s < at + w
 
 -- no zero is there from a place on
 abbrev pub NoZero : List ℕ → ℕ → Type 0
@@ -57,26 +57,26 @@ pub data TwoFields : FormKind → ℕ → Type 0 where
 
 module _ (r : Source) (erased : Bool) (levels : ℕ) (m : Mode) (key : ℕ) where
   -- its size is there, and a tag is to follow
-  pub record Sized : Type 0 where
+  pub record SizeRead : Type 0 where
     pub size-there : key + 4 ≤ length (r .section)
     pub long : 8 ≤ valueOf (m .endian) 4 (r .section) key
 
   -- its tag is there too, and known
-  pub record Tagged (kind : ℕ) : Type 0 where
-    pub sized : Sized
+  pub record TagRead (kind : ℕ) : Type 0 where
+    pub sized : SizeRead
     pub tag-there : key + 6 ≤ length (r .section)
     pub kind-is : valueOf (m .endian) 2 (r .section) (key + 4) ≡ kind
     pub tag-known : isOn kind tags ≡ true
 
   -- it is padding that is read as an erased root: the flag is on, and a level is left
   pub record IsRoot : Type 0 where
-    pub tagged : Tagged tag.Padding
+    pub tagged : TagRead tag.Padding
     pub flag-on : erased ≡ true
     pub level-left : 0 < levels
 
   -- how its attributes are read: as a root's or not, in which endianness
   pub data ReadAs : Bool → Endian → Type 0 where
-    as-ordinary : {kind : ℕ} → Tagged kind → (kind ≡ tag.Padding → ⊥) → ReadAs false (m .endian)
+    as-ordinary : {kind : ℕ} → TagRead kind → (kind ≡ tag.Padding → ⊥) → ReadAs false (m .endian)
     as-root : {e : Endian} → IsRoot → rootEndian (r .vendors) (r .section) (m .erased) (m .endian) key ≡ gives e → ReadAs true e
 
   -- another attribute begins at a place: it is before the entry's end, and a root's attributes do not end there
@@ -99,7 +99,7 @@ module _ (r : Source) (erased : Bool) (levels : ℕ) (m : Mode) (key : ℕ) wher
     pub goes-on : GoesOn e high at
 
   -- its number is there, and known
-  pub record NumberAt (e : Endian) (at n : ℕ) : Type 0 where
+  pub record NumberRead (e : Endian) (at n : ℕ) : Type 0 where
     pub attribute : AttributeAt e at
     pub number-there : at + 2 ≤ length (r .section)
     pub number-is : valueOf e 2 (r .section) at ≡ n
@@ -107,18 +107,18 @@ module _ (r : Source) (erased : Bool) (levels : ℕ) (m : Mode) (key : ℕ) wher
 
   -- the field that refuses the entry: the refusal's number, and the field's first byte. Every field before it was read
   pub data Wants : ℕ → ℕ → Type 0 where
-    no-size : Cut (r .section) key 4 → Wants 4 key
-    no-tag : Sized → Cut (r .section) (key + 4) 2 → Wants 4 (key + 4)
-    unknown-tag : Sized → key + 6 ≤ length (r .section) → isOn (valueOf (m .endian) 2 (r .section) (key + 4)) tags ≡ false → Wants 5 (key + 4)
-    no-look : IsRoot → m .erased ≡ false → Cut (r .section) (key + 6) 2 → Wants 4 (key + 6)
-    no-number : {e : Endian} {at : ℕ} → AttributeAt e at → Cut (r .section) at 2 → Wants 4 at
+    no-size : NotThere (r .section) key 4 → Wants 4 key
+    no-tag : SizeRead → NotThere (r .section) (key + 4) 2 → Wants 4 (key + 4)
+    unknown-tag : SizeRead → key + 6 ≤ length (r .section) → isOn (valueOf (m .endian) 2 (r .section) (key + 4)) tags ≡ false → Wants 5 (key + 4)
+    no-look : IsRoot → m .erased ≡ false → NotThere (r .section) (key + 6) 2 → Wants 4 (key + 6)
+    no-number : {e : Endian} {at : ℕ} → AttributeAt e at → NotThere (r .section) at 2 → Wants 4 at
     unknown-number : {e : Endian} {at : ℕ} → AttributeAt e at → at + 2 ≤ length (r .section)
         → known (r .vendors) (valueOf e 2 (r .section) at) ≡ false → Wants 6 at
-    no-value : {e : Endian} {at n w : ℕ} → NumberAt e at n → OneField (formOf n) w → Cut (r .section) (at + 2) w → Wants 4 (at + 2)
-    no-zero : {e : Endian} {at n : ℕ} → NumberAt e at n → formOf n ≡ String → NoZero (r .section) (at + 2) → Wants 4 (at + 2)
-    no-length : {e : Endian} {at n w : ℕ} → NumberAt e at n → TwoFields (formOf n) w → Cut (r .section) (at + 2) w → Wants 4 (at + 2)
-    no-bytes : {e : Endian} {at n w : ℕ} → NumberAt e at n → TwoFields (formOf n) w → at + 2 + w ≤ length (r .section)
-        → Cut (r .section) (at + 2 + w) (valueOf e w (r .section) (at + 2)) → Wants 4 (at + 2 + w)
+    no-value : {e : Endian} {at n w : ℕ} → NumberRead e at n → OneField (formOf n) w → NotThere (r .section) (at + 2) w → Wants 4 (at + 2)
+    no-zero : {e : Endian} {at n : ℕ} → NumberRead e at n → formOf n ≡ String → NoZero (r .section) (at + 2) → Wants 4 (at + 2)
+    no-length : {e : Endian} {at n w : ℕ} → NumberRead e at n → TwoFields (formOf n) w → NotThere (r .section) (at + 2) w → Wants 4 (at + 2)
+    no-bytes : {e : Endian} {at n w : ℕ} → NumberRead e at n → TwoFields (formOf n) w → at + 2 + w ≤ length (r .section)
+        → NotThere (r .section) (at + 2 + w) (valueOf e w (r .section) (at + 2)) → Wants 4 (at + 2 + w)
 
 -- ---- how reading comes to an entry
 
@@ -139,7 +139,7 @@ module _ (r : Source) (erased : Bool) (e : Endian) where
 -- ---- what an answer tells
 
 -- reading comes to the entry at `key`, and the field that begins at `byte` refuses it by this number
-pub record Wanted (settings : Settings) (vendors s : List ℕ) (number key byte : ℕ) : Type 0 where
+pub record ByteWanted (settings : Settings) (vendors s : List ℕ) (number key byte : ℕ) : Type 0 where
   pub levels : ℕ
   pub how : Mode
   pub end : ℕ
@@ -149,8 +149,8 @@ pub record Wanted (settings : Settings) (vendors s : List ℕ) (number key byte 
   pub wants : Wants (source vendors (settings .roles .«global_ref») s) (settings .erased) levels how key number byte
 
 -- 4 to 6 tell the byte that was wanted; 1, 2 and 7 nothing; 8 two counts
-abbrev pub Tells : Settings → List ℕ → List ℕ → Said Counts → Type 0
-Tells settings vendors s (gives counts) = Unit
-Tells settings vendors s (refuses number key []) = (number ≡ 1) ⊎ ((number ≡ 2) ⊎ (number ≡ 7))
-Tells settings vendors s (refuses number key (byte ∷ [])) = Wanted settings vendors s number key byte
-Tells settings vendors s (refuses number key (rows ∷ attrs ∷ more)) = number ≡ 8
+abbrev pub TellsByte : Settings → List ℕ → List ℕ → Said Counts → Type 0
+TellsByte settings vendors s (gives counts) = Unit
+TellsByte settings vendors s (refuses number key []) = (number ≡ 1) ⊎ ((number ≡ 2) ⊎ (number ≡ 7))
+TellsByte settings vendors s (refuses number key (byte ∷ [])) = ByteWanted settings vendors s number key byte
+TellsByte settings vendors s (refuses number key (rows ∷ attrs ∷ more)) = number ≡ 8

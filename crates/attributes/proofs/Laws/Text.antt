@@ -69,3 +69,19 @@ module _ (s : List ℕ) where
             | yes more ↦ later i more b p
             | no same ↦ let here : i ≡ at = omega arith in other (ap (λ (k : ℕ). getD s k 0) (sym here) ∙ p)
           ]
+
+-- where a zero is there, the first one is found
+pub zero-found : (s : List ℕ) (n at : ℕ) → at + n < length s → getD s (at + n) 0 ≡ 0 → zeroFrom s at < length s
+zero-found s zero at h p =
+    let here : getD s at 0 ≡ 0 = ap (λ (k : ℕ). getD s k 0) (sym (add-zero at)) ∙ p in
+    let is : zeroFrom s at ≡ at = zero-here s at (omega arith) here in
+    omega arith
+zero-found s (suc n) at h p =
+    elim (decLe (getD s at 0) 0) [
+      | yes none ↦ let is : zeroFrom s at ≡ at = zero-here s at (omega arith) (omega arith) in omega arith
+      | no some ↦
+          let same : at + suc n ≡ at + 1 + n = omega arith in
+          let is : zeroFrom s at ≡ zeroFrom s (at + 1) = zero-next s at (omega arith) (λ q. omega arith) in
+          let later : zeroFrom s (at + 1) < length s = zero-found s n (at + 1) (omega arith) (ap (λ (k : ℕ). getD s k 0) (sym same) ∙ p) in
+          omega arith
+    ]

@@ -1,8 +1,6 @@
 -- Which byte was wanted: what refuses an entry is a field that could not be read or was not known, every field before it was read, and the byte that is
 -- told is that field's first.
 use Prim.Native.Nat.{ℕ, zero, suc, _+_, _-_, _≤_, _<_}
-use native.Mathlib.Nat.{add-zero}
-use native.Mathlib.Decide.{decLe}
 use native.Mathlib.Omega.{arith}
 use mathlib.Core.Path.{_≡_, refl, sym, ap, _∙_, subst}
 use mathlib.Core.Bool.{Bool, true, false, _&&_, _||_}
@@ -32,12 +30,12 @@ use Rattle.attributes.specs.declared.value.End.{End}
 use Rattle.attributes.specs.declared.value.End.the-variants as end
 use Rattle.attributes.specs.declared.read.Attribute.{Attribute}
 use Rattle.attributes.specs.declared.read.Attribute.the-variants.{Read, Short, Unknown}
-use Rattle.attributes.proofs.Laws.Text.{zero-here, zero-next}
+use Rattle.attributes.proofs.Laws.Text.{zero-found}
 use Rattle.entries.specs.Source.{Source}
 use Rattle.entries.specs.Head.{tagHead, sizeHead, headAt}
 use Rattle.entries.specs.Run.{AttrsRead, ran, attr, runEnds, readOn, readRun}
 use Rattle.entries.specs.Entry.{Entry, rootEndian, attributes, entryFrom, readEntry}
-use Rattle.entries.specs.Wanted.{Cut, NoZero, OneField, address, reference, data2, data4, data8, TwoFields, block2, block4, Sized, Tagged, IsRoot, ReadAs, as-ordinary, as-root, GoesOn, ReadUpTo, none-yet, one-more, AttributeAt, NumberAt, Wants, no-size, no-tag, unknown-tag, no-look, no-number, unknown-number, no-value, no-zero, no-length, no-bytes}
+use Rattle.entries.specs.Wanted.{NotThere, NoZero, OneField, address, reference, data2, data4, data8, TwoFields, block2, block4, SizeRead, TagRead, IsRoot, ReadAs, as-ordinary, as-root, GoesOn, ReadUpTo, none-yet, one-more, AttributeAt, NumberRead, Wants, no-size, no-tag, unknown-tag, no-look, no-number, unknown-number, no-value, no-zero, no-length, no-bytes}
 use Rattle.entries.specs.declared.entry.Mode.{Mode}
 use Rattle.entries.specs.declared.head.Head.{Head}
 use Rattle.entries.specs.declared.head.Head.the-variants as head
@@ -46,25 +44,9 @@ use Rattle.entries.proofs.Laws.KnownRun.{by-test}
 -- ---- what is not there
 
 -- bytes that are not there
-cut : (s : List ℕ) (at w : ℕ) → there s at w ≡ false → Cut s at w
+cut : (s : List ℕ) (at w : ℕ) → there s at w ≡ false → NotThere s at w
 unfolding there
 cut s at w h = leb-false (at + w) (length s) h
-
--- where a zero is there, the first one is found
-zero-found : (s : List ℕ) (n at : ℕ) → at + n < length s → getD s (at + n) 0 ≡ 0 → zeroFrom s at < length s
-zero-found s zero at h p =
-    let here : getD s at 0 ≡ 0 = ap (λ (k : ℕ). getD s k 0) (sym (add-zero at)) ∙ p in
-    let is : zeroFrom s at ≡ at = zero-here s at (omega arith) here in
-    omega arith
-zero-found s (suc n) at h p =
-    elim (decLe (getD s at 0) 0) [
-      | yes none ↦ let is : zeroFrom s at ≡ at = zero-here s at (omega arith) (omega arith) in omega arith
-      | no some ↦
-          let same : at + suc n ≡ at + 1 + n = omega arith in
-          let is : zeroFrom s at ≡ zeroFrom s (at + 1) = zero-next s at (omega arith) (λ q. omega arith) in
-          let later : zeroFrom s (at + 1) < length s = zero-found s n (at + 1) (omega arith) (ap (λ (k : ℕ). getD s k 0) (sym same) ∙ p) in
-          omega arith
-    ]
 
 no-zeros : (s : List ℕ) (at : ℕ) → ltb (zeroFrom s at) (length s) ≡ false → NoZero s at
 no-zeros s at h i from before p =
@@ -75,10 +57,10 @@ no-zeros s at h i from before p =
 
 -- a value that does not end: at one of its fields
 data ValueWants (e : Endian) (s : List ℕ) (at : ℕ) : FormKind → ℕ → Type 0 where
-  one : {form : FormKind} {w : ℕ} → OneField form w → Cut s at w → ValueWants e s at form at
+  one : {form : FormKind} {w : ℕ} → OneField form w → NotThere s at w → ValueWants e s at form at
   text : NoZero s at → ValueWants e s at String at
-  first : {form : FormKind} {w : ℕ} → TwoFields form w → Cut s at w → ValueWants e s at form at
-  second : {form : FormKind} {w : ℕ} → TwoFields form w → at + w ≤ length s → Cut s (at + w) (valueOf e w s at) → ValueWants e s at form (at + w)
+  first : {form : FormKind} {w : ℕ} → TwoFields form w → NotThere s at w → ValueWants e s at form at
+  second : {form : FormKind} {w : ℕ} → TwoFields form w → at + w ≤ length s → NotThere s (at + w) (valueOf e w s at) → ValueWants e s at form (at + w)
 
 abbrev EndTold : Endian → List ℕ → ℕ → FormKind → End → Type 0
 EndTold e s at form (end.At next) = Unit
@@ -125,7 +107,7 @@ module _ (r : Source) (erased : Bool) (levels : ℕ) (m : Mode) (key : ℕ) (for
   Want n byte = Wants r erased levels m key n byte
 
   -- a value's fields are the entry's
-  value-wants : {e : Endian} {at n field : ℕ} → NumberAt r erased levels m key e at n → {form : FormKind} → formOf n ≡ form
+  value-wants : {e : Endian} {at n field : ℕ} → NumberRead r erased levels m key e at n → {form : FormKind} → formOf n ≡ form
       → ValueWants e (r .section) (at + 2) form field → Want 4 field
   value-wants h p (one {w = w} f c) = no-value h (subst (λ (k : FormKind). OneField k w) (sym p) f) c
   value-wants h p (text z) = no-zero h p z
@@ -137,7 +119,7 @@ module _ (r : Source) (erased : Bool) (levels : ℕ) (m : Mode) (key : ℕ) (for
   AttributeTold (Short field) = Want 4 field
   AttributeTold (Unknown field) = Want 6 field
 
-  ending-told : {e : Endian} {at n : ℕ} → NumberAt r erased levels m key e at n → (told : End) → EndTold e (r .section) (at + 2) (formOf n) told
+  ending-told : {e : Endian} {at n : ℕ} → NumberRead r erased levels m key e at n → (told : End) → EndTold e (r .section) (at + 2) (formOf n) told
       → AttributeTold (ending n (at + 2) told)
   unfolding ending
   ending-told h (end.At next) w = tt
@@ -204,9 +186,9 @@ module _ (r : Source) (erased : Bool) (levels : ℕ) (m : Mode) (key : ℕ) (for
   abbrev HeadTold : Head → Type 0
   HeadTold (head.Null place) = Unit
   HeadTold (head.Skipped place) = Unit
-  HeadTold (head.Root stop) = Tagged r erased levels m key tag.Padding × (erased ≡ true) × (stop ≡ key + valueOf (m .endian) 4 (r .section) key)
+  HeadTold (head.Root stop) = TagRead r erased levels m key tag.Padding × (erased ≡ true) × (stop ≡ key + valueOf (m .endian) 4 (r .section) key)
   HeadTold (head.Ordinary kind stop) =
-      Tagged r erased levels m key kind × (kind ≡ tag.Padding → ⊥) × (stop ≡ key + valueOf (m .endian) 4 (r .section) key)
+      TagRead r erased levels m key kind × (kind ≡ tag.Padding → ⊥) × (stop ≡ key + valueOf (m .endian) 4 (r .section) key)
   HeadTold (head.Unread why byte) = Want (numberOf why) byte
 
   head-told : HeadTold (headAt erased (r .section) (m .endian) key)
@@ -219,12 +201,12 @@ module _ (r : Source) (erased : Bool) (levels : ℕ) (m : Mode) (key : ℕ) (for
       read-all (sizeHead erased s e key) (head.Unread reason.Short key) e 4 s key HeadTold
       (λ t. cond-all HeadTold (ltb size 8) (λ u. tt)
       (λ u.
-      let sized : Sized r erased levels m key = record { size-there = there-inside s key 4 t; long = ltb-false size 8 u } in
+      let sized : SizeRead r erased levels m key = record { size-there = there-inside s key 4 t; long = ltb-false size 8 u } in
       read-all (tagHead erased (key + size) (key + 4)) (head.Unread reason.Short (key + 4)) e 2 s (key + 4) HeadTold
       (λ v.
       let inside : key + 4 + 2 ≤ length s = there-inside s (key + 4) 2 v in
       let here : key + 6 ≤ length s = omega arith in
-      let tagged : (k : ℕ) → kind ≡ k → isOn kind tags ≡ true → Tagged r erased levels m key k =
+      let tagged : (k : ℕ) → kind ≡ k → isOn kind tags ≡ true → TagRead r erased levels m key k =
       λ k p q. record { sized = sized; tag-there = here; kind-is = p; tag-known = subst (λ (j : ℕ). isOn j tags ≡ true) p q }
       in
       cond-all HeadTold (isOn kind tags)

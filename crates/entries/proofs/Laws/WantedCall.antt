@@ -29,7 +29,7 @@ use Rattle.entries.specs.Source.{Source, source, mode}
 use Rattle.entries.specs.Entry.{Entry, next, inside, readEntry}
 use Rattle.entries.specs.Walk.{Entries, entries, entriesThen, wholeEntry, entriesFrom, readTags}
 use Rattle.entries.specs.Section.{saidCount, saidSection, wholeWalk, countsOf, sectionEntries, countDebugSection, readDebugSection}
-use Rattle.entries.specs.Wanted.{Comes, begins, passes, enters, leaves, Wanted, Tells}
+use Rattle.entries.specs.Wanted.{Comes, begins, passes, enters, leaves, ByteWanted, TellsByte}
 use Rattle.entries.specs.declared.entry.Mode.{Mode}
 use Rattle.entries.proofs.Laws.KnownRun.{by-test}
 use Rattle.entries.proofs.Laws.Wanted.{Formed, EntryTold, entry-told}
@@ -53,7 +53,7 @@ module _ (settings : Settings) (vendors s : List ℕ) (formed : Formed vendors) 
   abbrev WalkTold : Said Entries → Type 0
   WalkTold (gives all) = Unit
   WalkTold (refuses n place []) = n ≡ 7
-  WalkTold (refuses n place (byte ∷ [])) = Wanted settings vendors s n place byte
+  WalkTold (refuses n place (byte ∷ [])) = ByteWanted settings vendors s n place byte
   WalkTold (refuses n place (x ∷ y ∷ more)) = ⊥
 
   -- what follows a value only puts it together with what was read before
@@ -119,7 +119,7 @@ module _ (settings : Settings) (vendors s : List ℕ) (formed : Formed vendors) 
   unfolding wholeWalk
   walk-told = tags-told erasedLimit (mode false (settings .endian)) (length s) 0 0 begins
 
-  counted-told : (d : Said Entries) → WalkTold d → Tells settings vendors s (d >>= (λ all. gives (countsOf all)))
+  counted-told : (d : Said Entries) → WalkTold d → TellsByte settings vendors s (d >>= (λ all. gives (countsOf all)))
   unfolding _>>=_
   counted-told (gives all) h = tt
   counted-told (refuses n place []) h = inr (inr h)
@@ -128,13 +128,13 @@ module _ (settings : Settings) (vendors s : List ℕ) (formed : Formed vendors) 
 
   module _ (rows attrs : List ℕ) where
     filled-told : (b : Bool) (all : Entries)
-        → Tells settings vendors s (fillsRooms b (countsOf all) (length (all .rows) ∷ length (all .attrs) ∷ []) (rowsWords (all .rows)) (attrsWords (all .attrs)) rows attrs .answer)
+        → TellsByte settings vendors s (fillsRooms b (countsOf all) (length (all .rows) ∷ length (all .attrs) ∷ []) (rowsWords (all .rows)) (attrsWords (all .attrs)) rows attrs .answer)
     unfolding fillsRooms numberOf
     filled-told true all = tt
     filled-told false all = refl
 
     roomed-told : (d : Said Entries) → WalkTold d
-        → Tells settings vendors s (inRooms rows attrs d (λ all. fillsRooms (fitting (countsOf all) (length rows) (length attrs)) (countsOf all)
+        → TellsByte settings vendors s (inRooms rows attrs d (λ all. fillsRooms (fitting (countsOf all) (length rows) (length attrs)) (countsOf all)
         (length (all .rows) ∷ length (all .attrs) ∷ []) (rowsWords (all .rows)) (attrsWords (all .attrs)) rows attrs) .answer)
     unfolding inRooms
     roomed-told (gives all) h = filled-told (fitting (countsOf all) (length rows) (length attrs)) all
@@ -145,7 +145,7 @@ module _ (settings : Settings) (vendors s : List ℕ) (formed : Formed vendors) 
 -- ---- the public calls' definitions
 
 module _ (settings : Settings) (vendors sizes s : List ℕ) where
-  count-told : Tells settings vendors s (countDebugSection settings vendors sizes s)
+  count-told : TellsByte settings vendors s (countDebugSection settings vendors sizes s)
   unfolding countDebugSection sectionEntries must _>>_ _>>=_ numberOf
   count-told =
       by-test (settingsHold settings vendors sizes)
@@ -156,7 +156,7 @@ module _ (settings : Settings) (vendors sizes s : List ℕ) where
       (λ k. rw (h, k) (inr (inl refl))))
       (λ h. rw h (inl refl))
 
-  read-told : (rows attrs : List ℕ) → Tells settings vendors s (readDebugSection settings vendors sizes s rows attrs .answer)
+  read-told : (rows attrs : List ℕ) → TellsByte settings vendors s (readDebugSection settings vendors sizes s rows attrs .answer)
   unfolding readDebugSection sectionEntries inRooms must _>>_ numberOf
   read-told rows attrs =
       by-test (settingsHold settings vendors sizes)
@@ -189,13 +189,13 @@ module _ (κs : Lfts 3) (a : Dens κs count.Kinds.ps) (z : resT count.Kinds.r κ
   counted : saidCount z ≡ countDebugSection settings vendors sizes s
   counted = rw (s-is, settings-are, vendors-are, sizes-are) post
 
-  pub count-tells : Tells settings vendors s (saidCount z)
-  count-tells = subst (Tells settings vendors s) (sym counted) (count-told settings vendors sizes s)
+  pub count-tells : TellsByte settings vendors s (saidCount z)
+  count-tells = subst (TellsByte settings vendors s) (sym counted) (count-told settings vendors sizes s)
 
   pub count-exactly : settingsHold settings vendors sizes ≡ true → length s < sectionLimit → (number key byte : ℕ)
-      → (saidCount z ≡ refuses number key (byte ∷ [])) ↔ Wanted settings vendors s number key byte
+      → (saidCount z ≡ refuses number key (byte ∷ [])) ↔ ByteWanted settings vendors s number key byte
   count-exactly held small number key byte = (
-    λ p. subst (Tells settings vendors s) p count-tells,
+    λ p. subst (TellsByte settings vendors s) p count-tells,
     λ w. counted ∙ count-refused settings vendors sizes s held small (wanted-refused settings vendors s small w),
   )
 
@@ -206,12 +206,12 @@ module _ (κs : Lfts 5) (a : Dens κs read.Kinds.ps) (z : resT read.Kinds.r κs 
   was-read : saidSection z ≡ readDebugSection settings vendors sizes s rows attrs .answer
   was-read = rw (s-is, settings-are, vendors-are, sizes-are, rows-are, attrs-are) (post .answer-is)
 
-  pub read-tells : Tells settings vendors s (saidSection z)
-  read-tells = subst (Tells settings vendors s) (sym was-read) (read-told settings vendors sizes s rows attrs)
+  pub read-tells : TellsByte settings vendors s (saidSection z)
+  read-tells = subst (TellsByte settings vendors s) (sym was-read) (read-told settings vendors sizes s rows attrs)
 
   pub read-exactly : settingsHold settings vendors sizes ≡ true → length s < sectionLimit → (number key byte : ℕ)
-      → (saidSection z ≡ refuses number key (byte ∷ [])) ↔ Wanted settings vendors s number key byte
+      → (saidSection z ≡ refuses number key (byte ∷ [])) ↔ ByteWanted settings vendors s number key byte
   read-exactly held small number key byte = (
-    λ p. subst (Tells settings vendors s) p read-tells,
+    λ p. subst (TellsByte settings vendors s) p read-tells,
     λ w. was-read ∙ read-refused settings vendors sizes s held small (wanted-refused settings vendors s small w) rows attrs,
   )

@@ -26,7 +26,7 @@ use Rattle.entries.specs.Run.{AttrsRead}
 use Rattle.entries.specs.Entry.{Entry, next, inside, rootEndian, attributes, entryFrom, readEntry}
 use Rattle.entries.specs.Walk.{Entries, entriesThen, wholeEntry, entriesFrom, readTags}
 use Rattle.entries.specs.Section.{wholeWalk}
-use Rattle.entries.specs.Wanted.{Comes, begins, passes, enters, leaves, Wanted}
+use Rattle.entries.specs.Wanted.{Comes, begins, passes, enters, leaves, ByteWanted}
 use Rattle.entries.specs.declared.entry.Mode.{Mode}
 use Rattle.entries.specs.declared.head.Head.{Head}
 use Rattle.entries.specs.declared.head.Head.the-variants as head
@@ -37,12 +37,12 @@ use Rattle.entries.proofs.Laws.WantedOnly.{wants-refused}
 
 -- ---- every entry takes four bytes that are there, and a root ends where its size says
 
-abbrev Ahead : List ℕ → ℕ → ℕ → Type 0
-Ahead s at place = (at + 4 ≤ length s) × (at + 4 ≤ place)
+abbrev TakesFour : List ℕ → ℕ → ℕ → Type 0
+TakesFour s at place = (at + 4 ≤ length s) × (at + 4 ≤ place)
 
 abbrev pub EntryAhead : Endian → List ℕ → ℕ → Said Entry → Type 0
-EntryAhead e s at (gives (next rs xs place)) = Ahead s at place
-EntryAhead e s at (gives (inside row xs place e′ end)) = Ahead s at place × (end ≡ at + valueOf e 4 s at)
+EntryAhead e s at (gives (next rs xs place)) = TakesFour s at place
+EntryAhead e s at (gives (inside row xs place e′ end)) = TakesFour s at place × (end ≡ at + valueOf e 4 s at)
 EntryAhead e s at (refuses n place told) = Unit
 
 module _ (r : Source) (levels : ℕ) (m : Mode) (at a : ℕ) where
@@ -186,7 +186,7 @@ module _ (settings : Settings) (vendors s : List ℕ) (small : length s < sectio
       comes-refused c (rest-behind (suc l) m end a at h p q (inside-forward l e′ end′ (a + length xs) place q) rest)
 
   -- the theorem
-  pub wanted-refused : {number key byte : ℕ} → Wanted settings vendors s number key byte → wholeWalk settings vendors s ≡ refuses number key (byte ∷ [])
+  pub wanted-refused : {number key byte : ℕ} → ByteWanted settings vendors s number key byte → wholeWalk settings vendors s ≡ refuses number key (byte ∷ [])
   wanted-refused {key = key} w =
       comes-refused (w .comes)
       (rest-here (w .levels) (w .how) (w .end) (w .attrs) key (w .before-end) (wants-refused from on (w .levels) (w .how) key small (w .wants) (w .attrs)))

@@ -31,7 +31,7 @@ use Rattle.attributes.proofs.Laws.Text.{zero-after, first-zero}
 use Rattle.entries.specs.Source.{Source}
 use Rattle.entries.specs.Head.{tagHead, sizeHead, headAt}
 use Rattle.entries.specs.Entry.{rootEndian, attributes, entryFrom, readEntry}
-use Rattle.entries.specs.Wanted.{Cut, NoZero, OneField, address, reference, data2, data4, data8, TwoFields, block2, block4, Sized, Tagged, IsRoot, ReadAs, as-ordinary, as-root, ReadUpTo, none-yet, one-more, AttributeAt, NumberAt, Wants, no-size, no-tag, unknown-tag, no-look, no-number, unknown-number, no-value, no-zero, no-length, no-bytes}
+use Rattle.entries.specs.Wanted.{NotThere, NoZero, OneField, address, reference, data2, data4, data8, TwoFields, block2, block4, SizeRead, TagRead, IsRoot, ReadAs, as-ordinary, as-root, ReadUpTo, none-yet, one-more, AttributeAt, NumberRead, Wants, no-size, no-tag, unknown-tag, no-look, no-number, unknown-number, no-value, no-zero, no-length, no-bytes}
 use Rattle.entries.specs.declared.entry.Mode.{Mode}
 use Rattle.entries.specs.declared.head.Head.{Head}
 use Rattle.entries.specs.declared.head.Head.the-variants as head
@@ -39,14 +39,14 @@ use Rattle.entries.proofs.Laws.Run.{Loop, begin, again, short, unknown}
 use Rattle.entries.proofs.Laws.Entry.{told-failed}
 use Rattle.entries.proofs.Laws.KnownRun.{by-test}
 
-is-cut : (s : List ℕ) (at w : ℕ) → Cut s at w → there s at w ≡ false
+is-cut : (s : List ℕ) (at w : ℕ) → NotThere s at w → there s at w ≡ false
 unfolding there
 is-cut s at w h = lt-leb (at + w) (length s) h
 
 -- ---- a value's fields
 
 module _ (e : Endian) (s : List ℕ) (at : ℕ) where
-  one-short : {form : FormKind} {w : ℕ} → OneField form w → Cut s at w → valueEnd form e s at ≡ end.Short at
+  one-short : {form : FormKind} {w : ℕ} → OneField form w → NotThere s at w → valueEnd form e s at ≡ end.Short at
   unfolding valueEnd fixedEnd
   one-short address h = rw (is-cut s at 4 h)
   one-short reference h = rw (is-cut s at 4 h)
@@ -54,12 +54,12 @@ module _ (e : Endian) (s : List ℕ) (at : ℕ) where
   one-short data4 h = rw (is-cut s at 4 h)
   one-short data8 h = rw (is-cut s at 8 h)
 
-  length-short : {form : FormKind} {w : ℕ} → TwoFields form w → Cut s at w → valueEnd form e s at ≡ end.Short at
+  length-short : {form : FormKind} {w : ℕ} → TwoFields form w → NotThere s at w → valueEnd form e s at ≡ end.Short at
   unfolding valueEnd blockEnd readAt
   length-short block2 h = rw (is-cut s at 2 h)
   length-short block4 h = rw (is-cut s at 4 h)
 
-  bytes-short : {form : FormKind} {w : ℕ} → TwoFields form w → at + w ≤ length s → Cut s (at + w) (valueOf e w s at)
+  bytes-short : {form : FormKind} {w : ℕ} → TwoFields form w → at + w ≤ length s → NotThere s (at + w) (valueOf e w s at)
       → valueEnd form e s at ≡ end.Short (at + w)
   unfolding valueEnd blockEnd fixedEnd readAt
   bytes-short block2 k h = rw (inside-there s at 2 k, is-cut s (at + 2) (valueOf e 2 s at) h)
@@ -87,7 +87,7 @@ module _ (r : Source) (erased : Bool) (levels : ℕ) (m : Mode) (key : ℕ) (sma
   stop = key + valueOf (m .endian) 4 (r .section) key
 
   -- what it begins with
-  module _ (sized : Sized r erased levels m key) where
+  module _ (sized : SizeRead r erased levels m key) where
     sized-head : headAt erased (r .section) (m .endian) key ≡ readAt (tagHead erased stop (key + 4)) (head.Unread reason.Short (key + 4)) (m .endian) 2 (r .section) (key + 4)
     unfolding headAt sizeHead readAt
     sized-head = rw (inside-there (r .section) key 4 (sized .size-there), le-ltb (valueOf (m .endian) 4 (r .section) key) 8 (sized .long))
@@ -96,20 +96,20 @@ module _ (r : Source) (erased : Bool) (levels : ℕ) (m : Mode) (key : ℕ) (sma
     unfolding readAt
     tagged-head h = sized-head ∙ rw (inside-there (r .section) (key + 4) 2 (omega arith))
 
-    untagged-head : Cut (r .section) (key + 4) 2 → headAt erased (r .section) (m .endian) key ≡ head.Unread reason.Short (key + 4)
+    untagged-head : NotThere (r .section) (key + 4) 2 → headAt erased (r .section) (m .endian) key ≡ head.Unread reason.Short (key + 4)
     unfolding readAt
     untagged-head h = sized-head ∙ rw (is-cut (r .section) (key + 4) 2 h)
 
-  unsized-head : Cut (r .section) key 4 → headAt erased (r .section) (m .endian) key ≡ head.Unread reason.Short key
+  unsized-head : NotThere (r .section) key 4 → headAt erased (r .section) (m .endian) key ≡ head.Unread reason.Short key
   unfolding headAt readAt
   unsized-head h = rw (is-cut (r .section) key 4 h)
 
-  unknown-head : Sized r erased levels m key → key + 6 ≤ length (r .section) → isOn (valueOf (m .endian) 2 (r .section) (key + 4)) tags ≡ false
+  unknown-head : SizeRead r erased levels m key → key + 6 ≤ length (r .section) → isOn (valueOf (m .endian) 2 (r .section) (key + 4)) tags ≡ false
       → headAt erased (r .section) (m .endian) key ≡ head.Unread reason.Tag (key + 4)
   unfolding tagHead
   unknown-head sized h k = tagged-head sized h ∙ rw k
 
-  ordinary-head : {kind : ℕ} → Tagged r erased levels m key kind → (kind ≡ tag.Padding → ⊥) → headAt erased (r .section) (m .endian) key ≡ head.Ordinary kind stop
+  ordinary-head : {kind : ℕ} → TagRead r erased levels m key kind → (kind ≡ tag.Padding → ⊥) → headAt erased (r .section) (m .endian) key ≡ head.Ordinary kind stop
   unfolding tagHead
   ordinary-head {kind} t k =
       tagged-head (t .sized) (t .tag-there) ∙ ap (tagHead erased stop (key + 4)) (t .kind-is) ∙ rw (t .tag-known, ne-eqb kind tag.Padding k)
@@ -170,7 +170,7 @@ module _ (r : Source) (erased : Bool) (levels : ℕ) (m : Mode) (key : ℕ) (sma
   run-refused a (as-ordinary {kind} t k) q = by-head a (ordinary-head t k) ∙ ordinary-refused kind a q
   run-refused a (as-root root p) q = by-head a (root-head root) ∙ root-refused levels a (root .level-left) p q
 
-  look-refused : (allowed a : ℕ) → 0 < allowed → m .erased ≡ false → Cut (r .section) (key + 6) 2
+  look-refused : (allowed a : ℕ) → 0 < allowed → m .erased ≡ false → NotThere (r .section) (key + 6) 2
       → entryFrom r allowed m key a (head.Root stop) ≡ unread reason.Short key (key + 6)
   unfolding entryFrom rootEndian readAt _>>=_
   look-refused zero a l p h = absurd (omega arith)
@@ -179,7 +179,7 @@ module _ (r : Source) (erased : Bool) (levels : ℕ) (m : Mode) (key : ℕ) (sma
   -- ---- an attribute's fields
 
   module _ (e : Endian) (at : ℕ) where
-    number-cut : Cut (r .section) at 2 → readAttribute (r .vendors) e (r .section) at ≡ Short at
+    number-cut : NotThere (r .section) at 2 → readAttribute (r .vendors) e (r .section) at ≡ Short at
     unfolding readAttribute readAt
     number-cut h = rw (is-cut (r .section) at 2 h)
 
@@ -188,7 +188,7 @@ module _ (r : Source) (erased : Bool) (levels : ℕ) (m : Mode) (key : ℕ) (sma
     unfolding readAttribute numbered readAt
     number-unknown h k = rw (inside-there (r .section) at 2 h, k)
 
-    value-cut : {n field : ℕ} → NumberAt r erased levels m key e at n → valueEnd (formOf n) e (r .section) (at + 2) ≡ end.Short field
+    value-cut : {n field : ℕ} → NumberRead r erased levels m key e at n → valueEnd (formOf n) e (r .section) (at + 2) ≡ end.Short field
         → readAttribute (r .vendors) e (r .section) at ≡ Short field
     unfolding readAttribute numbered readAt ending
     value-cut h p = rw (inside-there (r .section) at 2 (h .number-there), h .number-is, h .number-known, p)

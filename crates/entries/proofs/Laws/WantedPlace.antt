@@ -14,7 +14,7 @@ use Rattle.format.specs.declared.settings.Settings.{Settings}
 use Rattle.attributes.proofs.Laws.Inside.{read-inside}
 use Rattle.entries.specs.Source.{Source, source}
 use Rattle.entries.specs.Entry.{inside}
-use Rattle.entries.specs.Wanted.{ReadUpTo, none-yet, one-more, AttributeAt, Wants, no-size, no-tag, unknown-tag, no-look, no-number, unknown-number, no-value, no-zero, no-length, no-bytes, Comes, begins, passes, enters, leaves, Wanted}
+use Rattle.entries.specs.Wanted.{ReadUpTo, none-yet, one-more, AttributeAt, Wants, no-size, no-tag, unknown-tag, no-look, no-number, unknown-number, no-value, no-zero, no-length, no-bytes, Comes, begins, passes, enters, leaves, ByteWanted}
 use Rattle.entries.specs.declared.entry.Mode.{Mode}
 use Rattle.entries.proofs.Laws.WantedOnly.{here-of}
 use Rattle.entries.proofs.Laws.WantedExactly.{EntryAhead, entry-ahead}
@@ -75,10 +75,10 @@ module _ (settings : Settings) (vendors s : List ℕ) where
 
   -- the byte is not before the key; and the mark for none, 2 ^ 64 - 1, is no byte. (`Bytes`: that each element of a `&[u8]` is below 256 is not in its
   -- contract's terms)
-  pub byte-after : {n key byte : ℕ} → Wanted settings vendors s n key byte → key ≤ byte
+  pub byte-after : {n key byte : ℕ} → ByteWanted settings vendors s n key byte → key ≤ byte
   byte-after w = wants-after from (settings .erased) (w .levels) (w .how) _ (w .wants)
 
-  pub byte-near : {n key byte : ℕ} → Bytes s → length s < sectionLimit → Wanted settings vendors s n key byte → byte < 2 ^ 33
+  pub byte-near : {n key byte : ℕ} → Bytes s → length s < sectionLimit → ByteWanted settings vendors s n key byte → byte < 2 ^ 33
   byte-near {key = key} small short w =
       let near : w .end < 2 ^ 33 = comes-near small short (w .comes) in
       let last : key < w .end = w .before-end in
