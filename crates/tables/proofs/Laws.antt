@@ -1,9 +1,11 @@
 -- Laws. `Flat`: runs of stores, and things of so many words one after the other. `Row`: what the code reads and stores; what was stored is read back.
--- `Holds`, `Tests`: for each way that the code tests. `Find`: bisection, and what is known of a row that was found. `Held`: what a table that passed
--- is known to hold. `Back`: what an answer says leads back to it. `Keyed`: what comes of the row of a key. `Only`: no second answer fits.
+-- `Unit`: which unit a row belongs to, and when the test of it passes. `Holds`, `Tests`: for each way that the code tests. `Find`: bisection, and what is
+-- known of a row that was found. `Held`: what a table that passed is known to hold, its units too. `Back`: what an answer says leads back to it. `Keyed`:
+-- what comes of the row of a key. `Only`: no second answer fits.
 pub mod Flat
 pub mod Row
 pub mod Holds
+pub mod Unit
 pub mod Find
 pub mod Held
 pub mod Back

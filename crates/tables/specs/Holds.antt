@@ -15,6 +15,7 @@ use Rattle.attributes.specs.End.{valueEnd}
 use Rattle.attributes.specs.declared.value.End.{End}
 use Rattle.attributes.specs.declared.value.End.the-variants.{At, Short}
 use Rattle.tables.specs.Row.{rowWidth, attrWidth, rowAt, attrAt, endianOf}
+use Rattle.tables.specs.Unit.{noUnit, unitsHold}
 use Rattle.tables.specs.declared.row.Row.{Row}
 use Rattle.tables.specs.declared.row.Attr.{Attr}
 use Rattle.tables.specs.declared.row.Counts.{Counts}
@@ -52,9 +53,11 @@ module _ (s vendors : List ℕ) where
   rowsHold rows attrs total i (suc n) least run =
       rowHolds attrs total least run (rowAt rows i) && rowsHold rows attrs total (suc i) n (rowAt rows i .key + 4) (run + rowAt rows i .count)
 
-  -- no more rows and attributes than allowed and lent, and each row holds
+  -- no more rows and attributes than allowed and lent, each row holds, and each has its unit
   unfoldable pub tableHolds : List ℕ → List ℕ → Counts → Bool
-  tableHolds rows attrs counts = fitting counts (length rows) (length attrs) && rowsHold rows attrs (counts .attrs) 0 (counts .rows) 0 0
+  tableHolds rows attrs counts =
+      fitting counts (length rows) (length attrs) && rowsHold rows attrs (counts .attrs) 0 (counts .rows) 0 0
+      && unitsHold rows 0 (counts .rows) noUnit
 
   -- what passes: the crates above take this as what they require
   pub record TableHolds (rows attrs : List ℕ) (counts : Counts) : Type 0 where

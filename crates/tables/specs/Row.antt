@@ -1,9 +1,9 @@
--- Rows and attributes as words. A row is 5 words: key, kind, flags, first attribute, number of attributes. An attribute is 2: number, place of its
--- value.
+-- Rows and attributes as words. A row is 6 words: key, kind, flags, first attribute, number of attributes, key of its unit. An attribute is 2:
+-- number, place of its value.
 use Prim.Native.Nat.{ℕ, zero, suc, _+_, _*_, _/_, _%_}
 use mathlib.Core.Bool.{Bool, cond}
 use mathlib.Core.List.{List, [], _∷_, _++_}
-use lib.ListN.{getD}
+use lib.ListN.{getD, set}
 use lib.Seq.{sets}
 use lib.Dec.{eqb}
 use Rattle.numbers.specs.declared.Endian.{Endian}
@@ -14,7 +14,7 @@ use Rattle.tables.specs.declared.row.Attr.{Attr}
 
 -- the words of a row and of an attribute
 abbrev pub rowWidth : ℕ
-rowWidth = 5
+rowWidth = 6
 
 -- the words of an attribute
 abbrev pub attrWidth : ℕ
@@ -22,7 +22,7 @@ attrWidth = 2
 
 -- a row, and an attribute, as words
 unfoldable pub rowWords : Row → List ℕ
-rowWords r = r .key ∷ r .kind ∷ r .flags ∷ r .first ∷ r .count ∷ []
+rowWords r = r .key ∷ r .kind ∷ r .flags ∷ r .first ∷ r .count ∷ r .unit ∷ []
 
 -- an attribute as words
 unfoldable pub attrWords : Attr → List ℕ
@@ -47,6 +47,7 @@ rowAt t i =
       flags = getD t (i * rowWidth + 2) 0;
       first = getD t (i * rowWidth + 3) 0;
       count = getD t (i * rowWidth + 4) 0;
+      unit = getD t (i * rowWidth + 5) 0;
     }
 
 -- attribute i of a table
@@ -66,6 +67,10 @@ attrsFrom t i (suc n) = attrAt t i ∷ attrsFrom t (suc i) n
 -- a table with row i, or attribute i, stored; what does not fit is not stored
 abbrev pub putRow : List ℕ → ℕ → Row → List ℕ
 putRow t i r = sets t (i * rowWidth) (rowWords r)
+
+-- a table with the unit of row i stored
+unfoldable pub putUnit : List ℕ → ℕ → ℕ → List ℕ
+putUnit t i unit = set t (i * rowWidth + 5) unit
 
 -- a table with attribute i stored
 abbrev pub putAttr : List ℕ → ℕ → Attr → List ℕ

@@ -7,6 +7,7 @@ use crate::row::Row;
 use crate::row::attr_at;
 use crate::row::endian_of;
 use crate::row::row_at;
+use crate::unit::units_hold;
 use attributes::read::Ending;
 use attributes::read::known_end;
 use format::limits::ATTRIBUTE_LIMIT;
@@ -132,5 +133,8 @@ pub fn table_holds(s: &[u8], vendors: &[u16], rows: &[u32], attrs: &[u32], count
     if attrs.len() < total * ATTR_WIDTH {
         return false;
     }
-    rows_hold(s, vendors, rows, n, attrs, total)
+    if !rows_hold(s, vendors, rows, n, attrs, total) {
+        return false;
+    }
+    units_hold(rows, n)
 }

@@ -5,13 +5,14 @@ use numbers::Endian;
 ghost use mathlib.Core.Path.{_≡_};
 ghost use Rattle.tables.specs.Row.{rowAt, attrAt, endianOf, endsOf, erasedRow};
 
-// An entry: its key (the place where it begins), its kind (a tag), its flags, its run of attributes.
+// An entry: its key (the place where it begins), its kind (a tag), its flags, its run of attributes, the key of its unit.
 pub struct Row {
     pub key: u32,
     pub kind: u32,
     pub flags: u32,
     pub first: u32,
     pub count: u32,
+    pub unit: u32,
 }
 
 // An attribute: its number, and the place of its value (the byte after the number).
@@ -26,7 +27,7 @@ pub struct Counts {
 }
 
 // The words of a row and of an attribute.
-pub const ROW_WIDTH: usize = 5;
+pub const ROW_WIDTH: usize = 6;
 
 pub const ATTR_WIDTH: usize = 2;
 
@@ -49,6 +50,7 @@ pub fn row_at(rows: &[u32], i: usize) -> Row
             flags: cell(rows, at + 2),
             first: cell(rows, at + 3),
             count: cell(rows, at + 4),
+            unit: cell(rows, at + 5),
         }
     } else {
         Row {
@@ -57,6 +59,7 @@ pub fn row_at(rows: &[u32], i: usize) -> Row
             flags: 0,
             first: 0,
             count: 0,
+            unit: 0,
         }
     }
 }

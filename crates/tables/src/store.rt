@@ -1,11 +1,11 @@
-// Storing a row and an attribute. What does not fit is not stored.
+// Storing a row, its unit and an attribute. What does not fit is not stored.
 use crate::row::ATTR_WIDTH;
 use crate::row::Attr;
 use crate::row::ROW_WIDTH;
 use crate::row::Row;
 use lent::cells::put_cell;
 ghost use mathlib.Core.Path.{_≡_};
-ghost use Rattle.tables.specs.Row.{putRow, putAttr};
+ghost use Rattle.tables.specs.Row.{putRow, putUnit, putAttr};
 
 // Row i stored; what does not fit is not.
 pub fn put_row(rows: &mut [u32], i: usize, row: Row)
@@ -18,6 +18,16 @@ pub fn put_row(rows: &mut [u32], i: usize, row: Row)
         put_cell(rows, at + 2, row.flags);
         put_cell(rows, at + 3, row.first);
         put_cell(rows, at + 4, row.count);
+        put_cell(rows, at + 5, row.unit);
+    }
+}
+
+// The unit of row i stored, where there is such a row.
+pub fn put_unit(rows: &mut [u32], i: usize, unit: u32)
+    ensures { λ _. ⌜ now (rows .exit) ≡ putUnit (now (rows .entry)) i unit ⌝ }
+{
+    if i < rows.len() {
+        put_cell(rows, i * ROW_WIDTH + 5, unit);
     }
 }
 

@@ -6,7 +6,7 @@ use native.Mathlib.Omega.{arith}
 use mathlib.Core.Path.{_≡_, refl, sym, ap, _∙_}
 use mathlib.Core.List.{List, [], _∷_, _++_, append-nil, append-assoc}
 use lib.ListN.{length, getD, take, drop, set, length-set, length-drop, take-append-drop, drop-of-length-le, List·getD-append, List·getD-eq-default}
-use lib.Seq.{set-out, drop-cons, drop-set-add, take-set-le, take-all, getD-set-other, getD-append-add, length-take-le, sets, sets-eq}
+use lib.Seq.{set-out, set-set, set-comm, drop-cons, drop-set-add, take-set-le, take-all, getD-set-other, getD-append-add, length-take-le, sets, sets-eq}
 
 -- what lies past the end is 0
 pub word-none : (t : List ℕ) (i : ℕ) → length t ≤ i → 0 ≡ getD t i 0
@@ -44,6 +44,22 @@ sets-back t i vs k h l =
     ∙ ap (λ (p : ℕ). getD (take i t ++ (vs ++ drop (i + length vs) t)) (p + k) 0) (sym front)
     ∙ getD-append-add (take i t) (vs ++ drop (i + length vs) t) k 0
     ∙ List·getD-append vs (drop (i + length vs) t) 0 k l
+
+-- a store before a run, and the run, in either order
+set-before-sets : (t : List ℕ) (i k : ℕ) (v : ℕ) (vs : List ℕ) → i < k → set (sets t k vs) i v ≡ sets (set t i v) k vs
+set-before-sets t i k v [] h = refl
+set-before-sets t i k v (x ∷ xs) h =
+    set-before-sets (set t k x) i (suc k) v xs (omega arith)
+    ∙ ap (λ (u : List ℕ). sets u (suc k) xs) (set-comm t k i x v (λ e. omega arith))
+
+-- a run over another of as many elements: the other is gone
+pub sets-over : (t : List ℕ) (i : ℕ) (vs ws : List ℕ) → length vs ≡ length ws → sets (sets t i vs) i ws ≡ sets t i ws
+sets-over t i [] ws e = refl
+sets-over t i (v ∷ vs) [] e = absurd (omega arith)
+sets-over t i (v ∷ vs) (w ∷ ws) e =
+    ap (λ (u : List ℕ). sets u (suc i) ws) (set-before-sets (set t i v) i (suc i) w vs (omega arith))
+    ∙ ap (λ (u : List ℕ). sets (sets u (suc i) vs) (suc i) ws) (set-set t i v w)
+    ∙ sets-over (set t i w) (suc i) vs ws (omega arith)
 
 -- ---- a lent rest
 

@@ -5,19 +5,21 @@ use native.Mathlib.Decide.{ℕ-discrete}
 use native.Mathlib.Numerals.{add-one}
 use native.Mathlib.Omega.{arith}
 use mathlib.Core.Path.{_≡_, refl, sym, _∙_, subst}
-use mathlib.Core.Bool.{true, true≢false}
+use mathlib.Core.Bool.{true, true≢false, _&&_}
 use mathlib.Core.List.{List}
 use lib.ListN.{length}
 use Rattle.numbers.specs.declared.Endian.{Endian}
 use Rattle.format.specs.Known.{known}
 use Rattle.format.specs.FormKind.{formOf}
-use Rattle.format.specs.Limits.{entryLimit}
+use Rattle.format.specs.Limits.{entryLimit, sectionLimit}
 use Rattle.attributes.specs.End.{valueEnd}
 use Rattle.attributes.specs.declared.value.End.{End}
 use Rattle.attributes.specs.declared.value.End.the-variants.{At, Short}
 use Rattle.tables.specs.Row.{rowWidth, rowAt, attrAt, endianOf}
+use Rattle.tables.specs.Unit.{noUnit, UnitRow, UnitIs, last, none, unitsHold}
 use Rattle.tables.specs.Holds.{fitting, isAt, attrHolds, runHolds, rowHolds, rowsHold, tableHolds, TableHolds}
 use Rattle.tables.proofs.Laws.Holds.{both, RowPassed, row-passed, rows-step, Fits, fits-all}
+use Rattle.tables.proofs.Laws.Unit.{unit-one, units-exactly}
 use Rattle.tables.specs.Inside.Find.{Rising}
 use Rattle.tables.specs.declared.row.Attr.{Attr}
 use Rattle.tables.specs.declared.row.Counts.{Counts}
@@ -116,9 +118,15 @@ module _ (s vendors rows attrs : List ℕ) (total n : ℕ) where
 -- ---- the table
 
 module _ {s vendors rows attrs : List ℕ} {counts : Counts} (checked : TableHolds s vendors rows attrs counts) where
-  parts : (fitting counts (length rows) (length attrs) ≡ true) × (rowsHold s vendors rows attrs (counts .attrs) 0 (counts .rows) 0 0 ≡ true)
+  all-parts : ((fitting counts (length rows) (length attrs) && rowsHold s vendors rows attrs (counts .attrs) 0 (counts .rows) 0 0) ≡ true)
+      × (unitsHold rows 0 (counts .rows) noUnit ≡ true)
   unfolding tableHolds
-  parts = both (fitting counts (length rows) (length attrs)) (rowsHold s vendors rows attrs (counts .attrs) 0 (counts .rows) 0 0) (checked .holds)
+  all-parts =
+      both (fitting counts (length rows) (length attrs) && rowsHold s vendors rows attrs (counts .attrs) 0 (counts .rows) 0 0)
+      (unitsHold rows 0 (counts .rows) noUnit) (checked .holds)
+
+  parts : (fitting counts (length rows) (length attrs) ≡ true) × (rowsHold s vendors rows attrs (counts .attrs) 0 (counts .rows) 0 0 ≡ true)
+  parts = both (fitting counts (length rows) (length attrs)) (rowsHold s vendors rows attrs (counts .attrs) 0 (counts .rows) 0 0) (all-parts .0)
 
   -- the counts are allowed, and fit the lent words
   pub held-fits : Fits counts (length rows) (length attrs)
@@ -144,3 +152,30 @@ module _ {s vendors rows attrs : List ℕ} {counts : Counts} (checked : TableHol
         few = omega arith;
         rise = λ i h. (let up : rowAt rows i .key + 4 ≤ rowAt rows (i + 1) .key = above-at s vendors rows attrs (counts .attrs) (counts .rows) (parts .1) i h in omega arith);
       }
+
+  -- ---- units: what document 02's K7 demands
+
+  -- in a table that passed, each row's unit is the key of the last row of kind CompileUnit among the rows up to it, or the mark
+  pub held-unit : (i : ℕ) → i < counts .rows → UnitIs rows i (rowAt rows i .unit)
+  held-unit = units-exactly rows (counts .rows) .0 (all-parts .1)
+
+  -- so every row from a unit up to the next has it
+  pub unit-until-next : (j : ℕ) → UnitRow rows j → (i : ℕ) → j ≤ i → i < counts .rows → ((k : ℕ) → j < k → k ≤ i → UnitRow rows k → ⊥)
+      → rowAt rows i .unit ≡ rowAt rows j .key
+  unit-until-next j is-unit i h l never = unit-one rows i (held-unit i l) (last j h is-unit never)
+
+  -- and every row before the first has the mark
+  pub none-before-first : (i : ℕ) → i < counts .rows → ((k : ℕ) → k ≤ i → UnitRow rows k → ⊥) → rowAt rows i .unit ≡ noUnit
+  none-before-first i l never = unit-one rows i (held-unit i l) (none never)
+
+  -- the mark is the key of no row
+  pub mark-no-key : length s < sectionLimit → (i : ℕ) → i < counts .rows → rowAt rows i .key ≡ noUnit → ⊥
+  mark-no-key short i h e = let inside : rowAt rows i .key < length s = held-inside i h in omega arith
+
+  -- so a row has the mark only where no row up to it is a unit
+  pub marked-none : length s < sectionLimit → (i : ℕ) → i < counts .rows → rowAt rows i .unit ≡ noUnit → (k : ℕ) → k ≤ i → UnitRow rows k → ⊥
+  marked-none short i h e = no-unit (held-unit i h) e
+    where
+      no-unit : {u : ℕ} → UnitIs rows i u → u ≡ noUnit → (k : ℕ) → k ≤ i → UnitRow rows k → ⊥
+      no-unit (last j l is-unit after) e k m p = mark-no-key short j (omega arith) e
+      no-unit (none never) e k m p = never k m p

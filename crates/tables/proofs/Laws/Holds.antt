@@ -23,6 +23,7 @@ use Rattle.attributes.specs.declared.value.End.the-variants as end
 use Rattle.attributes.specs.declared.read.Ending.{Ending}
 use Rattle.attributes.specs.declared.read.Ending.the-variants as ending
 use Rattle.tables.specs.Row.{rowWidth, attrWidth, rowAt, attrAt, endianOf}
+use Rattle.tables.specs.Unit.{noUnit, unitsHold}
 use Rattle.tables.specs.Holds.{fitting, isAt, attrHolds, runHolds, rowHolds, rowsHold, tableHolds}
 use Rattle.tables.specs.declared.row.Row.{Row}
 use Rattle.tables.specs.declared.row.Attr.{Attr}
@@ -177,17 +178,22 @@ module _ (s vendors rows attrs : List ℕ) (counts : Counts) where
   unfolding tableHolds fitting
   table-short-attrs h = rw (lt-leb (counts .attrs * attrWidth) (length attrs) h, and-false)
 
-  -- what is left are the rows
-  pub table-rows : counts .rows ≤ entryLimit → counts .rows * rowWidth ≤ length rows → counts .attrs ≤ attributeLimit
-      → counts .attrs * attrWidth ≤ length attrs
-      → rowsHold s vendors rows attrs (counts .attrs) 0 (counts .rows) 0 0 ≡ tableHolds s vendors rows attrs counts
+  pub table-bad-rows : rowsHold s vendors rows attrs (counts .attrs) 0 (counts .rows) 0 0 ≡ false → false ≡ tableHolds s vendors rows attrs counts
+  unfolding tableHolds
+  table-bad-rows h = rw (h, and-false)
+
+  -- what is left are the units
+  pub table-units : counts .rows ≤ entryLimit → counts .rows * rowWidth ≤ length rows → counts .attrs ≤ attributeLimit
+      → counts .attrs * attrWidth ≤ length attrs → rowsHold s vendors rows attrs (counts .attrs) 0 (counts .rows) 0 0 ≡ true
+      → unitsHold rows 0 (counts .rows) noUnit ≡ tableHolds s vendors rows attrs counts
   unfolding tableHolds fitting
-  table-rows h₁ h₂ h₃ h₄ =
+  table-units h₁ h₂ h₃ h₄ h₅ =
       rw (
         le-leb (counts .rows) entryLimit h₁,
         le-leb (counts .rows * rowWidth) (length rows) h₂,
         le-leb (counts .attrs) attributeLimit h₃,
         le-leb (counts .attrs * attrWidth) (length attrs) h₄,
+        h₅,
       )
 
 -- ---- what passed
