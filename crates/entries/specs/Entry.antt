@@ -12,6 +12,7 @@ use Rattle.format.specs.Known.{known}
 use Rattle.format.specs.TagKind as tag
 use Rattle.format.specs.Said.{Said, gives, refuse, unread, _>>=_, placed}
 use Rattle.format.specs.declared.refusal.Reason.the-variants as reason
+use Rattle.tables.specs.Unit.{noUnit}
 use Rattle.tables.specs.declared.row.Row.{Row}
 use Rattle.tables.specs.declared.row.Attr.{Attr}
 use Rattle.entries.specs.Head.{headAt}
@@ -43,9 +44,9 @@ flagOf on value = cond on value 0
 unfoldable pub flagsOf : Bool → Bool → Endian → ℕ
 flagsOf isErased root e = flagOf isErased 1 + flagOf root 2 + littleFlag e
 
--- the row of the entry at `at`, whose attributes begin with number a of the table
+-- the row of the entry at `at`, whose attributes begin with number a of the table; its unit is not told before all rows are read
 abbrev pub row : Bool → Bool → Endian → ℕ → ℕ → ℕ → List Attr → Row
-row isErased root e at kind a xs = record { key = at; kind = kind; flags = flagsOf isErased root e; first = a; count = length xs }
+row isErased root e at kind a xs = record { key = at; kind = kind; flags = flagsOf isErased root e; first = a; count = length xs; unit = noUnit }
 
 -- an erased root's kind: a subroutine if a HighPc was read, else a local variable
 unfoldable pub rootKind : Bool → ℕ

@@ -9,6 +9,7 @@ use Rattle.lent.specs.Outcome.{Outcomes}
 use Rattle.format.specs.Said.{Said, gives}
 use Rattle.format.specs.declared.settings.Settings.{Settings}
 use Rattle.tables.specs.Row.{rowsWords, attrsWords, rowsFrom, attrsFrom}
+use Rattle.tables.specs.Unit.{withUnits}
 use Rattle.tables.specs.Holds.{fitting}
 use Rattle.tables.specs.declared.row.Row.{Row}
 use Rattle.tables.specs.declared.row.Attr.{Attr}
@@ -25,7 +26,7 @@ KeysRise top least (r ∷ rs) = (least ≤ r .key) × (r .key + 4 ≤ top) × Ke
 
 -- ---- the answer
 
--- the tables were filled with what the walk gave: it is counted, stored from the first word on, and read back
+-- the tables were filled with what the walk gave: it is counted, stored from the first word on, its rows with their units, and read back
 pub record TableFilled (settings : Settings) (vendors s rows attrs : List ℕ) (c : Counts) (o : Outcomes (Said Counts) ℕ ℕ) : Type 0 where
   pub rs : List Row
   pub xs : List Attr
@@ -33,7 +34,7 @@ pub record TableFilled (settings : Settings) (vendors s rows attrs : List ℕ) (
   pub whole : wholeWalk settings vendors s ≡ gives (entries rs xs place)
   pub counted : c ≡ counts (length rs) (length xs)
   pub fits : fitting c (length rows) (length attrs) ≡ true
-  pub rows-stored : o .first ≡ sets rows 0 (rowsWords rs)
+  pub rows-stored : o .first ≡ sets rows 0 (rowsWords (withUnits rs))
   pub attrs-stored : o .second ≡ sets attrs 0 (attrsWords xs)
-  pub rows-held : rowsFrom (o .first) 0 (length rs) ≡ rs
+  pub rows-held : rowsFrom (o .first) 0 (length rs) ≡ withUnits rs
   pub attrs-held : attrsFrom (o .second) 0 (length xs) ≡ xs

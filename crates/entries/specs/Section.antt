@@ -13,6 +13,7 @@ use Rattle.format.specs.declared.settings.Settings.{Settings}
 use Rattle.format.specs.declared.refusal.Reason.the-variants as reason
 use Rattle.tables.specs.Holds.{fitting}
 use Rattle.tables.specs.Row.{rowsWords, attrsWords}
+use Rattle.tables.specs.Unit.{withUnits}
 use Rattle.tables.specs.declared.row.Counts.{Counts}
 use Rattle.entries.specs.Walk.{Entries, readTags}
 use Rattle.entries.specs.declared.section.Count.{Count}
@@ -59,9 +60,9 @@ countDebugSection settings vendors sizes s = do
   all ← sectionEntries settings vendors sizes s
   gives (countsOf all)
 
--- into the lent tables if it fits them, words past it as they were; else 8 with the counts that are needed
+-- into the lent tables if it fits them, the rows with their units, words past it as they were; else 8 with the counts that are needed
 unfoldable pub readDebugSection : Settings → List ℕ → List ℕ → List ℕ → List ℕ → List ℕ → Outcomes (Said Counts) ℕ ℕ
 readDebugSection settings vendors sizes s rows attrs =
     inRooms rows attrs (sectionEntries settings vendors sizes s)
     (λ all. fillsRooms (fitting (countsOf all) (length rows) (length attrs)) (countsOf all) (length (all .rows) ∷ length (all .attrs) ∷ [])
-    (rowsWords (all .rows)) (attrsWords (all .attrs)) rows attrs)
+    (rowsWords (withUnits (all .rows))) (attrsWords (all .attrs)) rows attrs)

@@ -22,6 +22,7 @@ use Rattle.attributes.specs.Decode.{addressAt, referenceAt, data2At, data4At, d
 use Rattle.attributes.specs.Parts.{blockAt, textAt}
 use Rattle.attributes.specs.declared.decode.Endians.{Endians}
 use Rattle.tables.specs.Row.{rowWidth, attrWidth, rowsWords, attrsWords}
+use Rattle.tables.specs.Unit.{noUnit, withUnits}
 use Rattle.tables.specs.Holds.{fitting}
 use Rattle.tables.specs.declared.row.Row.{Row}
 use Rattle.tables.specs.declared.row.Attr.{Attr}
@@ -58,12 +59,12 @@ module _ (numbers : List ℕ) (e : Endian) where
   dieAttrs at (padding fill some few small) = []
   dieAttrs at (entry tag k p b rest few) = writtenFrom (at + 6) (b ∷ rest)
 
-  -- the rows of an entry that begins at a place, its attributes from number a on: padding has none
+  -- the rows of an entry that begins at a place, its attributes from number a on: padding has none. Their units are told of all rows together
   unfoldable pub dieRows : ℕ → ℕ → Die numbers e → List Row
-  dieRows at a (null fill few small) = record { key = at; kind = paddingTag; flags = dataFlag e; first = a; count = 0 } ∷ []
+  dieRows at a (null fill few small) = record { key = at; kind = paddingTag; flags = dataFlag e; first = a; count = 0; unit = noUnit } ∷ []
   dieRows at a (padding fill some few small) = []
   dieRows at a (entry tag k p b rest few) =
-      record { key = at; kind = tag; flags = dataFlag e; first = a; count = length (writtenFrom (at + 6) (b ∷ rest)) } ∷ []
+      record { key = at; kind = tag; flags = dataFlag e; first = a; count = length (writtenFrom (at + 6) (b ∷ rest)); unit = noUnit } ∷ []
 
   -- the attributes of entries one after the other
   unfoldable pub attrsOf : ℕ → List (Die numbers e) → List Attr
@@ -104,7 +105,7 @@ pub data AllDecoded (e : Endian) (s : List ℕ) : List Attr → List Value → T
 pub record WrittenAs (vendors : List ℕ) (e : Endian) (s : List ℕ) (rs : List Row) (xs : List Attr) : Type 0 where
   pub dies : List (Die (taken vendors) e)
   pub written : writtenDies (taken vendors) e dies ≡ s
-  pub rows : rowsOf (taken vendors) e 0 0 dies ≡ rs
+  pub rows : withUnits (rowsOf (taken vendors) e 0 0 dies) ≡ rs
   pub attributes : attrsOf (taken vendors) e 0 dies ≡ xs
   pub values : AllDecoded e s xs (valuesOf (taken vendors) e dies)
 
@@ -131,9 +132,9 @@ pub record Call : Type 0 where
 abbrev pub Dies : Call → Type 0
 Dies c = List (Die (taken (c .vendors)) (c .settings .endian))
 
--- the rows that they come to
+-- the rows that they come to, with their units
 abbrev pub itsRows : (c : Call) → Dies c → List Row
-itsRows c dies = rowsOf (taken (c .vendors)) (c .settings .endian) 0 0 dies
+itsRows c dies = withUnits (rowsOf (taken (c .vendors)) (c .settings .endian) 0 0 dies)
 
 -- their attributes
 abbrev pub itsAttrs : (c : Call) → Dies c → List Attr

@@ -1,4 +1,4 @@
-// One entry: its row and its attributes are stored; an erased root's inside is left to the walk.
+// One entry: its row and its attributes are stored; an erased root's inside is left to the walk, and units until all rows are read.
 use crate::head::Head;
 use crate::head::head_at;
 use crate::run::AttrsRead;
@@ -13,6 +13,7 @@ use numbers::unsigned::Read16;
 use numbers::unsigned::u16_at;
 use tables::row::Row;
 use tables::store::put_row;
+use tables::unit::NO_UNIT;
 ghost use mathlib.Core.Path.{_≡_};
 ghost use Prim.Native.Nat.{_+_, _≤_};
 ghost use lib.ListN.{length};
@@ -139,6 +140,7 @@ fn read_body(
                 flags: flags_of(shape.erased, shape.root, e),
                 first: from.attrs as u32,
                 count: (n - from.attrs) as u32,
+                unit: NO_UNIT,
             };
             put_row(rows, from.rows, row);
             Body::Read(State {
@@ -228,6 +230,7 @@ fn read_null(rows: &mut [u32], mode: Mode, place: usize, from: State) -> Entry
         flags: flags_of(mode.erased, false, e),
         first: from.attrs as u32,
         count: 0,
+        unit: NO_UNIT,
     };
     put_row(rows, from.rows, row);
     Entry::Next(State {

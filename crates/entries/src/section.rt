@@ -15,6 +15,7 @@ use format::settings::settings_hold;
 use tables::row::ATTR_WIDTH;
 use tables::row::Counts;
 use tables::row::ROW_WIDTH;
+use tables::unit::put_units;
 ghost use mathlib.Core.Path.{_≡_};
 ghost use Prim.Native.Nat.{_<_};
 ghost use lib.ListN.{length};
@@ -162,6 +163,7 @@ pub fn read_debug_section(
         Count::Counted(counts) => {
             if fits_tables(counts, rows.len(), attrs.len()) {
                 read_whole(s, settings, vendors, rows, attrs);
+                put_units(rows, counts.rows);
                 Section::Read(counts)
             } else {
                 Section::Room(counts)

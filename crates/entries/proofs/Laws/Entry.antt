@@ -17,6 +17,7 @@ use Rattle.format.proofs.Laws.Said.{case-said}
 use Rattle.format.specs.declared.refusal.Reason.{Reason}
 use Rattle.format.specs.declared.refusal.Reason.the-variants as reason
 use Rattle.tables.specs.Row.{rowWords, rowsWords, attrsWords, putRow}
+use Rattle.tables.specs.Unit.{noUnit}
 use Rattle.tables.specs.declared.row.Attr.{Attr}
 use Rattle.entries.specs.Head.{headAt}
 use Rattle.entries.specs.Run.{AttrsRead, ran}
@@ -74,7 +75,7 @@ told-failed (refuses number field counts) attrs {why = why} {byte} a t key =
 module _ (s : List ℕ) (from : State) (ready : BodyReady s from) (shape : Shape) (what : Said AttrsRead) {rows₀ rows₁ attrs₀ attrs₁ : List ℕ} where
   pub body-read : {r : run.the-data} {place n flags kind : ℕ} {high : Bool} → RunRead s (from .at + 6) (from .attrs) what r attrs₀ attrs₁ → r ≡ run.Ran place n high
       → kind ≡ kindOf (shape .root) (shape .kind) high → flags ≡ flagsOf (shape .erased) (shape .root) (shape .endian)
-      → rows₁ ≡ putRow rows₀ (from .rows) (record { key = from .at; kind = kind; flags = flags; first = from .attrs; count = n - from .attrs })
+      → rows₁ ≡ putRow rows₀ (from .rows) (record { key = from .at; kind = kind; flags = flags; first = from .attrs; count = n - from .attrs; unit = noUnit })
       → BodyRead s from shape (placed (from .at) what) (body.Read (record { at = place; rows = from .rows + 1; attrs = n })) rows₀ rows₁ attrs₀ attrs₁
   unfolding saidBody placed _>>=_ rowsWords rowWords
   body-read {r} {place} {n} {flags} {kind} {high} q t k f w =
@@ -87,7 +88,7 @@ module _ (s : List ℕ) (from : State) (ready : BodyReady s from) (shape : Shape
       in
       let same-count : n - from .attrs ≡ length xs = omega arith in
       let put : ℕ → ℕ → ℕ → List ℕ =
-      λ x y z. putRow rows₀ (from .rows) (record { key = from .at; kind = x; flags = y; first = from .attrs; count = z })
+      λ x y z. putRow rows₀ (from .rows) (record { key = from .at; kind = x; flags = y; first = from .attrs; count = z; unit = noUnit })
       in
       let small : length s < 2 ^ 32 = ready .ready .small in
       let rows-few : from .rows ≤ from .at = ready .ready .rows-few in
@@ -252,14 +253,14 @@ module _ (vendors s : List ℕ) (e : Endian) (at : ℕ) where
 -- ---- a null entry, and padding that is stepped over
 
 pub null-read : (from : State) (isErased : Bool) (e : Endian) (place : ℕ) {flags : ℕ} {rows₀ rows₁ : List ℕ} → flags ≡ flagsOf isErased false e
-    → rows₁ ≡ putRow rows₀ (from .rows) (record { key = from .at; kind = tag.Padding; flags = flags; first = from .attrs; count = 0 })
+    → rows₁ ≡ putRow rows₀ (from .rows) (record { key = from .at; kind = tag.Padding; flags = flags; first = from .attrs; count = 0; unit = noUnit })
     → NullRead from isErased e place (entry.Next (record { at = place; rows = from .rows + 1; attrs = from .attrs })) rows₀ rows₁
 unfolding rowsWords rowWords
 null-read from isErased e place {rows₀ = rows₀} f w =
     record {
       answer = ap (λ (n : ℕ). entry.Next (record { at = place; rows = from .rows + 1; attrs = n })) (sym (add-zero (from .attrs)));
       words =
-          w ∙ ap (λ (x : ℕ). putRow rows₀ (from .rows) (record { key = from .at; kind = tag.Padding; flags = x; first = from .attrs; count = 0 })) f;
+          w ∙ ap (λ (x : ℕ). putRow rows₀ (from .rows) (record { key = from .at; kind = tag.Padding; flags = x; first = from .attrs; count = 0; unit = noUnit })) f;
     }
 
 module _ (vendors : List ℕ) (global : ℕ) (s : List ℕ) (levels : ℕ) (isErased : Bool) (e : Endian) (from : State) (ready : Ready s from) (place : ℕ) where

@@ -1,7 +1,7 @@
 -- A table that reading filled: it holds the rows and attributes that the walk gave, no more rows than the section has groups of four bytes, and it passes
 -- the table test with the same section and vendor list.
 use Rattle.format.proofs.Laws.Said.{rooms-gave, fills-gave}
-use Prim.Native.Nat.{ℕ, suc, _+_, _*_, _≤_}
+use Prim.Native.Nat.{ℕ, suc, _+_, _*_, _≤_, _<_}
 use native.Mathlib.Nat.{add-zero}
 use native.Mathlib.Omega.{arith}
 use mathlib.Core.Path.{_≡_, refl, sym, subst, ap, _∙_}
@@ -18,9 +18,11 @@ use Rattle.format.specs.Said.{Said, gives}
 use Rattle.format.specs.declared.settings.Settings.{Settings}
 use Rattle.tables.specs.Row.{rowsWords, attrsWords, rowAt, attrAt, rowsFrom, attrsFrom, endianOf}
 use Rattle.tables.proofs.Laws.Row.{rows-back, attrs-back}
-use Rattle.tables.specs.Holds.{runHolds, rowHolds, rowsHold, tableHolds}
-use Rattle.tables.proofs.Laws.Holds.{row-passes, table-rows, Fits, fits-all}
-use Rattle.tables.proofs.Laws.Held.{attr-passes}
+use Rattle.tables.specs.Unit.{noUnit, unitOf, inUnit, unitsFrom, withUnits, UnitIs, unitsHold}
+use Rattle.tables.proofs.Laws.Unit.{units-length, units-pass}
+use Rattle.tables.specs.Holds.{runHolds, rowHolds, rowsHold, tableHolds, TableHolds}
+use Rattle.tables.proofs.Laws.Holds.{row-passes, table-units, Fits, fits-all}
+use Rattle.tables.proofs.Laws.Held.{attr-passes, held-unit}
 use Rattle.tables.specs.declared.row.Row.{Row}
 use Rattle.tables.specs.declared.row.Attr.{Attr}
 use Rattle.tables.specs.declared.row.Counts.{Counts}
@@ -114,6 +116,25 @@ module _ (s vendors rows attrs : List ℕ) where
       let room : run + length own ≤ total = omega arith in
       rw (here, held-row-passes h known (parts .0) room, known .run-long) (held-rows-pass total (suc i) later others (parts .1) (omega arith))
 
+-- ---- units
+
+-- rows that were read are such with their units too
+rows-in-units : {s vendors : List ℕ} {least run place : ℕ} {rs : List Row} {xs : List Attr} (before : ℕ) → RowsRead s vendors least run rs xs place
+    → RowsRead s vendors least run (unitsFrom before rs) xs place
+unfolding unitsFrom inUnit
+rows-in-units before (no-rows h) = no-rows h
+rows-in-units before (more-rows {r = r} h known later) =
+    more-rows h
+    (record {
+      fits = known .fits;
+      is-tag = known .is-tag;
+      flags-small = known .flags-small;
+      run-begins = known .run-begins;
+      run-long = known .run-long;
+      all-known = known .all-known;
+    })
+    (rows-in-units (unitOf before r) later)
+
 -- ---- the theorems
 
 module _ {settings : Settings} {vendors s rows attrs : List ℕ} {c : Counts} {o : Outcomes (Said Counts) ℕ ℕ} (filled : TableFilled settings vendors s rows attrs c o) where
@@ -128,13 +149,18 @@ module _ {settings : Settings} {vendors s rows attrs : List ℕ} {c : Counts} {o
   filled-passes : tableHolds s vendors (o .first) (o .second) c ≡ true
   filled-passes =
       let room : Fits c (length rows) (length attrs) = fits-all c (length rows) (length attrs) (filled .fits) in
-      let rows-long : length (o .first) ≡ length rows = ap length (filled .rows-stored) ∙ length-sets rows 0 (rowsWords (filled .rs)) in
+      let rows-long : length (o .first) ≡ length rows = ap length (filled .rows-stored) ∙ length-sets rows 0 (rowsWords (withUnits (filled .rs))) in
       let attrs-long : length (o .second) ≡ length attrs = ap length (filled .attrs-stored) ∙ length-sets attrs 0 (attrsWords (filled .xs)) in
       let rows-counted : c .rows ≡ length (filled .rs) = ap (λ (d : Counts). d .rows) (filled .counted) in
       let attrs-counted : c .attrs ≡ length (filled .xs) = ap (λ (d : Counts). d .attrs) (filled .counted) in
-      sym (table-rows s vendors (o .first) (o .second) c (room .rows-few) (omega arith) (room .attrs-few) (omega arith))
-      ∙ rw rows-counted
-      (held-rows-pass s vendors (o .first) (o .second) (c .attrs) 0 (whole-rows settings vendors s (filled .whole)) (filled .rows-held) (filled .attrs-held) (omega arith))
+      let many : length (withUnits (filled .rs)) ≡ length (filled .rs) = units-length noUnit (filled .rs) in
+      let rows-hold : rowsHold s vendors (o .first) (o .second) (c .attrs) 0 (c .rows) 0 0 ≡ true =
+      rw (rows-counted, ← many)
+      (held-rows-pass s vendors (o .first) (o .second) (c .attrs) 0 (rows-in-units noUnit (whole-rows settings vendors s (filled .whole))) (rw many (filled .rows-held))
+      (filled .attrs-held) (omega arith))
+      in
+      let units-hold : unitsHold (o .first) 0 (c .rows) noUnit ≡ true = rw rows-counted (units-pass (o .first) 0 noUnit (filled .rs) (filled .rows-held)) in
+      sym (table-units s vendors (o .first) (o .second) c (room .rows-few) (omega arith) (room .attrs-few) (omega arith) rows-hold) ∙ units-hold
 
 module _ (settings : Settings) (vendors sizes s rows attrs : List ℕ) (c : Counts) (answers : readDebugSection settings vendors sizes s rows attrs .answer ≡ gives c) where
   -- an answer of counts filled the tables
@@ -146,6 +172,7 @@ module _ (settings : Settings) (vendors sizes s rows attrs : List ℕ) (c : Coun
       let same : countsOf (read .0) ≡ c = stored .1 in
       let room : Fits (countsOf (read .0)) (length rows) (length attrs) = fits-all (countsOf (read .0)) (length rows) (length attrs) (stored .0) in
       let is = read-stored settings vendors sizes s rows attrs (read .1) (stored .0) in
+      let many : length (withUnits (read .0 .rows)) ≡ length (read .0 .rows) = units-length noUnit (read .0 .rows) in
       let rows-are = ap (λ (o : Outcomes (Said Counts) ℕ ℕ). o .first) is in
       let attrs-are = ap (λ (o : Outcomes (Said Counts) ℕ ℕ). o .second) is in
       record {
@@ -157,7 +184,7 @@ module _ (settings : Settings) (vendors sizes s rows attrs : List ℕ) (c : Coun
         fits = rw (← same) (stored .0);
         rows-stored = rows-are;
         attrs-stored = attrs-are;
-        rows-held = rw rows-are (rows-back rows (read .0 .rows) (room .rows-lent));
+        rows-held = rw (rows-are, ← many) (rows-back rows (withUnits (read .0 .rows)) (rw many (room .rows-lent)));
         attrs-held = rw attrs-are (attrs-back attrs (read .0 .attrs) (room .attrs-lent));
       }
 
@@ -168,3 +195,8 @@ module _ (settings : Settings) (vendors sizes s rows attrs : List ℕ) (c : Coun
   -- and the table passes the test, with the same section and vendor list
   pub filled-holds : tableHolds s vendors (readDebugSection settings vendors sizes s rows attrs .first) (readDebugSection settings vendors sizes s rows attrs .second) c ≡ true
   filled-holds = filled-passes answer-read
+
+  -- so each row that was read has its unit
+  pub filled-unit : (i : ℕ) → i < c .rows
+      → UnitIs (readDebugSection settings vendors sizes s rows attrs .first) i (rowAt (readDebugSection settings vendors sizes s rows attrs .first) i .unit)
+  filled-unit = held-unit (record { holds = filled-holds })

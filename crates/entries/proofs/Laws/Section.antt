@@ -19,7 +19,13 @@ use Rattle.format.specs.declared.refusal.Reason.{Reason}
 use Rattle.format.specs.declared.refusal.Reason.the-variants as reason
 use Rattle.format.specs.declared.refusal.Refusal.{Refusal}
 use Rattle.tables.specs.Table.{lentRows}
-use Rattle.tables.specs.Row.{rowWidth, attrWidth, rowsWords, attrsWords}
+use Rattle.lent.proofs.Laws.Stores.{sets-over}
+use Rattle.tables.specs.Row.{rowWidth, attrWidth, rowsWords, attrsWords, rowsFrom}
+use Rattle.tables.specs.Unit.{noUnit, withUnits}
+use Rattle.tables.proofs.Laws.Row.{rows-back}
+use Rattle.tables.proofs.Laws.Unit.{units-length, words-long}
+use Rattle.tables.proofs.Laws.Holds.{fits-all}
+use Rattle.tables.specs.declared.row.Row.{Row}
 use Rattle.tables.specs.declared.row.Counts.{Counts}
 use Rattle.entries.specs.Walk.{Entries}
 use Rattle.entries.specs.Inside.Promise.{start, Stored, saidWalk, walked, WalkStores, WalkRead}
@@ -50,6 +56,17 @@ module _ (c : Counts) (lentRows lentAttrs : ℕ) where
       → leb (c .attrs * attrWidth) lentAttrs ≡ fitting c lentRows lentAttrs
   unfolding fitting
   attrs-decide h k l = rw (le-leb (c .rows) entryLimit h, le-leb (c .rows * rowWidth) lentRows k, le-leb (c .attrs) attributeLimit l)
+
+-- ---- units
+
+-- the rows that were stored, stored once more with their units
+units-over : (t : List ℕ) (rs : List Row) {t₁ : List ℕ} → length rs * rowWidth ≤ length t → t₁ ≡ sets t 0 (rowsWords rs)
+    → sets t₁ 0 (rowsWords (withUnits (rowsFrom t₁ 0 (length rs)))) ≡ sets t 0 (rowsWords (withUnits rs))
+units-over t rs h p =
+    let many : length (withUnits rs) ≡ length rs = units-length noUnit rs in
+    let first : length (rowsWords rs) ≡ length rs * rowWidth = words-long rs in
+    let second : length (rowsWords (withUnits rs)) ≡ length (withUnits rs) * rowWidth = words-long (withUnits rs) in
+    rw (p, rows-back t rs h) (sets-over t 0 (rowsWords rs) (rowsWords (withUnits rs)) (omega arith))
 
 -- ---- what a section gave
 
@@ -122,13 +139,13 @@ module _ (settings : Settings) (vendors sizes s : List ℕ) where
     -- what was read, by whether it fits
     read-filled : {all : Entries} {fits : Bool} → sectionEntries settings vendors sizes s ≡ gives all → fitting (countsOf all) (length rows) (length attrs) ≡ fits
         → readDebugSection settings vendors sizes s rows attrs
-        ≡ fillsRooms fits (countsOf all) (length (all .rows) ∷ length (all .attrs) ∷ []) (rowsWords (all .rows)) (attrsWords (all .attrs)) rows attrs
+        ≡ fillsRooms fits (countsOf all) (length (all .rows) ∷ length (all .attrs) ∷ []) (rowsWords (withUnits (all .rows))) (attrsWords (all .attrs)) rows attrs
     unfolding readDebugSection inRooms
     read-filled p f = rw (p, f)
 
     pub read-stored : {all : Entries} → sectionEntries settings vendors sizes s ≡ gives all → fitting (countsOf all) (length rows) (length attrs) ≡ true
         → readDebugSection settings vendors sizes s rows attrs
-        ≡ outcomes (gives (countsOf all)) (sets rows 0 (rowsWords (all .rows))) (sets attrs 0 (attrsWords (all .attrs)))
+        ≡ outcomes (gives (countsOf all)) (sets rows 0 (rowsWords (withUnits (all .rows)))) (sets attrs 0 (attrsWords (all .attrs)))
     unfolding fillsRooms
     read-stored p f = read-filled p f
 
@@ -141,15 +158,20 @@ module _ (settings : Settings) (vendors sizes s : List ℕ) where
       fits-as : {b : Bool} → fitting c (length rows) (length attrs) ≡ b → fitting (countsOf (told .all)) (length rows) (length attrs) ≡ b
       fits-as f = ap (λ (x : Counts). fitting x (length rows) (length attrs)) (told .counts-are) ∙ f
 
-      pub read-done : {r : walk.the-data} {rows₁ attrs₁ : List ℕ} → fitting c (length rows) (length attrs) ≡ true
-          → WalkRead start (wholeWalk settings vendors s) r rows rows₁ attrs attrs₁
-          → BothGiven (readDebugSection settings vendors sizes s rows attrs) (gives c) rows₁ attrs₁
-      read-done {r} {rows₁} {attrs₁} f w =
+      pub read-done : {r : walk.the-data} {rows₁ rows₂ attrs₁ : List ℕ} → fitting c (length rows) (length attrs) ≡ true
+          → WalkRead start (wholeWalk settings vendors s) r rows rows₁ attrs attrs₁ → rows₂ ≡ sets rows₁ 0 (rowsWords (withUnits (rowsFrom rows₁ 0 (c .rows))))
+          → BothGiven (readDebugSection settings vendors sizes s rows attrs) (gives c) rows₂ attrs₁
+      read-done {r} {rows₁} {rows₂} {attrs₁} f w u =
           let all : Stored start (told .all .rows) (told .all .attrs) (told .all .stopped) rows rows₁ attrs attrs₁ =
           subst (λ (v : Said Entries). WalkStores start v rows rows₁ attrs attrs₁) (section-gave (told .is) .2) (w .stores)
           in
+          let count : c .rows ≡ length (told .all .rows) = ap (λ (x : Counts). x .rows) (sym (told .counts-are)) in
           outcome (read-stored (told .is) (fits-as f))
-          (record { answer-is = ap gives (sym (told .counts-are)); first-is = all .row-words; second-is = all .attr-words })
+          (record {
+            answer-is = ap gives (sym (told .counts-are));
+            first-is = rw count at u ∙ units-over rows (told .all .rows) (fits-all (countsOf (told .all)) (length rows) (length attrs) (fits-as f) .rows-lent) (all .row-words);
+            second-is = all .attr-words;
+          })
 
       pub read-room : fitting c (length rows) (length attrs) ≡ false
           → BothGiven (readDebugSection settings vendors sizes s rows attrs) (wanting (c .rows ∷ c .attrs ∷ [])) rows attrs

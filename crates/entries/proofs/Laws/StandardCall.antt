@@ -19,7 +19,9 @@ use Rattle.format.specs.Limits.{sectionLimit, erasedLimit}
 use Rattle.format.specs.Said.{Said, gives, must, _>>_}
 use Rattle.format.specs.Settings.{settingsHold}
 use Rattle.format.specs.declared.settings.Settings.{Settings}
-use Rattle.tables.specs.Row.{rowWidth, attrWidth, rowWords, attrWords, rowsWords, attrsWords, rowsFrom, attrsFrom}
+use Rattle.tables.specs.Row.{rowWidth, attrWidth, attrWords, rowsWords, attrsWords, rowsFrom, attrsFrom}
+use Rattle.tables.specs.Unit.{noUnit, unitOf, inUnit, unitsFrom, withUnits}
+use Rattle.tables.proofs.Laws.Unit.{units-length, words-long}
 use Rattle.tables.proofs.Laws.Holds.{Fits, fits-all}
 use Rattle.tables.specs.declared.row.Row.{Row}
 use Rattle.tables.specs.declared.row.Attr.{Attr}
@@ -27,7 +29,8 @@ use Rattle.tables.specs.declared.row.Counts.{Counts}
 use Rattle.entries.specs.Source.{source, mode}
 use Rattle.entries.specs.Walk.{Entries, entries, readTags}
 use Rattle.entries.specs.Section.{saidSection, wholeWalk, counts, sectionEntries, readDebugSection}
-use Rattle.entries.specs.Standard.{taken, Call, Dies, itsRows, itsAttrs, WrittenLent, WrittenRead, WrittenAs, StandardTags}
+use Rattle.entries.specs.Standard.{taken, Call, Dies, itsRows, itsAttrs, WrittenLent, WrittenRead, WrittenAs, StandardTags, rowsOf}
+use Rattle.entries.specs.Standard as table
 use Rattle.entries.proofs.Laws.Section.{read-stored}
 use Rattle.entries.proofs.Laws.Filled.{answer-read}
 use Rattle.entries.proofs.Laws.StandardRead.{standard-read, standard-values}
@@ -35,11 +38,6 @@ use Rattle.entries.proofs.Laws.StandardWritten.{standard-written}
 use Rattle.entries.proofs.section.read_debug_section as call
 
 -- ---- words
-
-rows-long : (rs : List Row) → length (rowsWords rs) ≡ length rs * rowWidth
-unfolding rowsWords rowWords
-rows-long [] = refl
-rows-long (r ∷ rs) = let rest : length (rowsWords rs) ≡ length rs * rowWidth = rows-long rs in omega arith
 
 attrs-long : (xs : List Attr) → length (attrsWords xs) ≡ length xs * attrWidth
 unfolding attrsWords attrWords
@@ -59,6 +57,12 @@ pub off-walk : (settings : Settings) (vendors s : List ℕ) → settings .erased
     → wholeWalk settings vendors s ≡ readTags (source vendors (settings .roles .«global_ref») s) false erasedLimit (mode false (settings .endian)) (length s) 0 0
 unfolding wholeWalk
 off-walk settings vendors s off = rw off
+
+-- rows have their tags whatever their units
+bare-tags : (before : ℕ) (rs : List Row) → StandardTags (unitsFrom before rs) → StandardTags rs
+unfolding unitsFrom inUnit
+bare-tags before [] tags = table.none
+bare-tags before (r ∷ rs) (table.more u us on others) = table.more r rs on (bare-tags (unitOf before r) rs others)
 
 -- ---- the theorems: whatever the arguments, the result and the state at exit that meet the contract
 
@@ -82,20 +86,22 @@ module _ (κs : Lfts 5) (a : Dens κs call.Kinds.ps) (z : resT call.Kinds.r κs 
   pub written-is-read : (dies : Dies c) → WrittenLent c dies → WrittenRead c dies
   written-is-read dies lent =
       let numbers : List ℕ = taken (c .vendors) in
+      let bare : List Row = rowsOf numbers (c .settings .endian) 0 0 dies in
       let rs : List Row = itsRows c dies in
       let xs : List Attr = itsAttrs c dies in
       let s : List ℕ = c .section in
-      let walk : wholeWalk (c .settings) (c .vendors) s ≡ gives (entries rs xs (length s)) =
+      let many : length rs ≡ length bare = units-length noUnit bare in
+      let walk : wholeWalk (c .settings) (c .vendors) s ≡ gives (entries bare xs (length s)) =
       off-walk (c .settings) (c .vendors) s (lent .flag-off)
       ∙ rw (lent .is-written) (standard-read (c .vendors) (c .settings .roles .«global_ref») (c .settings .endian) erasedLimit dies)
       in
       let stored = read-stored (c .settings) (c .vendors) (c .sizes) s (c .rows) (c .attrs)
-      (section-given (c .settings) (c .vendors) (c .sizes) s (lent .settings-hold) (lent .is-short) walk) (lent .fits)
+      (section-given (c .settings) (c .vendors) (c .sizes) s (lent .settings-hold) (lent .is-short) walk) (rw (← many) (lent .fits))
       in
       let room : Fits (counts (length rs) (length xs)) (length (c .rows)) (length (c .attrs)) = fits-all (counts (length rs) (length xs)) (length (c .rows)) (length (c .attrs)) (lent .fits) in
       record {
-        says = given .answer-is ∙ ap (λ (o : Outcomes (Said Counts) ℕ ℕ). o .answer) stored;
-        rows-filled = sets-filled (rowsWords rs) (length rs * rowWidth) (c .rows) (rows-long rs) (room .rows-lent)
+        says = given .answer-is ∙ ap (λ (o : Outcomes (Said Counts) ℕ ℕ). o .answer) stored ∙ ap (λ (n : ℕ). gives (counts n (length xs))) (sym many);
+        rows-filled = sets-filled (rowsWords rs) (length rs * rowWidth) (c .rows) (words-long rs) (room .rows-lent)
             (given .first-is ∙ ap (λ (o : Outcomes (Said Counts) ℕ ℕ). o .first) stored);
         attrs-filled = sets-filled (attrsWords xs) (length xs * attrWidth) (c .attrs) (attrs-long xs) (room .attrs-lent)
             (given .second-is ∙ ap (λ (o : Outcomes (Said Counts) ℕ ℕ). o .second) stored);
@@ -109,7 +115,7 @@ module _ (κs : Lfts 5) (a : Dens κs call.Kinds.ps) (z : resT call.Kinds.r κs 
       → WrittenAs (c .vendors) (c .settings .endian) (c .section) (rowsFrom (c .rows-then) 0 (n .rows)) (attrsFrom (c .attrs-then) 0 (n .attrs))
   read-was-written n small says off is-exact tags =
       let filled = answer-read (c .settings) (c .vendors) (c .sizes) (c .section) (c .rows) (c .attrs) n (sym (given .answer-is) ∙ says) in
-      let rows-are : rowsFrom (c .rows-then) 0 (n .rows) ≡ filled .rs =
+      let rows-are : rowsFrom (c .rows-then) 0 (n .rows) ≡ withUnits (filled .rs) =
       ap₂ (λ (t : List ℕ) (d : Counts). rowsFrom t 0 (d .rows)) (given .first-is) (filled .counted) ∙ filled .rows-held
       in
       let attrs-are : attrsFrom (c .attrs-then) 0 (n .attrs) ≡ filled .xs =
@@ -117,4 +123,4 @@ module _ (κs : Lfts 5) (a : Dens κs call.Kinds.ps) (z : resT call.Kinds.r κs 
       in
       rw (rows-are, attrs-are)
       (standard-written (c .vendors) (c .settings .roles .«global_ref») (c .settings .endian) erasedLimit (c .section) small
-      (sym (off-walk (c .settings) (c .vendors) (c .section) off) ∙ filled .whole) is-exact (rw rows-are at tags))
+      (sym (off-walk (c .settings) (c .vendors) (c .section) off) ∙ filled .whole) is-exact (bare-tags noUnit (filled .rs) (rw rows-are at tags)))

@@ -23,6 +23,7 @@ use Rattle.format.specs.Lookup.{isOn}
 use Rattle.format.specs.TagKind as tag
 use Rattle.format.specs.declared.refusal.Reason.the-variants as reason
 use Rattle.format.proofs.Laws.Computed.{allBelow, beyond}
+use Rattle.tables.specs.Unit.{noUnit}
 use Rattle.entries.specs.Source.{Source, source, mode}
 use Rattle.entries.specs.Head.{nullEnd, tagHead, sizeHead, headAt}
 use Rattle.entries.specs.Run.{readRun}
@@ -74,7 +75,7 @@ module _ (r : Source) (levels : ℕ) (e : Endian) (at a : ℕ) where
   Reads = λ answer. readEntry r false levels (mode false e) at a ≡ answer
 
   pub null-read : {place : ℕ} → headAt false (r .section) e at ≡ Null place
-      → Reads (gives (next (record { key = at; kind = paddingTag; flags = dataFlag e; first = a; count = 0 } ∷ []) [] place))
+      → Reads (gives (next (record { key = at; kind = paddingTag; flags = dataFlag e; first = a; count = 0; unit = noUnit } ∷ []) [] place))
   unfolding readEntry entryFrom
   null-read h = rw (h, data-flag e)
 
@@ -84,7 +85,7 @@ module _ (r : Source) (levels : ℕ) (e : Endian) (at a : ℕ) where
 
   pub ordinary-read : {kind end : ℕ} → headAt false (r .section) e at ≡ Ordinary kind end
       → Reads (placed at (readRun r e false end (suc (length (r .section))) false (at + 6)) >>= λ run.
-      gives (next (record { key = at; kind = kind; flags = dataFlag e; first = a; count = length (run .attrs) } ∷ []) (run .attrs) (run .stopped)))
+      gives (next (record { key = at; kind = kind; flags = dataFlag e; first = a; count = length (run .attrs); unit = noUnit } ∷ []) (run .attrs) (run .stopped)))
   unfolding readEntry entryFrom attributes
   ordinary-read h = rw (h, data-flag e)
 

@@ -20,6 +20,7 @@ use Rattle.format.specs.Said.{Said, gives, placed}
 use Rattle.format.specs.Lookup.{isOn}
 use Rattle.format.specs.TagKind as tag
 use Rattle.format.proofs.Laws.Said.{step-gave, given-is, given-refused}
+use Rattle.tables.specs.Unit.{noUnit, withUnits}
 use Rattle.tables.specs.declared.row.Row.{Row}
 use Rattle.tables.specs.declared.row.Attr.{Attr}
 use Rattle.entries.specs.Source.{source, mode}
@@ -79,7 +80,7 @@ module _ (vendors : List ℕ) (global : ℕ) (e : Endian) (s : List ℕ) (small 
         let gave = step-gave _ _ (sym as-read ∙ read) in
         let found = run-found vendors global e s small (at + valueOf e 4 s at) fits attributes (suc (length s)) (omega arith) (placed-gave at _ (gave .1)) in
         record {
-          row = record { key = at; kind = valueOf e 2 s (at + 4); flags = dataFlag e; first = a; count = length (gave .0 .attrs) };
+          row = record { key = at; kind = valueOf e 2 s (at + 4); flags = dataFlag e; first = a; count = length (gave .0 .attrs); unit = noUnit };
           xs = gave .0 .attrs;
           read = rw (found .1) at (read ∙ sym (gave .2));
           tag-is = refl;
@@ -135,7 +136,7 @@ module _ (vendors : List ℕ) (global : ℕ) (e : Endian) (s : List ℕ) (small 
 -- the theorem
 pub standard-written : (vendors : List ℕ) (global : ℕ) (e : Endian) (levels : ℕ) (s : List ℕ) → Bytes s → {rs : List Row} {xs : List Attr} {place : ℕ}
     → readTags (source vendors global s) false levels (mode false e) (length s) 0 0 ≡ gives (entries rs xs place) → Exact e s 0 → StandardTags rs
-    → WrittenAs vendors e s rs xs
+    → WrittenAs vendors e s (withUnits rs) xs
 standard-written vendors global e levels s small {rs} {xs} {place} read is-exact tags =
     let numbers : List ℕ = taken vendors in
     let walk : Walks (source vendors global s) levels = walks (source vendors global s) levels in
@@ -150,7 +151,7 @@ standard-written vendors global e levels s small {rs} {xs} {place} read is-exact
     record {
       dies = d .found;
       written = same;
-      rows = ap (λ (w : Entries). w .rows) all;
+      rows = ap (λ (w : Entries). withUnits (w .rows)) all;
       attributes = attributes;
       values = rw (same, attributes) at (standard-values numbers e (d .found));
     }

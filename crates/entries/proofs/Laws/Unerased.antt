@@ -22,6 +22,8 @@ use Rattle.format.specs.Said.{Said, gives, refuses, refuse, _>>=_}
 use Rattle.format.specs.declared.settings.Settings.{Settings}
 use Rattle.format.specs.declared.refusal.Reason.the-variants as reason
 use Rattle.tables.specs.Row.{erasedRow, rowAt, rowsFrom}
+use Rattle.tables.specs.Unit.{noUnit, unitOf, inUnit, unitsFrom, withUnits}
+use Rattle.tables.proofs.Laws.Unit.{units-length}
 use Rattle.tables.specs.declared.row.Row.{Row}
 use Rattle.tables.specs.declared.row.Attr.{Attr}
 use Rattle.tables.specs.declared.row.Counts.{Counts}
@@ -140,6 +142,11 @@ whole-plain settings vendors s off = rw off (walk-plain vendors (settings .roles
 
 -- ---- the theorem
 
+plain-in-units : (before : ℕ) (rs : List Row) → Plain rs → Plain (unitsFrom before rs)
+unfolding unitsFrom inUnit
+plain-in-units before [] p = tt
+plain-in-units before (r ∷ rs) p = (p .0, plain-in-units (unitOf before r) rs (p .1))
+
 plain-row : (t : List ℕ) (i : ℕ) (rs : List Row) → Plain rs → rowsFrom t i (length rs) ≡ rs → (j : ℕ) → j < length rs → erasedRow (rowAt t (i + j) .flags) ≡ false
 unfolding rowsFrom
 plain-row t i (r ∷ rs) p q zero h =
@@ -158,10 +165,11 @@ pub none-erased : (settings : Settings) (vendors sizes s rows attrs : List ℕ) 
 none-erased settings vendors sizes s rows attrs c off answers j h =
     let filled = answer-read settings vendors sizes s rows attrs c answers in
     let counted : c .rows ≡ length (filled .rs) = ap (λ (d : Counts). d .rows) (filled .counted) in
+    let many : length (withUnits (filled .rs)) ≡ length (filled .rs) = units-length noUnit (filled .rs) in
     let place : j ≡ 0 + j = omega arith in
     ap (λ (k : ℕ). erasedRow (rowAt (readDebugSection settings vendors sizes s rows attrs .first) k .flags)) place
-    ∙ plain-row (readDebugSection settings vendors sizes s rows attrs .first) 0 (filled .rs) (subst WalkPlain (filled .whole) (whole-plain settings vendors s off))
-    (filled .rows-held) j (omega arith)
+    ∙ plain-row (readDebugSection settings vendors sizes s rows attrs .first) 0 (withUnits (filled .rs))
+    (plain-in-units noUnit (filled .rs) (subst WalkPlain (filled .whole) (whole-plain settings vendors s off))) (rw many (filled .rows-held)) j (omega arith)
 
 -- ---- an answer passed the tests of settings and length
 

@@ -25,6 +25,7 @@ use Rattle.tables.specs.declared.row.Row.{Row}
 use Rattle.tables.specs.declared.row.Attr.{Attr}
 use Rattle.tables.specs.Holds.{fitting}
 use Rattle.tables.specs.Row.{rowsWords, attrsWords}
+use Rattle.tables.specs.Unit.{withUnits}
 use Rattle.entries.specs.Source.{Source, source, mode}
 use Rattle.entries.specs.Entry.{Entry, next, inside, readEntry}
 use Rattle.entries.specs.Walk.{Entries, entries, entriesThen, wholeEntry, entriesFrom, readTags}
@@ -128,14 +129,14 @@ module _ (settings : Settings) (vendors s : List ℕ) (formed : Formed vendors) 
 
   module _ (rows attrs : List ℕ) where
     filled-told : (b : Bool) (all : Entries)
-        → TellsByte settings vendors s (fillsRooms b (countsOf all) (length (all .rows) ∷ length (all .attrs) ∷ []) (rowsWords (all .rows)) (attrsWords (all .attrs)) rows attrs .answer)
+        → TellsByte settings vendors s (fillsRooms b (countsOf all) (length (all .rows) ∷ length (all .attrs) ∷ []) (rowsWords (withUnits (all .rows))) (attrsWords (all .attrs)) rows attrs .answer)
     unfolding fillsRooms numberOf
     filled-told true all = tt
     filled-told false all = refl
 
     roomed-told : (d : Said Entries) → WalkTold d
         → TellsByte settings vendors s (inRooms rows attrs d (λ all. fillsRooms (fitting (countsOf all) (length rows) (length attrs)) (countsOf all)
-        (length (all .rows) ∷ length (all .attrs) ∷ []) (rowsWords (all .rows)) (attrsWords (all .attrs)) rows attrs) .answer)
+        (length (all .rows) ∷ length (all .attrs) ∷ []) (rowsWords (withUnits (all .rows))) (attrsWords (all .attrs)) rows attrs) .answer)
     unfolding inRooms
     roomed-told (gives all) h = filled-told (fitting (countsOf all) (length rows) (length attrs)) all
     roomed-told (refuses n place []) h = inr (inr h)

@@ -11,7 +11,7 @@ read-whole-requires c κs = countable-short _ _ _ _ (countable _ _ _ _ (c .befor
 returns : tie.Need-returns
 unfolding saidSection
 returns c =
-    read-done _ _ _ _ _ _ (countable _ _ _ _ (c .before .before .before .before .before .before .before .before .before .before .before .before .count-debug-section .ensures) (c .before .before .before .before .before .before .before .before .before .before .counts .given .1)) (sym (c .before .before .before .before .before .before .before .before .fits-tables .ensures) ∙ c .before .before .before .before .before .before .before .if1 .taken) (c .before .before .before .before .read-whole .ensures)
+    read-done _ _ _ _ _ _ (countable _ _ _ _ (c .before .before .before .before .before .before .before .before .before .before .before .before .before .before .before .before .count-debug-section .ensures) (c .before .before .before .before .before .before .before .before .before .before .before .before .before .before .counts .given .1)) (sym (c .before .before .before .before .before .before .before .before .before .before .before .before .fits-tables .ensures) ∙ c .before .before .before .before .before .before .before .before .before .before .before .if1 .taken) (c .before .before .before .before .before .before .before .before .read-whole .ensures) (c .before .before .put-units .ensures)
 
 returns-2 : tie.Need-returns-2
 unfolding saidSection
@@ -33,6 +33,7 @@ read-debug-section-spec =
     (λ c. search needs)
     (λ c κs. search needs)
     read-whole-requires
+    (λ c κs. search needs)
     (λ c. search needs)
     (λ c. search needs)
     (λ c. search needs)
