@@ -4,7 +4,7 @@ use crate::{
     form::{Words, kind},
     known::{ATTRIBUTES, DEPTH, ROWS, tells_byte},
     plain::plain,
-    theirs::{Fault, asked, asked_of_copy, read, too_deep},
+    theirs::{Fault, asked, asked_of_copy, read, too_deep, unit_of},
     util::{
         dwarf::{
             AttributeKind, DwarfInfo, Producer, StructureMember, Tag, TagKind, UserDefinedType, Visibility,
@@ -92,7 +92,7 @@ fn record<T>(
     }
 }
 
-/// The answer to reading a section: rows, attributes and values; or a refusal with its place and byte; or the counts of what is over our limits. Comes to the
+/// The answer to reading a section: rows with their units, attributes and values; or a refusal with its place and byte; or the counts of what is over our limits. Comes to the
 /// section, or to the refusal's number.
 fn read_words(section: &[u8], settings: Settings, words: &mut Words) -> Result<DwarfInfo, u32> {
     let mut info = match read(section, settings.e, settings.erased) {
@@ -125,9 +125,8 @@ fn read_words(section: &[u8], settings: Settings, words: &mut Words) -> Result<D
         let flags = tag.is_erased as u32
             + 2 * tag.is_erased_root as u32
             + 4 * (tag.data_endian == Endian::Little) as u32;
-        [tag.key, u16::from(tag.kind) as u32, flags, tag.attributes.len() as u32]
-            .iter()
-            .for_each(|w| words.word(*w));
+        let (kind, unit) = (u16::from(tag.kind) as u32, unit_of(&info.tags, tag.key));
+        [tag.key, kind, flags, unit, tag.attributes.len() as u32].iter().for_each(|w| words.word(*w));
         tag.attributes.iter().for_each(|a| words.attribute(a));
     }
     Ok(info)

@@ -4,8 +4,8 @@ use crate::{
     util::{dwarf::AttributeKind, reader::Endian},
 };
 
-/// Words of a row (key, kind, flags, first attribute, number of attributes) and of an attribute (number, place of its value).
-pub const ROW: usize = 5;
+/// Words of a row (key, kind, flags, first attribute, number of attributes, key of its unit) and of an attribute (number, place of its value).
+pub const ROW: usize = 6;
 pub const ATTRIBUTE: usize = 2;
 
 unsafe extern "C" {

@@ -120,6 +120,7 @@ pub struct Maker {
     loose: bool,
 }
 
+const UNIT: u16 = 0x11;
 const GLOBAL_REF: u16 = AttributeKind::MwGlobalRef as u16;
 const HIGH_PC: u16 = AttributeKind::HighPc as u16;
 
@@ -150,8 +151,9 @@ impl Maker {
         self.attribute(w, data, None);
     }
 
+    /// Any tag; more often that of a unit.
     pub fn any_tag(&mut self) -> u16 {
-        self.rng.pick(&self.tags)
+        if self.rng.chance(8) { UNIT } else { self.rng.pick(&self.tags) }
     }
 
     /// Mostly the true size, else, in a loose section, a little less (the last attribute overruns) or more (what follows is taken in).
@@ -167,7 +169,7 @@ impl Maker {
     }
 
     fn ordinary(&mut self, w: &mut Writer, data: Endian) {
-        let tag = self.rng.pick(&self.tags);
+        let tag = self.any_tag();
         let size = self.size();
         // Now and then an entry whose low half is the number of MwGlobalRef.
         if self.rng.chance(1) {

@@ -3,7 +3,7 @@ use crate::{
     known::LEVELS,
     plain::ENDLESS,
     util::{
-        dwarf::{DwarfInfo, TagMap, read_debug_section},
+        dwarf::{DwarfInfo, TagKind, TagMap, read_debug_section},
         reader::{Endian, FromReader},
     },
 };
@@ -12,6 +12,15 @@ use std::{
     panic::{self, AssertUnwindSafe},
     sync::Mutex,
 };
+
+/// What stands for no unit.
+pub const NO_UNIT: u32 = u32::MAX;
+
+/// The unit of the entry that has a key, found as a caller of the Rust finds it: backwards from the entry.
+pub fn unit_of(tags: &TagMap, key: u32) -> u32 {
+    let units = tags.range(..=key).rev().filter(|(_, tag)| tag.kind == TagKind::CompileUnit);
+    units.map(|(key, _)| *key).next().unwrap_or(NO_UNIT)
+}
 
 /// A section that remembers where the innermost entry and the last field began.
 struct Traced<'a> {

@@ -25,7 +25,7 @@ mod settings;
 mod tests;
 
 pub use error::{Error, Needed};
-pub use section::{Attribute, Entry, Flags, Layout, Member, Place, Section, Structure, Value};
+pub use section::{Attribute, Entry, Flags, Layout, Member, Place, Section, Structure, Unit, Value};
 pub use settings::{Endian, Producer, Roles, Settings};
 
 /// The offset that a location block says: CONST n, ADD; any other block is refusal 17.

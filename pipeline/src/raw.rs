@@ -5,14 +5,17 @@ use crate::{Endian, Error, Needed, Producer, Settings};
 pub const ENTRY_LIMIT: usize = 4096;
 pub const ATTRIBUTE_LIMIT: usize = 32768;
 
-/// The words of a row (key, kind, flags, first attribute, number of attributes), of an attribute (number, place of its value), of a place in the tree (depth,
+/// The words of a row (key, kind, flags, first attribute, number of attributes, key of its unit), of an attribute (number, place of its value), of a place in the tree (depth,
 /// parent's row plus one), of a member in a layout (offset, size, place and length of its name), of a structure among all layouts (row, 0 or a refusal's number, size, the
 /// refusal's place, first member and how many, place and length of its name).
-pub const ROW_WIDTH: usize = 5;
+pub const ROW_WIDTH: usize = 6;
 pub const ATTR_WIDTH: usize = 2;
 pub const PLACE_WIDTH: usize = 2;
 pub const LAID_WIDTH: usize = 4;
 pub const STRUCTURE_WIDTH: usize = 8;
+
+/// What stands for no unit.
+pub const NO_UNIT: u32 = 0xffff_ffff;
 
 /// The bits of a row's flags.
 pub const ERASED: u32 = 1;

@@ -1,12 +1,16 @@
 //! A section that was read.
-use std::fmt;
+use std::{cmp::Ordering, fmt};
 
 use crate::{
     Endian, Error, Needed, Settings,
     raw::{self, Answer, Table},
 };
 
-/// Tags that the room for all layouts is counted by.
+/// The first attribute of this number names a unit.
+const NAME: u16 = 0x38;
+
+/// The tag of a unit, and those that the room for all layouts is counted by.
+const COMPILE_UNIT: u16 = 0x11;
 const CLASS_TYPE: u32 = 0x02;
 const MEMBER: u32 = 0x0d;
 const STRUCTURE_TYPE: u32 = 0x13;
@@ -22,16 +26,26 @@ pub struct Section {
     attr_count: usize,
 }
 
-/// An entry: the place where it begins, its tag, its flags.
+/// An entry: the place where it begins, its tag, its flags, the key of its unit.
 #[derive(Clone, Copy)]
 pub struct Entry<'a> {
     pub row: usize,
     pub key: u32,
     pub tag: u16,
     pub flags: Flags,
+    /// The nearest entry at or before this one that is a compile unit; none before the first.
+    pub unit: Option<u32>,
     section: &'a Section,
     first: usize,
     count: usize,
+}
+
+/// A compile unit: its row, its key and its name, the source file (empty if it has none).
+#[derive(Debug, Clone, Copy, PartialEq, Eq)]
+pub struct Unit<'a> {
+    pub row: usize,
+    pub key: u32,
+    pub name: &'a [u8],
 }
 
 /// Whether an entry is erased, is an erased root, and whether its data is little-endian.
@@ -86,11 +100,13 @@ pub struct Member<'a> {
     pub name: &'a [u8],
 }
 
-/// A structure or class among all layouts: its row, its name (empty if it has none), its layout or why it has none.
+/// A structure or class among all layouts: its row, its name (empty if it has none), its unit, its layout or why it has none. Two of one name are told apart
+/// by their units.
 #[derive(Debug, Clone, PartialEq, Eq)]
 pub struct Structure<'a> {
     pub row: usize,
     pub name: &'a [u8],
+    pub unit: Option<Unit<'a>>,
     pub layout: Result<Layout<'a>, Error>,
 }
 
@@ -136,17 +152,74 @@ impl Section {
     /// # Ok::<(), capbeacon::Error>(())
     /// ```
     pub fn entries(&self) -> impl Iterator<Item = Entry<'_>> {
-        let rows = self.rows.chunks_exact(raw::ROW_WIDTH).take(self.row_count).enumerate();
-        rows.filter_map(|(row, words)| {
-            let [key, kind, flags, first, count] = <[u32; raw::ROW_WIDTH]>::try_from(words).ok()?;
-            let flags = Flags {
-                erased: flags & raw::ERASED != 0,
-                erased_root: flags & raw::ERASED_ROOT != 0,
-                little: flags & raw::LITTLE != 0,
-            };
-            let (first, count) = (first as usize, count as usize);
-            Some(Entry { row, key, tag: kind as u16, flags, section: self, first, count })
-        })
+        (0..self.row_count).filter_map(|row| self.entry(row))
+    }
+
+    /// The compile units in file order, each with the name of its source file.
+    ///
+    /// ```
+    /// use capbeacon::{Endian, Section, Settings};
+    /// // A null entry, a compile unit with the name AB, and a null entry in it.
+    /// let bytes = [0, 0, 0, 4, 0, 0, 0, 11, 0, 0x11, 0, 0x38, b'A', b'B', 0, 0, 0, 0, 4];
+    /// let section = Section::read(bytes, Settings::none(Endian::Big))?;
+    /// assert_eq!(section.units().map(|unit| (unit.key, unit.name)).collect::<Vec<_>>(), [(4, &b"AB"[..])]);
+    /// assert_eq!(section.entries().map(|entry| entry.unit).collect::<Vec<_>>(), [None, Some(4), Some(4)]);
+    /// # Ok::<(), capbeacon::Error>(())
+    /// ```
+    pub fn units(&self) -> impl Iterator<Item = Unit<'_>> {
+        self.entries().filter(|entry| entry.tag == COMPILE_UNIT).map(|entry| entry.as_unit())
+    }
+
+    /// The unit of the entry that has a key: which source file it came from. None where it stands before the first unit; refusal 11 where no entry has
+    /// the key.
+    ///
+    /// ```
+    /// use capbeacon::{Endian, Section, Settings};
+    /// // A null entry, a compile unit with the name AB, and a null entry in it.
+    /// let bytes = [0, 0, 0, 4, 0, 0, 0, 11, 0, 0x11, 0, 0x38, b'A', b'B', 0, 0, 0, 0, 4];
+    /// let section = Section::read(bytes, Settings::none(Endian::Big))?;
+    /// assert_eq!(section.unit_of(0)?, None);
+    /// assert_eq!(section.unit_of(15)?.map(|unit| unit.name), Some(&b"AB"[..]));
+    /// assert_eq!(section.unit_of(5).unwrap_err().number, 11);
+    /// # Ok::<(), capbeacon::Error>(())
+    /// ```
+    pub fn unit_of(&self, key: u32) -> Result<Option<Unit<'_>>, Error> {
+        let missing = Error { number: 11, place: key.into(), needed: Needed::default(), byte: None };
+        let entry = self.entry_of(key).ok_or(missing)?;
+        Ok(self.unit_in(&entry))
+    }
+
+    /// The unit that an entry says it is in.
+    fn unit_in(&self, entry: &Entry<'_>) -> Option<Unit<'_>> {
+        Some(self.entry_of(entry.unit?)?.as_unit())
+    }
+
+    fn entry(&self, row: usize) -> Option<Entry<'_>> {
+        let words = self.rows.get(raw::ROW_WIDTH * row..)?.get(..raw::ROW_WIDTH)?;
+        let [key, kind, flags, first, count, unit] = <[u32; raw::ROW_WIDTH]>::try_from(words).ok()?;
+        let flags = Flags {
+            erased: flags & raw::ERASED != 0,
+            erased_root: flags & raw::ERASED_ROOT != 0,
+            little: flags & raw::LITTLE != 0,
+        };
+        let (first, count) = (first as usize, count as usize);
+        let unit = (unit != raw::NO_UNIT).then_some(unit);
+        Some(Entry { row, key, tag: kind as u16, flags, unit, section: self, first, count })
+    }
+
+    /// The entry that has a key; keys rise.
+    fn entry_of(&self, key: u32) -> Option<Entry<'_>> {
+        let (mut low, mut high) = (0, self.row_count);
+        while low < high {
+            let middle = low + (high - low) / 2;
+            let entry = self.entry(middle)?;
+            match entry.key.cmp(&key) {
+                Ordering::Less => low = middle + 1,
+                Ordering::Equal => return Some(entry),
+                Ordering::Greater => high = middle,
+            }
+        }
+        None
     }
 
     /// Depth and parent of every row, in file order; refused where references do not nest.
@@ -245,13 +318,14 @@ impl Section {
         let words = <[u64; raw::STRUCTURE_WIDTH]>::try_from(words).ok()?;
         let [row, number, size, place, first, count, at, length] = words;
         let (row, name) = (row as usize, part(&self.bytes, at as usize, length as usize)?);
+        let unit = self.unit_in(&self.entry(row)?);
         if number != 0 {
             let error = Error { number: number as u32, place, needed: Needed::default(), byte: None };
-            return Some(Structure { row, name, layout: Err(error) });
+            return Some(Structure { row, name, unit, layout: Err(error) });
         }
         let members = members.chunks_exact(raw::LAID_WIDTH).skip(first as usize).take(count as usize);
         let members = members.filter_map(|words| self.member(words)).collect();
-        Some(Structure { row, name, layout: Ok(Layout { row, size: size as u32, members }) })
+        Some(Structure { row, name, unit, layout: Ok(Layout { row, size: size as u32, members }) })
     }
 
     fn member(&self, words: &[u64]) -> Option<Member<'_>> {
@@ -269,14 +343,23 @@ impl Section {
 /// Without the section.
 impl fmt::Debug for Entry<'_> {
     fn fmt(&self, f: &mut fmt::Formatter<'_>) -> fmt::Result {
-        let Entry { row, key, tag, flags, .. } = self;
+        let Entry { row, key, tag, flags, unit, .. } = self;
         let mut entry = f.debug_struct("Entry");
-        entry.field("row", row).field("key", key).field("tag", tag).field("flags", flags);
+        entry.field("row", row).field("key", key).field("tag", tag).field("flags", flags).field("unit", unit);
         entry.finish_non_exhaustive()
     }
 }
 
 impl<'a> Entry<'a> {
+    /// An entry that is a unit, with its name.
+    fn as_unit(&self) -> Unit<'a> {
+        let name = match self.attributes().find(|attribute| attribute.number == NAME) {
+            Some(Attribute { value: Value::Text(name), .. }) => name,
+            _ => &[],
+        };
+        Unit { row: self.row, key: self.key, name }
+    }
+
     /// The entry's attributes in file order.
     pub fn attributes(&self) -> impl Iterator<Item = Attribute<'a>> + use<'a> {
         let Entry { section, flags, first, count, .. } = *self;

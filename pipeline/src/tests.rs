@@ -1,7 +1,7 @@
 //! What the safe functions cannot do: forged tables, and tables and rooms of any length.
 use crate::{
     Endian, Settings,
-    raw::{self, Answer, HELD, NO_BYTE, Table},
+    raw::{self, Answer, HELD, NO_BYTE, NO_UNIT, ROW_WIDTH, Table},
 };
 
 /// Document 01's input A, and its table.
@@ -10,7 +10,9 @@ const INPUT_A: [u8; 42] = [
     0x04, 0x00, 0x00, 0x00, 0x14, 0x00, 0x0d, 0x00, 0x55, 0x00, 0x07, 0x00, 0x23, 0x00, 0x06, 0x04, 0x00,
     0x00, 0x00, 0x00, 0x07, 0x00, 0x00, 0x00, 0x04,
 ];
-const ROWS: [u32; 15] = [0x00, 0x13, 0, 0, 2, 0x12, 0x0d, 0, 2, 2, 0x26, 0x00, 0, 4, 0];
+const WORDS: usize = 3 * ROW_WIDTH;
+const ROWS: [u32; WORDS] =
+    [0x00, 0x13, 0, 0, 2, NO_UNIT, 0x12, 0x0d, 0, 2, 2, NO_UNIT, 0x26, 0x00, 0, 4, 0, NO_UNIT];
 const ATTRS: [u32; 8] = [0x12, 0x08, 0xb6, 0x0e, 0x55, 0x1a, 0x23, 0x1e];
 
 /// What stands in a word that was not written.
@@ -64,10 +66,10 @@ fn unread(number: u32, place: u64, byte: u64) -> Answer {
 
 #[test]
 fn reading_fills_the_table() {
-    let (mut rows, mut attrs) = ([FILL; 16], [FILL; 9]);
+    let (mut rows, mut attrs) = ([FILL; WORDS + 1], [FILL; 9]);
     assert_eq!(raw::count(&INPUT_A, &settings()), given([3, 4, HELD]));
     assert_eq!(raw::read(&INPUT_A, &settings(), &mut rows, &mut attrs), given([3, 4, HELD]));
-    assert_eq!((&rows[..15], rows[15]), (&ROWS[..], FILL));
+    assert_eq!((&rows[..WORDS], rows[WORDS]), (&ROWS[..], FILL));
     assert_eq!((&attrs[..8], attrs[8]), (&ATTRS[..], FILL));
     assert_eq!(
         asked(&INPUT_A, table(&rows, &attrs, 3, 4)),
@@ -77,7 +79,7 @@ fn reading_fills_the_table() {
 
 #[test]
 fn tables_too_small() {
-    for (row_words, attr_words) in [(14, 8), (15, 7), (0, 0), (0, 100), (100, 0)] {
+    for (row_words, attr_words) in [(WORDS - 1, 8), (WORDS, 7), (0, 0), (0, 100), (100, 0)] {
         let (mut rows, mut attrs) = (vec![FILL; row_words], vec![FILL; attr_words]);
         let answer = raw::read(&INPUT_A, &settings(), &mut rows, &mut attrs);
         assert_eq!(answer, wanting([3, 4, HELD]));
@@ -104,7 +106,7 @@ fn rooms_too_small() {
 
 #[test]
 fn refusals_leave_results_alone() {
-    let (mut rows, mut attrs) = ([FILL; 16], [FILL; 9]);
+    let (mut rows, mut attrs) = ([FILL; WORDS], [FILL; 9]);
     let mut read = |bytes: &[u8], settings: &Settings| {
         let answer = raw::read(bytes, settings, &mut rows, &mut attrs);
         assert_eq!(raw::count(bytes, settings), answer);
@@ -115,7 +117,7 @@ fn refusals_leave_results_alone() {
     assert_eq!(read(&[0, 0, 0, 8, 0, 0x14, 0, 0x39], &settings()), unread(6, 0, 6));
     let broken = Settings { vendors: vec![0x2000], ..settings() };
     assert_eq!(read(&INPUT_A[..0x16], &broken), refused(1, 0));
-    assert_eq!((rows, attrs), ([FILL; 16], [FILL; 9]));
+    assert_eq!((rows, attrs), ([FILL; WORDS], [FILL; 9]));
     assert_eq!(raw::offset(&INPUT_A[32..37], Endian::Big), refused(17, 0));
     assert_eq!(raw::offset(&INPUT_A[32..38], Endian::Big), given([0, HELD, HELD]));
 }
@@ -127,13 +129,26 @@ fn forged_tables() {
     for (row_count, attr_count) in [(4, 4), (3, 5), (u64::MAX, 4), (3, u64::MAX), (4097, 4), (3, 32769)] {
         assert_eq!(asked(&INPUT_A, table(&ROWS, &ATTRS, row_count, attr_count)), refusals);
     }
-    // a key, a kind, flags, a run, that cannot be
-    for (at, word) in
-        [(5, 3), (5, 0x26), (10, 42), (1, 0x08), (2, 8), (3, 1), (4, 1), (9, 3), (14, 1), (4, u32::MAX)]
-    {
+    // of a row a key, a kind, flags, a run, a unit, that cannot be
+    for (row, at, word) in [
+        (1, 0, 3),
+        (1, 0, 0x26),
+        (2, 0, 42),
+        (0, 1, 0x08),
+        (0, 1, 0x11),
+        (0, 2, 8),
+        (0, 3, 1),
+        (0, 4, 1),
+        (1, 4, 3),
+        (2, 4, 1),
+        (0, 4, u32::MAX),
+        (0, 5, 0),
+        (1, 5, 0x12),
+        (2, 5, u32::MAX - 1),
+    ] {
         let mut rows = ROWS;
-        rows[at] = word;
-        assert_eq!(asked(&INPUT_A, table(&rows, &ATTRS, 3, 4)), refusals, "row word {at} {word}");
+        rows[row * ROW_WIDTH + at] = word;
+        assert_eq!(asked(&INPUT_A, table(&rows, &ATTRS, 3, 4)), refusals, "row {row} word {at} {word}");
     }
     // an attribute number that is unknown, a value that is not wholly inside
     for (at, word) in [(0, 0x10012), (0, 0x22), (1, 39), (1, 42), (1, u32::MAX), (7, 0x24)] {
@@ -143,6 +158,31 @@ fn forged_tables() {
     }
     // the table of another section
     assert_eq!(asked(&INPUT_A[..30], table(&ROWS, &ATTRS, 3, 4)), refusals);
+}
+
+#[test]
+fn each_row_has_its_unit() {
+    // Null entries before, in and between two units without attributes that count.
+    let unit = [0, 0, 0, 9, 0, 0x11, 0, 0x38, 0];
+    let null = [0, 0, 0, 4];
+    let bytes = [&null[..], &unit, &null, &null, &unit, &null].concat();
+    let (mut rows, mut attrs) = ([FILL; 6 * ROW_WIDTH], [FILL; 4]);
+    assert_eq!(raw::read(&bytes, &settings(), &mut rows, &mut attrs), given([6, 2, HELD]));
+    let units = [NO_UNIT, 4, 4, 4, 21, 21];
+    let told = |rows: &[u32]| rows.chunks_exact(ROW_WIDTH).map(|words| words[5]).collect::<Vec<_>>();
+    assert_eq!(told(&rows), units);
+    assert_eq!(asked(&bytes, table(&rows, &attrs, 6, 2))[0], given([6, HELD, HELD]));
+    // Of each row: the mark, the first unit, the second, the row's own key, that of the row before.
+    for (row, own) in units.into_iter().enumerate() {
+        let before = if row == 0 { 1 } else { rows[(row - 1) * ROW_WIDTH] };
+        for forged in [NO_UNIT, 4, 21, rows[row * ROW_WIDTH], before] {
+            let mut forgery = rows;
+            forgery[row * ROW_WIDTH + 5] = forged;
+            let answer = asked(&bytes, table(&forgery, &attrs, 6, 2))[0];
+            let holds = if forged == own { given([6, HELD, HELD]) } else { refused(3, 0) };
+            assert_eq!(answer, holds, "row {row}, unit {forged}");
+        }
+    }
 }
 
 #[test]
@@ -166,7 +206,7 @@ fn any_words_are_answered() {
     for _ in 0..20_000 {
         let (mut rows, mut attrs) = (ROWS, ATTRS);
         for _ in 0..=next(3) {
-            rows[next(15) as usize] = next(60);
+            rows[next(WORDS as u32) as usize] = next(60);
             attrs[next(8) as usize] = next(60);
         }
         let (row_count, attr_count) = (next(5) as u64, next(6) as u64);

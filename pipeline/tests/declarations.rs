@@ -63,10 +63,14 @@ fn functions_are_those_of_the_archive() {
     assert_eq!(ours, theirs);
 }
 
-/// The number of `pub const NAME: TYPE = NUMBER;`.
+/// The number of `pub const NAME: TYPE = NUMBER;`, decimal or hexadecimal.
 fn constant(text: &str, name: &str) -> usize {
     let (_, rest) = text.split_once(&format!("pub const {name}: ")).unwrap_or_else(|| panic!("no {name}"));
-    rest.split_once("= ").unwrap().1.split_once(';').unwrap().0.parse().unwrap()
+    let number = rest.split_once("= ").unwrap().1.split_once(';').unwrap().0.replace('_', "");
+    match number.strip_prefix("0x") {
+        Some(hex) => usize::from_str_radix(hex, 16).unwrap(),
+        None => number.parse().unwrap(),
+    }
 }
 
 #[test]
@@ -74,6 +78,7 @@ fn numbers_are_those_of_the_archive() {
     let ours = text(below("src/raw.rs"));
     for (file, names) in [
         ("tables/src/row.rt", &["ROW_WIDTH", "ATTR_WIDTH", "ERASED", "ERASED_ROOT", "LITTLE"][..]),
+        ("tables/src/unit.rt", &["NO_UNIT"]),
         ("tree/src/listing.rt", &["PLACE_WIDTH"]),
         ("layout/src/one.rt", &["LAID_WIDTH"]),
         ("layout/src/all.rt", &["STRUCTURE_WIDTH"]),

@@ -104,7 +104,8 @@ fn row(body: &[u8], c: Cursor, s: &[u8], e: Endian, attrs: &[u32], row: Row) -> 
     let key = word(body, c, row.key);
     let kind = word(body, key, row.kind);
     let flags = word(body, kind, row.flags);
-    let run = word(body, flags, row.count);
+    let unit = word(body, flags, row.unit);
+    let run = word(body, unit, row.count);
     attributes(body, run, s, attrs, row, ends_by(e, row.flags))
 }
 

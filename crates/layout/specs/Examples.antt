@@ -1,11 +1,13 @@
 -- Document 01's input A, computed from its bytes and the table that reading fills: the size and the layout of its structure.
 use Prim.Native.Nat.{ℕ}
 use mathlib.Core.List.{List, [], _∷_}
+use Rattle.tables.specs.Unit.{noUnit}
 use Rattle.tables.specs.declared.row.Counts.{Counts}
 
--- its rows and its attributes as the words of a table
+-- its rows, in no unit, and its attributes as the words of a table
 abbrev pub rowsA : List ℕ
-rowsA = 0x00 ∷ 0x13 ∷ 0 ∷ 0 ∷ 2 ∷ 0x12 ∷ 0x0D ∷ 0 ∷ 2 ∷ 2 ∷ 0x26 ∷ 0 ∷ 0 ∷ 4 ∷ 0 ∷ []
+rowsA =
+    0x00 ∷ 0x13 ∷ 0 ∷ 0 ∷ 2 ∷ noUnit ∷ 0x12 ∷ 0x0D ∷ 0 ∷ 2 ∷ 2 ∷ noUnit ∷ 0x26 ∷ 0 ∷ 0 ∷ 4 ∷ 0 ∷ noUnit ∷ []
 
 -- its attributes
 abbrev pub attrsA : List ℕ

@@ -1,12 +1,13 @@
 // What the program prints. For a section that is read and each of its structures and classes, in file order:
 //
 //     00000012 structure Crane
+//       unit 00000000 crane.cp
 //       size 24
 //       member 0 4 height
 //       hole 4 4
 //       member 8 16 load
 //
-// or `refused N at KEY` in place of the size. Numbers are decimal but for keys; `member`, `hole` and `padding` are followed by offset and size in bytes. Where
+// or `refused N at KEY` in place of the size. A unit is told by its key and its name, the source file; `unit -` where there is none. Numbers are decimal but for keys; `member`, `hole` and `padding` are followed by offset and size in bytes. Where
 // a base or another child that is no member may take bytes, a stretch without members is `no member`. A structure without ByteSize has `largest end` in place
 // of `size`, or is `declared only` where it has no children either. A section that is refused has one line alone, `refused N at KEY`; where a field could not be
 // read or was not known ` byte PLACE` follows, its first byte, written as keys are.
@@ -31,9 +32,12 @@ use crate::words::Placed;
 use crate::words::Structure;
 use crate::words::placed_at;
 use crate::words::structure_at;
+use attributes::decode::Extent;
+use attributes::decode::part;
 use entries::section::Section;
 use entries::section::read_debug_section;
 use format::attribute_kind::BYTE_SIZE;
+use format::attribute_kind::NAME;
 use format::limits::ATTRIBUTE_LIMIT;
 use format::limits::ENTRY_LIMIT;
 use format::presets::mw_vendors;
@@ -49,21 +53,14 @@ use layout::one::LAID_WIDTH;
 use lent::cells::cell;
 use links::children::ChildRows;
 use links::children::children;
+use links::typed::PartPlace;
 use links::typed::Value;
 use links::typed::data4_attribute;
+use links::typed::string_place;
 use tables::row::Counts;
+use tables::row::Row;
 use tables::row::row_at;
-
-// So many bytes of the section, if they are there.
-fn part(s: &[u8], place: u32, n: u32) -> &[u8] {
-    let from = place as usize;
-    let end = from + n as usize;
-    if end <= s.len() {
-        &s[from..end]
-    } else {
-        &s[..0]
-    }
-}
+use tables::unit::NO_UNIT;
 
 // 'refused N at KEY'
 fn put_refused(buffer: &mut [u8], used: usize, number: u64, place: u64) -> usize {
@@ -167,7 +164,7 @@ fn put_gap(buffer: &mut [u8], used: usize, text: &[u8], gap: Gap) -> usize {
 
 // 'member OFFSET SIZE NAME'
 fn put_member(s: &[u8], member: Placed, buffer: &mut [u8], used: usize) -> usize {
-    let name = part(s, member.name_place, member.name_length);
+    let name = part(s, member.name_place as usize, member.name_length as usize);
     let end = put_place(
         buffer,
         used,
@@ -350,27 +347,99 @@ fn is_number(value: Value) -> bool {
     }
 }
 
-// Its head, then its layout, or why it has none.
+// A unit, and where its name lies in the section; it is empty where it has none.
+struct Unit {
+    key: u32,
+    name: Extent,
+}
+
+// The unit of that key: the last one, or it is looked up.
+fn unit_named(
+    s: &[u8],
+    preset: Preset,
+    rows: &[u32],
+    attrs: &[u32],
+    counts: Counts,
+    key: u32,
+    last: Unit,
+) -> Unit {
+    if key == last.key {
+        return last;
+    }
+    let vendors = mw_vendors();
+    let sizes = rust_sizes(0);
+    let list = part_of(&vendors, preset.vendors);
+    match string_place(
+        s,
+        preset.settings,
+        list,
+        &sizes,
+        rows,
+        attrs,
+        counts,
+        key,
+        NAME,
+    ) {
+        PartPlace::At(name) => Unit { key, name },
+        _ => Unit {
+            key,
+            name: Extent {
+                place: 0,
+                length: 0,
+            },
+        },
+    }
+}
+
+// 'unit KEY NAME', or 'unit -' for none.
+fn put_unit(s: &[u8], unit: Unit, buffer: &mut [u8], used: usize) -> usize {
+    let end = put_text(buffer, used, b"  unit ");
+    if unit.key == NO_UNIT {
+        return put_text(buffer, end, b"-\n");
+    }
+    let end = put_hex(buffer, end, unit.key as u64, 8);
+    let name = unit.name;
+    let end = put_name(buffer, end, part(s, name.place, name.length));
+    put_text(buffer, end, b"\n")
+}
+
+// Its head and its unit.
+fn put_title(
+    s: &[u8],
+    row: Row,
+    structure: Structure,
+    unit: Unit,
+    buffer: &mut [u8],
+    used: usize,
+) -> usize {
+    let name = part(
+        s,
+        structure.name_place as usize,
+        structure.name_length as usize,
+    );
+    let end = put_head(buffer, used, row.key, row.kind, name);
+    put_unit(s, unit, buffer, end)
+}
+
+// Its layout, or why it has none.
 fn put_structure(
     s: &[u8],
     preset: Preset,
     rows: &[u32],
     attrs: &[u32],
     counts: Counts,
+    key: u32,
     structure: Structure,
     members: &[u64],
     room: &mut [u32],
     buffer: &mut [u8],
     used: usize,
 ) -> usize {
-    let row = row_at(rows, structure.row as usize);
-    let name = part(s, structure.name_place, structure.name_length);
-    let end = put_head(buffer, used, row.key, row.kind, name);
     if structure.number == 0 {
-        let around = look_around(s, preset, rows, attrs, counts, row.key, room);
-        return put_layout(s, structure, around, members, buffer, end);
+        let around = look_around(s, preset, rows, attrs, counts, key, room);
+        return put_layout(s, structure, around, members, buffer, used);
     }
-    let end = put_text(buffer, end, b"  ");
+    let end = put_text(buffer, used, b"  ");
     put_refusal(buffer, end, structure.number as u64, structure.place)
 }
 
@@ -387,16 +456,27 @@ fn report_structures(
 ) {
     let mut buffer = [0u8; 4096];
     let mut room = child_room();
+    let mut unit = Unit {
+        key: NO_UNIT,
+        name: Extent {
+            place: 0,
+            length: 0,
+        },
+    };
     let mut used = 0;
     let mut k: u32 = 0;
     while k < n {
         let structure = structure_at(structures, k);
+        let row = row_at(rows, structure.row as usize);
+        unit = unit_named(s, preset, rows, attrs, counts, row.unit, unit);
+        used = put_title(s, row, structure, unit, &mut buffer, used);
         used = put_structure(
             s,
             preset,
             rows,
             attrs,
             counts,
+            row.key,
             structure,
             members,
             &mut room,

@@ -1,7 +1,14 @@
 // Room for what is read. A contract says the length alone. Only the longest section needs a function for that: written where it is lent, its bytes would
 // stand in the callers' proofs. The other rooms are here so that all sizes stand in one place.
+use format::limits::ATTRIBUTE_LIMIT;
+use format::limits::ENTRY_LIMIT;
+use tables::row::ATTR_WIDTH;
+use tables::row::ROW_WIDTH;
+ghost use Prim.Native.Nat.{_*_};
 ghost use mathlib.Core.Path.{_≡_};
 ghost use lib.ListN.{length};
+ghost use Rattle.format.specs.Limits.{entryLimit, attributeLimit};
+ghost use Rattle.tables.specs.Row.{rowWidth, attrWidth};
 
 // The longest section.
 pub fn section_room() -> [u8; 1048576]
@@ -11,17 +18,17 @@ pub fn section_room() -> [u8; 1048576]
 }
 
 // 4,096 rows.
-pub fn row_room() -> [u32; 20480]
-    ensures { λ r. ⌜ 20480 ≡ length r ⌝ }
+pub fn row_room() -> [u32; ENTRY_LIMIT * ROW_WIDTH]
+    ensures { λ r. ⌜ entryLimit * rowWidth ≡ length r ⌝ }
 {
-    [0; 20480]
+    [0; ENTRY_LIMIT * ROW_WIDTH]
 }
 
 // 32,768 attributes.
-pub fn attribute_room() -> [u32; 65536]
-    ensures { λ r. ⌜ 65536 ≡ length r ⌝ }
+pub fn attribute_room() -> [u32; ATTRIBUTE_LIMIT * ATTR_WIDTH]
+    ensures { λ r. ⌜ attributeLimit * attrWidth ≡ length r ⌝ }
 {
-    [0; 65536]
+    [0; ATTRIBUTE_LIMIT * ATTR_WIDTH]
 }
 
 // 4,096 structures.

@@ -1,9 +1,10 @@
 -- What the listing program prints for a section: document 01, 'Modules, leaves first'.
-use Prim.Native.Nat.{ℕ}
+use Prim.Native.Nat.{ℕ, _*_}
 use mathlib.Core.Bool.{Bool, false, cond}
 use mathlib.Core.List.{List, []}
 use lib.ListN.{replicate}
 use Rattle.tables.specs.Table.{table}
+use Rattle.tables.specs.Row.{rowWidth, attrWidth}
 use Rattle.lent.specs.Outcome.{Outcome, Outcomes}
 use Rattle.numbers.specs.declared.Endian.the-variants.{Big}
 use Rattle.format.specs.Refusal.{numberOf}
@@ -13,7 +14,7 @@ use Rattle.format.specs.declared.settings.Settings.{Settings}
 use Rattle.format.specs.declared.settings.Producer.the-variants.{Other}
 use Rattle.entries.specs.Section.{readDebugSection}
 use Rattle.tables.specs.declared.row.Counts.{Counts}
-use Rattle.tree.specs.Tree.{listTree}
+use Rattle.tree.specs.Tree.{placeWidth, listTree}
 use Rattle.listing.specs.Text.{refusalText, listingText}
 
 -- big-endian, erased entries out, no vendor numbers
@@ -27,15 +28,15 @@ listingSizes = replicate 28 4
 
 -- room for 1,024 rows and 4,096 attributes
 unfoldable pub rowRoom : List ℕ
-rowRoom = replicate 5120 0
+rowRoom = replicate (1024 * rowWidth) 0
 
 -- and for attributes
 unfoldable pub attrRoom : List ℕ
-attrRoom = replicate 8192 0
+attrRoom = replicate (4096 * attrWidth) 0
 
 -- and for their places in the tree
 unfoldable pub placeRoom : List ℕ
-placeRoom = replicate 2048 0
+placeRoom = replicate (1024 * placeWidth) 0
 
 -- a section read into lent tables
 abbrev pub listingRead : List ℕ → List ℕ → List ℕ → Outcomes (Said Counts) ℕ ℕ

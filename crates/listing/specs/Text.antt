@@ -1,10 +1,13 @@
--- The listing's text, as bytes: document 01, 'Modules, leaves first'.
+-- The listing's text, as bytes: document 01, 'Modules, leaves first'; a row's last column, its unit: document 02, K7.
 use Prim.Native.Nat.{ℕ, zero, suc, _*_, _≤_}
+use mathlib.Core.Bool.{cond}
 use mathlib.Core.List.{List, [], _∷_, _++_}
 use lib.ListN.{getD}
+use lib.Dec.{eqb}
 use Rattle.digits.specs.Digits.{hexText, decimalText}
 use Rattle.digits.specs.Put.{Put}
 use Rattle.tables.specs.Row.{rowAt}
+use Rattle.tables.specs.Unit.{noUnit}
 
 -- ' ', and the end of a line
 abbrev pub space : List ℕ
@@ -28,7 +31,7 @@ atWord = 32 ∷ 97 ∷ 116 ∷ 32 ∷ []
 
 -- no line is longer
 abbrev pub lineLimit : ℕ
-lineLimit = 32
+lineLimit = 34
 
 -- the header and 1,024 rows are no longer than this
 abbrev pub pageLimit : ℕ
@@ -38,9 +41,14 @@ pageLimit = 1025 * lineLimit
 unfoldable pub headerText : ℕ → List ℕ
 headerText n = rowsWord ++ decimalText n ++ newline
 
--- 'KEY DEPTH TAG'
-unfoldable pub rowText : ℕ → ℕ → ℕ → List ℕ
-rowText key depth kind = hexText 8 key ++ space ++ decimalText depth ++ space ++ hexText 4 kind ++ newline
+-- eight hex digits; '-' where there is no unit
+unfoldable pub unitText : ℕ → List ℕ
+unitText unit = cond (eqb unit noUnit) (45 ∷ []) (hexText 8 unit)
+
+-- 'KEY DEPTH TAG UNIT'
+unfoldable pub rowText : ℕ → ℕ → ℕ → ℕ → List ℕ
+rowText key depth kind unit =
+    hexText 8 key ++ space ++ decimalText depth ++ space ++ hexText 4 kind ++ space ++ unitText unit ++ newline
 
 -- 'refused N at KEY'
 unfoldable pub refusalText : ℕ → ℕ → List ℕ
@@ -49,7 +57,8 @@ refusalText number place = refusedWord ++ decimalText number ++ atWord ++ hexTex
 -- the lines of n rows of a table from row i on; `room` has two words for each row, and the first of them is its depth
 unfoldable pub rowsText : List ℕ → List ℕ → ℕ → ℕ → List ℕ
 rowsText rows room i zero = []
-rowsText rows room i (suc n) = rowText (rowAt rows i .key) (getD room (2 * i) 0) (rowAt rows i .kind) ++ rowsText rows room (suc i) n
+rowsText rows room i (suc n) =
+    rowText (rowAt rows i .key) (getD room (2 * i) 0) (rowAt rows i .kind) (rowAt rows i .unit) ++ rowsText rows room (suc i) n
 
 -- the listing of n rows: the header and their lines
 abbrev pub listingText : List ℕ → List ℕ → ℕ → List ℕ

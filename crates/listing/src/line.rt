@@ -2,11 +2,12 @@
 use digits::decimal::write_decimal;
 use digits::hex::write_hex;
 use digits::text::write_text;
+use tables::unit::NO_UNIT;
 ghost use mathlib.Core.Path.{_≡_};
 ghost use Prim.Native.Nat.{_+_, _^_, _<_, min};
 ghost use lib.ListN.{length};
 ghost use Rattle.digits.specs.Digits.{hexText, decimalText};
-ghost use Rattle.listing.specs.Text.{lineLimit, headerText, rowText, refusalText};
+ghost use Rattle.listing.specs.Text.{lineLimit, headerText, unitText, rowText, refusalText};
 ghost use Rattle.digits.specs.Put.{Put};
 
 // Where the rest of a line of so many bytes begins.
@@ -50,16 +51,30 @@ pub fn write_header(line: &mut [u8], at: usize, n: usize) -> usize
     put_text(line, end, b"\n")
 }
 
-// 'KEY DEPTH TAG'
-pub fn write_row(line: &mut [u8], at: usize, key: u32, depth: u32, kind: u32) -> usize
+// A unit, '-' where there is none.
+fn put_unit(line: &mut [u8], at: usize, unit: u32) -> usize
+    requires { ⌜ at + 8 < 2 ^ 64 ⌝ }
+    ensures { λ r. ⌜ Put (unitText unit) at r (now (line .entry)) (now (line .exit)) ⌝ }
+{
+    if unit == NO_UNIT {
+        put_text(line, at, b"-")
+    } else {
+        put_hex(line, at, 8, unit as u64)
+    }
+}
+
+// 'KEY DEPTH TAG UNIT'
+pub fn write_row(line: &mut [u8], at: usize, key: u32, depth: u32, kind: u32, unit: u32) -> usize
     requires { ⌜ at + lineLimit < 2 ^ 64 ⌝ }
-    ensures { λ r. ⌜ Put (rowText key depth kind) at r (now (line .entry)) (now (line .exit)) ⌝ }
+    ensures { λ r. ⌜ Put (rowText key depth kind unit) at r (now (line .entry)) (now (line .exit)) ⌝ }
 {
     let key_end = put_hex(line, at, 8, key as u64);
     let second = put_text(line, key_end, b" ");
     let depth_end = put_decimal(line, second, depth as u64);
     let third = put_text(line, depth_end, b" ");
-    let end = put_hex(line, third, 4, kind as u64);
+    let kind_end = put_hex(line, third, 4, kind as u64);
+    let fourth = put_text(line, kind_end, b" ");
+    let end = put_unit(line, fourth, unit);
     put_text(line, end, b"\n")
 }
 

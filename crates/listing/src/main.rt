@@ -23,7 +23,7 @@ fn main() {
     let mut section = [0u8; 65536];
     let n = io::read_full(STDIN_FILENO, &mut section);
     let longer = is_longer(n, &section);
-    let mut page = [0u8; 32800];
+    let mut page = [0u8; page::PAGE_LIMIT];
     let end = report::report_input(&section[..n], longer, &mut page);
     io::write_all(STDOUT_FILENO, &page[..end]);
 }

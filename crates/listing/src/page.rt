@@ -8,6 +8,9 @@ ghost use Rattle.listing.specs.Text.{lineLimit, rowsText, listingText};
 ghost use Rattle.digits.specs.Put.{Put};
 ghost use Rattle.listing.specs.Text.{Printed};
 
+// No line is longer than 34 bytes, and no more than the header and 1,024 rows are listed.
+pub const PAGE_LIMIT: usize = 1025 * 34;
+
 // The lines of the table's n rows into the page from a place on; `room` has a row's depth and its parent. Answers the place after them.
 pub fn write_rows(rows: &[u32], room: &[u32], n: usize, page: &mut [u8], at: usize) -> usize
     requires { ⌜ at + suc n * lineLimit < 2 ^ 64 ⌝ }
@@ -20,7 +23,7 @@ pub fn write_rows(rows: &[u32], room: &[u32], n: usize, page: &mut [u8], at: usi
     while i < n {
         let row = row_at(rows, i);
         let depth = cell(room, 2 * i);
-        next = write_row(page, next, row.key, depth, row.kind);
+        next = write_row(page, next, row.key, depth, row.kind, row.unit);
         i += 1;
     }
     next

@@ -10,8 +10,11 @@ use format::settings::Producer;
 use format::settings::Roles;
 use format::settings::Settings;
 use numbers::Endian;
+use tables::row::ATTR_WIDTH;
 use tables::row::Counts;
+use tables::row::ROW_WIDTH;
 use tree::listing::Listing;
+use tree::listing::PLACE_WIDTH;
 use tree::listing::list_tree;
 ghost use mathlib.Core.Path.{_≡_};
 ghost use Prim.Native.Nat.{_≤_};
@@ -130,7 +133,7 @@ fn report_tree(
         Printed (treeText (now (section .entry)) (now (rows .entry)) (now (attrs .entry)) counts) r (now (page .entry)) (now (page .exit))
         ⌝ }
 {
-    let mut room = [0u32; 2048];
+    let mut room = [0u32; 1024 * PLACE_WIDTH];
     let answer = read_places(section, rows, attrs, counts, &mut room);
     report_places(answer, rows, &room, page)
 }
@@ -158,12 +161,12 @@ fn report_answer(
     }
 }
 
-// A section's lines, with room for 1,024 rows of 5 words and 4,096 attributes of 2.
+// A section's lines, with room for 1,024 rows and 4,096 attributes.
 pub fn report(section: &[u8], page: &mut [u8]) -> usize
     ensures { λ r. ⌜ Printed (reportText (now (section .entry))) r (now (page .entry)) (now (page .exit)) ⌝ }
 {
-    let mut rows = [0u32; 5120];
-    let mut attrs = [0u32; 8192];
+    let mut rows = [0u32; 1024 * ROW_WIDTH];
+    let mut attrs = [0u32; 4096 * ATTR_WIDTH];
     let answer = read_tables(section, &mut rows, &mut attrs);
     report_answer(answer, section, &rows, &attrs, page)
 }

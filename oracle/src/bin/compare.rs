@@ -5,7 +5,7 @@ use oracle::{
     known::{ATTRIBUTES, LEVELS, ROWS, tells_byte},
     ours::{ATTRIBUTE, Answer, NO_BYTE, ROW, Reader},
     sections::{Maker, Writer},
-    theirs::{read as rust, too_deep},
+    theirs::{read as rust, too_deep, unit_of},
     util::{
         dwarf::{AttributeValue, DwarfInfo, Tag},
         reader::{Endian, FromReader},
@@ -62,12 +62,21 @@ struct Compare {
 
 impl Compare {
     /// One row against one tag.
-    fn same_row(&self, section: &[u8], e: Endian, i: usize, first: usize, tag: &Tag) -> Result<(), String> {
+    fn same_row(
+        &self,
+        section: &[u8],
+        e: Endian,
+        i: usize,
+        first: usize,
+        tag: &Tag,
+        unit: u32,
+    ) -> Result<(), String> {
         let row = &self.ours.rows[i * ROW..(i + 1) * ROW];
         let flags = tag.is_erased as u32
             + 2 * tag.is_erased_root as u32
             + 4 * (tag.data_endian == Endian::Little) as u32;
-        let wanted = [tag.key, u16::from(tag.kind) as u32, flags, first as u32, tag.attributes.len() as u32];
+        let kind = u16::from(tag.kind) as u32;
+        let wanted = [tag.key, kind, flags, first as u32, tag.attributes.len() as u32, unit];
         if row != wanted {
             return Err(format!("row {i}: the Rust has {wanted:x?}, ours {row:x?}"));
         }
@@ -155,7 +164,7 @@ impl Compare {
         }
         let mut first = 0;
         for (i, tag) in info.tags.values().enumerate() {
-            self.same_row(section, e, i, first, tag)?;
+            self.same_row(section, e, i, first, tag, unit_of(&info.tags, tag.key))?;
             first += tag.attributes.len();
         }
         Ok(Agreed::Read { rows: ours.rows, attrs: ours.attrs })

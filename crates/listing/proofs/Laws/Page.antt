@@ -28,7 +28,7 @@ module _ (rows room : List ℕ) (n at : ℕ) (page₀ : List ℕ) where
       record { inside = omega arith; same = refl; near = omega arith; rest = λ q c f. rw all at f }
 
   rows-one : (i : ℕ) → i < n
-      → rowsText rows room i (n - i) ≡ rowText (rowAt rows i .key) (getD room (2 * i) 0) (rowAt rows i .kind) ++ rowsText rows room (i + 1) (n - (i + 1))
+      → rowsText rows room i (n - i) ≡ rowText (rowAt rows i .key) (getD room (2 * i) 0) (rowAt rows i .kind) (rowAt rows i .unit) ++ rowsText rows room (i + 1) (n - (i + 1))
   unfolding rowsText
   rows-one i h =
       let e : n - i ≡ suc (n - (i + 1)) = omega arith in
@@ -36,12 +36,12 @@ module _ (rows room : List ℕ) (n at : ℕ) (page₀ : List ℕ) where
 
   -- one row more
   pub rows-again : {page p : List ℕ} {next r i : ℕ} (row : Row) (depth : ℕ) → RowsLeft page next i → i < n → row ≡ rowAt rows i → depth ≡ getD room (2 * i) 0
-      → depth < 2 ^ 32 → Put (rowText (row .key) depth (row .kind)) next r page p → RowsLeft p r (i + 1)
+      → depth < 2 ^ 32 → Put (rowText (row .key) depth (row .kind) (row .unit)) next r page p → RowsLeft p r (i + 1)
   rows-again {page} {p} {next} {r} {i} row depth left h e d small f =
       record {
         inside = omega arith;
         same = put-length f ∙ left .same;
-        near = omega (arith, left .near, f .place-is, row-length (row .key) depth (row .kind) small);
+        near = omega (arith, left .near, f .place-is, row-length (row .key) depth (row .kind) (row .unit) small);
         rest = λ q c g. left .rest q c (rw (rows-one i h, ← e, ← d) (put-after f g));
       }
 

@@ -62,14 +62,14 @@ module _ (longer : Bool) (s : List ℕ) {r : ℕ} {a b : List ℕ} where
 
 -- ---- no more rows are read than the tables have room for
 
-pub read-few : (s rows attrs : List ℕ) (c : Counts) → length rows ≡ 5120 → listingRead s rows attrs .answer ≡ gives c → c .rows ≤ 1024
+pub read-few : (s rows attrs : List ℕ) (c : Counts) → length rows ≡ 1024 * rowWidth → listingRead s rows attrs .answer ≡ gives c → c .rows ≤ 1024
 read-few s rows attrs c long h =
     let lent : c .rows * rowWidth ≤ length rows =
     fits-all c (length rows) (length attrs) (answer-read listingSettings [] listingSizes s rows attrs c h .fits) .rows-lent
     in
     omega arith
 
-pub few-read : (s rows attrs rows′ attrs′ : List ℕ) {answer : Said Counts} → length rows ≡ 5120 → BothGiven (listingRead s rows attrs) answer rows′ attrs′ → FewRead answer
+pub few-read : (s rows attrs rows′ attrs′ : List ℕ) {answer : Said Counts} → length rows ≡ 1024 * rowWidth → BothGiven (listingRead s rows attrs) answer rows′ attrs′ → FewRead answer
 few-read s rows attrs rows′ attrs′ long g = record { few = λ c e. read-few s rows attrs c long (sym (g .answer-is) ∙ e) }
 
 -- ---- and no more are listed than were read

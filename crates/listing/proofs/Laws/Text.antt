@@ -1,11 +1,16 @@
 -- What follows from `Text`: the lines, and how long they are.
 use Prim.Native.Nat.{ℕ, _-_, _^_, _≤_, _<_}
 use native.Mathlib.Omega.{arith}
-use mathlib.Core.List.{List}
+use mathlib.Core.Path.{_≡_}
+use mathlib.Core.List.{List, [], _∷_}
 use lib.ListN.{length, length-append}
+use lib.Dec.{eqb}
+use borrow.Author.Tests.{eq-eqb, ne-eqb}
+use Rattle.numbers.proofs.Laws.Tests.{cond-all}
+use Rattle.tables.specs.Unit.{noUnit}
 use Rattle.digits.proofs.Laws.Digits.{digits-length, decimal-length, decimal-short}
 use Rattle.digits.specs.Digits.{hexText, decimalText}
-use Rattle.listing.specs.Text.{space, newline, rowsWord, refusedWord, atWord, lineLimit, headerText, rowText, refusalText}
+use Rattle.listing.specs.Text.{space, newline, rowsWord, refusedWord, atWord, lineLimit, headerText, unitText, rowText, refusalText}
 use Rattle.digits.specs.Put.{Put}
 use Rattle.digits.proofs.Laws.Put.{put-after}
 
@@ -14,11 +19,21 @@ pub header-put : (n : ℕ) {at p q r : ℕ} {a b c d : List ℕ} → Put rowsWor
 unfolding headerText
 header-put n f g h = put-after (put-after f g) h
 
-pub row-put : (key depth kind : ℕ) {at p₁ p₂ p₃ p₄ p₅ p₆ : ℕ} {l l₁ l₂ l₃ l₄ l₅ l₆ : List ℕ} → Put (hexText 8 key) at p₁ l l₁ → Put space p₁ p₂ l₁ l₂
-    → Put (decimalText depth) p₂ p₃ l₂ l₃ → Put space p₃ p₄ l₃ l₄ → Put (hexText 4 kind) p₄ p₅ l₄ l₅ → Put newline p₅ p₆ l₅ l₆
-    → Put (rowText key depth kind) at p₆ l l₆
+module _ (unit : ℕ) {at p : ℕ} {a b : List ℕ} where
+  pub no-unit-put : unit ≡ noUnit → Put (45 ∷ []) at p a b → Put (unitText unit) at p a b
+  unfolding unitText
+  no-unit-put e f = rw (eq-eqb unit noUnit e) f
+
+  pub unit-put : (unit ≡ noUnit → ⊥) → Put (hexText 8 unit) at p a b → Put (unitText unit) at p a b
+  unfolding unitText
+  unit-put d f = rw (ne-eqb unit noUnit d) f
+
+pub row-put : (key depth kind unit : ℕ) {at p₁ p₂ p₃ p₄ p₅ p₆ p₇ p₈ : ℕ} {l l₁ l₂ l₃ l₄ l₅ l₆ l₇ l₈ : List ℕ} → Put (hexText 8 key) at p₁ l l₁
+    → Put space p₁ p₂ l₁ l₂ → Put (decimalText depth) p₂ p₃ l₂ l₃ → Put space p₃ p₄ l₃ l₄ → Put (hexText 4 kind) p₄ p₅ l₄ l₅ → Put space p₅ p₆ l₅ l₆
+    → Put (unitText unit) p₆ p₇ l₆ l₇ → Put newline p₇ p₈ l₇ l₈ → Put (rowText key depth kind unit) at p₈ l l₈
 unfolding rowText
-row-put key depth kind f₁ f₂ f₃ f₄ f₅ f₆ = put-after (put-after (put-after (put-after (put-after f₁ f₂) f₃) f₄) f₅) f₆
+row-put key depth kind unit f₁ f₂ f₃ f₄ f₅ f₆ f₇ f₈ =
+    put-after (put-after (put-after (put-after (put-after (put-after (put-after f₁ f₂) f₃) f₄) f₅) f₆) f₇) f₈
 
 pub refusal-put : (number place : ℕ) {at p₁ p₂ p₃ p₄ p₅ : ℕ} {l l₁ l₂ l₃ l₄ l₅ : List ℕ} → Put refusedWord at p₁ l l₁
     → Put (decimalText number) p₁ p₂ l₁ l₂ → Put atWord p₂ p₃ l₂ l₃ → Put (hexText 8 place) p₃ p₄ l₃ l₄ → Put newline p₄ p₅ l₄ l₅
@@ -31,9 +46,14 @@ pub header-length : (n : ℕ) → n < 2 ^ 64 → length (headerText n) ≤ lineL
 unfolding headerText
 header-length n h = simp length-append (omega (arith, decimal-length n h))
 
-pub row-length : (key depth kind : ℕ) → depth < 2 ^ 32 → length (rowText key depth kind) ≤ lineLimit
+unit-length : (unit : ℕ) → length (unitText unit) ≤ 8
+unfolding unitText
+unit-length unit = cond-all (λ (text : List ℕ). length text ≤ 8) (eqb unit noUnit) (λ e. omega arith) (λ d. omega (arith, digits-length 16 8 unit))
+
+pub row-length : (key depth kind unit : ℕ) → depth < 2 ^ 32 → length (rowText key depth kind unit) ≤ lineLimit
 unfolding rowText
-row-length key depth kind h = simp length-append (omega (arith, decimal-short depth h, digits-length 16 8 key, digits-length 16 4 kind))
+row-length key depth kind unit h =
+    simp length-append (omega (arith, decimal-short depth h, digits-length 16 8 key, digits-length 16 4 kind, unit-length unit))
 
 pub refusal-length : (number place : ℕ) → number < 2 ^ 32 → length (refusalText number place) ≤ lineLimit
 unfolding refusalText

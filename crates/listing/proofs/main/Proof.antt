@@ -6,7 +6,7 @@ use Rattle.listing.proofs.main.Statement.{statement}
 use Rattle.listing.proofs.main.Tie as tie
 
 slice-aggregate-write-all : tie.Need-slice-aggregate-write-all
-slice-aggregate-write-all c = printed-shown (c .before .before .report-input .ensures) (length-replicate {A = ℕ} 32800 0)
+slice-aggregate-write-all c = printed-shown (c .before .before .report-input .ensures) (length-replicate {A = ℕ} pageLimit 0)
 
 pub main-spec : {M : Type 1} → statement M
 main-spec =

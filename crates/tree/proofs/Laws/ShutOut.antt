@@ -33,6 +33,7 @@ use Rattle.attributes.specs.Read.{ending, numbered, readAttribute}
 use Rattle.tables.specs.Row.{rowWidth, attrWidth, rowWords, attrWords, rowsWords, attrsWords, rowAt, attrAt, rowsFrom, erasedRow}
 use Rattle.lent.proofs.Laws.Stores.{sets-back}
 use Rattle.tables.proofs.Laws.Row.{rows-back}
+use Rattle.tables.specs.Unit.{noUnit, unitOf, inUnit, unitsFrom, withUnits}
 use Rattle.tables.specs.declared.row.Row.{Row}
 use Rattle.tables.specs.declared.row.Attr.{Attr}
 use Rattle.tables.specs.declared.row.Counts.{Counts}
@@ -55,10 +56,10 @@ settings-hold : settingsHold settings [] fourEach ≡ true
 unfolding fourEach fundTypes vendorsHold roleHolds roleForm rolesDiffer rolesHold settingsHold
 settings-hold = refl
 
--- what a walk gives is intoTables in tables that are long enough
+-- what a walk gives is stored in tables that are long enough, the rows with their units
 abbrev storing : List Row → List Attr → List ℕ → List ℕ → Outcomes (Said Counts) ℕ ℕ
 storing rs xs rows attrs =
-    outcomes (gives (counts (length rs) (length xs))) (sets rows 0 (rowsWords rs)) (sets attrs 0 (attrsWords xs))
+    outcomes (gives (counts (length rs) (length xs))) (sets rows 0 (rowsWords (withUnits rs))) (sets attrs 0 (attrsWords xs))
 
 walk-stored : (s : List ℕ) (rs : List Row) (xs : List Attr) (place : ℕ) → wholeWalk settings [] s ≡ gives (entries rs xs place) → length s < sectionLimit
     → length rs ≤ entryLimit → length xs ≤ attributeLimit → (rows attrs : List ℕ) → length rs * rowWidth ≤ length rows → length xs * attrWidth ≤ length attrs
@@ -84,9 +85,9 @@ saidCounts (refuses number place (rows ∷ attrs ∷ more)) = counts rows attrs
 
 -- ---- three sections, and the entries that reading finds in them
 
--- an entry's row: big-endian, not erased
+-- an entry's row: big-endian, not erased, in no unit
 abbrev rowOf : ℕ → ℕ → ℕ → ℕ → Row
-rowOf key kind first count = record { key = key; kind = kind; flags = 0; first = first; count = count }
+rowOf key kind first count = record { key = key; kind = kind; flags = 0; first = first; count = count; unit = noUnit }
 
 -- the row of a null entry
 abbrev firstNull : Row
@@ -112,7 +113,7 @@ walks = (refl, refl, refl)
 
 -- ---- one null entry
 
-module _ (rows attrs : List ℕ) (enough : 5 ≤ length rows) where
+module _ (rows attrs : List ℕ) (enough : rowWidth ≤ length rows) where
   null-stored : reading nullSection rows attrs ≡ storing (firstNull ∷ []) [] rows attrs
   null-stored = walk-stored nullSection (firstNull ∷ []) [] 4 (walks .0) (omega arith) (omega arith) (omega arith) rows attrs enough (omega arith)
 
@@ -134,9 +135,9 @@ module _ (rows attrs : List ℕ) (enough : 5 ≤ length rows) where
 -- ---- two entries
 
 -- one that reads the first entry and pads the rest
-pub first-and-padding : (rows attrs : List ℕ) → 10 ≤ length rows → 4 ≤ length attrs → {r : Said Counts} {rows′ attrs′ : List ℕ} → rowAt rows′ 1 .kind ≡ tag.Padding
+pub first-and-padding : (rows attrs : List ℕ) → 2 * rowWidth ≤ length rows → 4 ≤ length attrs → {r : Said Counts} {rows′ attrs′ : List ℕ} → rowAt rows′ 1 .kind ≡ tag.Padding
     → BothGiven (reading twoSection rows attrs) r rows′ attrs′ → ⊥
-unfolding rowsFrom
+unfolding rowsFrom unitOf inUnit unitsFrom
 first-and-padding rows attrs h k {r} {rows′} padded p =
     let whole = walk-stored twoSection twoRows twoAttrs 18 (walks .1) (omega arith) (omega arith) (omega arith) rows attrs h k in
     let held : rowsFrom rows′ 0 2 ≡ twoRows =
@@ -147,9 +148,9 @@ first-and-padding rows attrs h k {r} {rows′} padded p =
     absurd (omega arith)
 
 -- one that writes nothing, into tables whose first row is not that of a structure
-module _ (rows attrs : List ℕ) (rows-enough : 10 ≤ length rows) (attrs-enough : 4 ≤ length attrs) where
+module _ (rows attrs : List ℕ) (rows-enough : 2 * rowWidth ≤ length rows) (attrs-enough : 4 ≤ length attrs) where
   pub writes-nothing : (rowAt rows 0 .kind ≡ tag.StructureType → ⊥) → {r : Said Counts} {attrs′ : List ℕ} → BothGiven (reading twoSection rows attrs) r rows attrs′ → ⊥
-  unfolding rowsFrom
+  unfolding rowsFrom unitOf inUnit unitsFrom
   writes-nothing other p =
       let whole = walk-stored twoSection twoRows twoAttrs 18 (walks .1) (omega arith) (omega arith) (omega arith) rows attrs rows-enough attrs-enough in
       let held : rowsFrom rows 0 2 ≡ twoRows =
@@ -159,7 +160,7 @@ module _ (rows attrs : List ℕ) (rows-enough : 10 ≤ length rows) (attrs-enoug
       other (ap (λ (r : Row). r .kind) first)
 
 -- so of tables filled with zeros, whatever their lengths
-pub leaves-zeros : (k m : ℕ) → 10 ≤ k → 4 ≤ m → {r : Said Counts} {attrs′ : List ℕ} → BothGiven (reading twoSection (replicate k 0) (replicate m 0)) r (replicate k 0) attrs′ → ⊥
+pub leaves-zeros : (k m : ℕ) → 2 * rowWidth ≤ k → 4 ≤ m → {r : Said Counts} {attrs′ : List ℕ} → BothGiven (reading twoSection (replicate k 0) (replicate m 0)) r (replicate k 0) attrs′ → ⊥
 unfolding rowAt
 leaves-zeros k m h l =
     writes-nothing (replicate k 0) (replicate m 0) (rw (length-replicate {A = ℕ} k 0) h) (rw (length-replicate {A = ℕ} m 0) l)
@@ -168,7 +169,7 @@ leaves-zeros k m h l =
 -- ---- any input
 
 fit-counts : (all : Entries) (fits : Bool) (rows attrs : List ℕ)
-    → saidCounts (fillsRooms fits (countsOf all) (length (all .rows) ∷ length (all .attrs) ∷ []) (rowsWords (all .rows)) (attrsWords (all .attrs)) rows attrs .answer)
+    → saidCounts (fillsRooms fits (countsOf all) (length (all .rows) ∷ length (all .attrs) ∷ []) (rowsWords (withUnits (all .rows))) (attrsWords (all .attrs)) rows attrs .answer)
     ≡ countsOf all
 unfolding fillsRooms
 fit-counts all true rows attrs = refl
@@ -202,7 +203,7 @@ A-listed : (rows attrs room : List ℕ) → 6 ≤ length room
 unfolding valueOf there readAt rowWords attrWords rowsWords attrsWords rowAt attrAt erasedRow wants attrFrom attributeOf asReference referenceBy referenceOf countBelow nearestBelow firstFrom reachBy reachEnd lies depth parent crosses faulty deep firstFault firstDeep placesFrom firstErased treeTests listingOf must _>>_ inRoom fillsRoom
 A-listed rows attrs room h = ap (λ (b : Bool). cond b (outcome (gives 3) (sets room 0 placesA)) (outcome (wanting (3 ∷ [])) room)) (le-leb 6 (length room) h)
 
-module _ (rows₀ attrs₀ : List ℕ) (rows-enough : 15 ≤ length rows₀) (attrs-enough : 8 ≤ length attrs₀) {c : Counts} {rows attrs : List ℕ}
+module _ (rows₀ attrs₀ : List ℕ) (rows-enough : 3 * rowWidth ≤ length rows₀) (attrs-enough : 8 ≤ length attrs₀) {c : Counts} {rows attrs : List ℕ}
     (read : BothGiven (reading inputA rows₀ attrs₀) (gives c) rows attrs) where
   A-stored : reading inputA rows₀ attrs₀ ≡ storing rowsA attrsA rows₀ attrs₀
   A-stored = walk-stored inputA rowsA attrsA 42 (walks .2) (omega arith) (omega arith) (omega arith) rows₀ attrs₀ rows-enough attrs-enough
@@ -210,8 +211,8 @@ module _ (rows₀ attrs₀ : List ℕ) (rows-enough : 15 ≤ length rows₀) (at
   A-counts : c ≡ counts 3 4
   A-counts = ap saidCounts (read .answer-is ∙ ap (λ (o : Outcomes (Said Counts) ℕ ℕ). o .answer) A-stored)
 
-  A-rows : rows ≡ rowsWords rowsA ++ drop 15 rows₀
-  unfolding rowWords rowsWords
+  A-rows : rows ≡ rowsWords rowsA ++ drop (3 * rowWidth) rows₀
+  unfolding rowWords rowsWords unitOf inUnit unitsFrom
   A-rows = read .first-is ∙ ap (λ (o : Outcomes (Said Counts) ℕ ℕ). o .first) A-stored ∙ sets-eq (rowsWords rowsA) rows₀ 0 rows-enough
 
   A-attrs : attrs ≡ attrsWords attrsA ++ drop 8 attrs₀
@@ -223,7 +224,7 @@ module _ (rows₀ attrs₀ : List ℕ) (rows-enough : 15 ≤ length rows₀) (at
       → Given (listTree (table inputA settings [] fourEach rows attrs c) room) r room′ → ⊥
   depth-zero room h {r} {room′} zeros given =
       let tree : listTree (table inputA settings [] fourEach rows attrs c) room ≡ outcome (gives 3) (sets room 0 placesA) =
-      tree-listed settings [] fourEach inputA rows₀ attrs₀ c refl read room ∙ rw (A-counts, A-rows, A-attrs) (A-listed (drop 15 rows₀) (drop 8 attrs₀) room h)
+      tree-listed settings [] fourEach inputA rows₀ attrs₀ c refl read room ∙ rw (A-counts, A-rows, A-attrs) (A-listed (drop (3 * rowWidth) rows₀) (drop 8 attrs₀) room h)
       in
       let inside : getD room′ 2 0 ≡ 1 =
       ap (λ (t : List ℕ). getD t 2 0) (given .room-is ∙ ap (λ (o : Outcome (Said ℕ) ℕ). o .room) tree) ∙ sets-back room 0 placesA 2 h (omega arith)

@@ -18,6 +18,7 @@ use Rattle.standard.specs.Forest.{siblingsIn, References, Forest, done, ended, 
 use Rattle.attributes.specs.Decode.{referenceAt}
 use Rattle.tables.specs.Table.{Rows, lentRows}
 use Rattle.tables.specs.Row.{rowAt, attrAt, rowsFrom, attrsFrom}
+use Rattle.tables.specs.Unit.{noUnit, unitOf, inUnit, unitsFrom, withUnits}
 use Rattle.tables.specs.declared.row.Row.{Row}
 use Rattle.tables.specs.declared.row.Attr.{Attr}
 use Rattle.entries.proofs.Laws.Filled.{held-apart}
@@ -131,11 +132,13 @@ module _ {numbers : List ℕ} {e : Endian} where
   AllRowed [] = Unit
   AllRowed (d ∷ dies) = Rowed d × AllRowed dies
 
--- from row i and place `at` on, up to the last row and the end of the section, the table is that of these entries, all of which have rows
+-- from row i and place `at` on, up to the last row and the end of the section, the table is that of these entries, all of which have rows; `unit` is that of
+-- the row before
 record From {numbers : List ℕ} (e : Endian) (s rows attrs : List ℕ) (n i at : ℕ) (dies : List (Die numbers e)) : Type 0 where
   attr : ℕ
+  unit : ℕ
   rowed : AllRowed dies
-  rows-held : rowsFrom rows i (length (rowsOf numbers e at attr dies)) ≡ rowsOf numbers e at attr dies
+  rows-held : rowsFrom rows i (length (rowsOf numbers e at attr dies)) ≡ unitsFrom unit (rowsOf numbers e at attr dies)
   attrs-held : attrsFrom attrs attr (length (attrsOf numbers e at dies)) ≡ attrsOf numbers e at dies
   stand : Stands s at (writtenDies numbers e dies)
   last-row : i + length dies ≡ n
@@ -155,10 +158,15 @@ module _ {numbers : List ℕ} {e : Endian} {s rows attrs : List ℕ} {n i at : �
   abbrev later-rows : List Row
   later-rows = rowsOf numbers e (at + length (writtenDie numbers e d)) (f .attr + length (dieAttrs numbers e at d)) dies
 
-  rows-apart : (rowAt rows i ≡ first-row .row) × (rowsFrom rows (suc i) (length later-rows) ≡ later-rows)
-  unfolding rowsFrom
+  abbrev later-unit : ℕ
+  later-unit = unitOf (f .unit) (first-row .row)
+
+  rows-apart : (rowAt rows i ≡ inUnit later-unit (first-row .row)) × (rowsFrom rows (suc i) (length later-rows) ≡ unitsFrom later-unit later-rows)
+  unfolding rowsFrom unitsFrom
   rows-apart =
-      let whole : rowsFrom rows i (length (first-row .row ∷ later-rows)) ≡ first-row .row ∷ later-rows = rw (rows-begin at (f .attr) d dies first-row) at (f .rows-held) in
+      let whole : rowsFrom rows i (length (first-row .row ∷ later-rows)) ≡ unitsFrom (f .unit) (first-row .row ∷ later-rows) =
+      rw (rows-begin at (f .attr) d dies first-row) at (f .rows-held)
+      in
       (cc, cc)
 
   abbrev later-attrs : List Attr
@@ -175,6 +183,7 @@ module _ {numbers : List ℕ} {e : Endian} {s rows attrs : List ℕ} {n i at : �
       let whole = dies-length d dies in
       record {
         attr = f .attr + length (dieAttrs numbers e at d);
+        unit = later-unit;
         rowed = f .rowed .1;
         rows-held = rows-apart .1;
         attrs-held = attrs-apart .1;
@@ -188,12 +197,21 @@ module _ {numbers : List ℕ} {e : Endian} {s rows attrs : List ℕ} {n i at : �
   from-inside = omega (arith, f .last-row)
 
   from-key : rowAt rows i .key ≡ at
+  unfolding inUnit
   from-key = ap (λ (r : Row). r .key) (rows-apart .0) ∙ first-row .key-is
+
+  from-first : rowAt rows i .first ≡ f .attr
+  unfolding inUnit
+  from-first = ap (λ (r : Row). r .first) (rows-apart .0) ∙ first-row .first-is
+
+  from-count : rowAt rows i .count ≡ length (dieAttrs numbers e at d)
+  unfolding inUnit
+  from-count = ap (λ (r : Row). r .count) (rows-apart .0) ∙ first-row .count-is
 
   from-sibling : referenceOf e s rows attrs i siblingNumber ≡ named (dieSiblings d)
   unfolding referenceOf attributeOf
   from-sibling =
-      rw (rows-apart .0, first-row .first-is, first-row .count-is) (die-sibling s attrs d at (f .attr) (die-stands d dies (f .stand)) (attrs-apart .0))
+      rw (from-first, from-count) (die-sibling s attrs d at (f .attr) (die-stands d dies (f .stand)) (attrs-apart .0))
 
 -- those behind some of them
 from-behind : {numbers : List ℕ} {e : Endian} {s rows attrs : List ℕ} {n i j at next : ℕ} (dies more : List (Die numbers e)) → From e s rows attrs n i at (dies ++ more)
@@ -319,12 +337,13 @@ forest-rows {at = at} {dies} forest = rows-many dies at 0 (forest-rowed forest)
 -- in a table that holds a forest's rows and attributes each row's reach ends behind the rows below it
 pub table-spans : {s rows : List ℕ} {n : ℕ} (plain : Plain s rows n) (attrs : List ℕ) {numbers : List ℕ} {e : Endian} {closed : Bool} {dies : List (Die numbers e)}
     (forest : Forest numbers e closed 0 dies) → s ≡ writtenDies numbers e dies → n ≡ length dies
-    → rowsFrom rows 0 (length (rowsOf numbers e 0 0 dies)) ≡ rowsOf numbers e 0 0 dies
+    → rowsFrom rows 0 (length (rowsOf numbers e 0 0 dies)) ≡ withUnits (rowsOf numbers e 0 0 dies)
     → attrsFrom attrs 0 (length (attrsOf numbers e 0 dies)) ≡ attrsOf numbers e 0 dies
     → Spans (λ i. reachEnd (lentRows e s rows attrs n) i) (shapeOf forest) 0
 table-spans {s} {rows} {n} plain attrs {numbers} {e} {dies = dies} forest is many rows-held attrs-held =
     let all : From e s rows attrs n 0 0 dies = record {
       attr = 0;
+      unit = noUnit;
       rowed = forest-rowed forest;
       rows-held = rows-held;
       attrs-held = attrs-held;
