@@ -45,10 +45,13 @@ headerText n = rowsWord ++ decimalText n ++ newline
 unfoldable pub unitText : ℕ → List ℕ
 unitText unit = cond (eqb unit noUnit) (45 ∷ []) (hexText 8 unit)
 
+-- 'KEY DEPTH TAG'
+unfoldable pub entryText : ℕ → ℕ → ℕ → List ℕ
+entryText key depth kind = hexText 8 key ++ space ++ decimalText depth ++ space ++ hexText 4 kind
+
 -- 'KEY DEPTH TAG UNIT'
 unfoldable pub rowText : ℕ → ℕ → ℕ → ℕ → List ℕ
-rowText key depth kind unit =
-    hexText 8 key ++ space ++ decimalText depth ++ space ++ hexText 4 kind ++ space ++ unitText unit ++ newline
+rowText key depth kind unit = entryText key depth kind ++ space ++ unitText unit ++ newline
 
 -- 'refused N at KEY'
 unfoldable pub refusalText : ℕ → ℕ → List ℕ

@@ -7,7 +7,7 @@ ghost use mathlib.Core.Path.{_≡_};
 ghost use Prim.Native.Nat.{_+_, _^_, _<_, min};
 ghost use lib.ListN.{length};
 ghost use Rattle.digits.specs.Digits.{hexText, decimalText};
-ghost use Rattle.listing.specs.Text.{lineLimit, headerText, unitText, rowText, refusalText};
+ghost use Rattle.listing.specs.Text.{lineLimit, headerText, entryText, unitText, rowText, refusalText};
 ghost use Rattle.digits.specs.Put.{Put};
 
 // Where the rest of a line of so many bytes begins.
@@ -51,6 +51,18 @@ pub fn write_header(line: &mut [u8], at: usize, n: usize) -> usize
     put_text(line, end, b"\n")
 }
 
+// 'KEY DEPTH TAG'
+fn put_entry(line: &mut [u8], at: usize, key: u32, depth: u32, kind: u32) -> usize
+    requires { ⌜ at + lineLimit < 2 ^ 64 ⌝ }
+    ensures { λ r. ⌜ Put (entryText key depth kind) at r (now (line .entry)) (now (line .exit)) ⌝ }
+{
+    let key_end = put_hex(line, at, 8, key as u64);
+    let second = put_text(line, key_end, b" ");
+    let depth_end = put_decimal(line, second, depth as u64);
+    let third = put_text(line, depth_end, b" ");
+    put_hex(line, third, 4, kind as u64)
+}
+
 // A unit, '-' where there is none.
 fn put_unit(line: &mut [u8], at: usize, unit: u32) -> usize
     requires { ⌜ at + 8 < 2 ^ 64 ⌝ }
@@ -68,13 +80,9 @@ pub fn write_row(line: &mut [u8], at: usize, key: u32, depth: u32, kind: u32, un
     requires { ⌜ at + lineLimit < 2 ^ 64 ⌝ }
     ensures { λ r. ⌜ Put (rowText key depth kind unit) at r (now (line .entry)) (now (line .exit)) ⌝ }
 {
-    let key_end = put_hex(line, at, 8, key as u64);
-    let second = put_text(line, key_end, b" ");
-    let depth_end = put_decimal(line, second, depth as u64);
-    let third = put_text(line, depth_end, b" ");
-    let kind_end = put_hex(line, third, 4, kind as u64);
-    let fourth = put_text(line, kind_end, b" ");
-    let end = put_unit(line, fourth, unit);
+    let entry_end = put_entry(line, at, key, depth, kind);
+    let last = put_text(line, entry_end, b" ");
+    let end = put_unit(line, last, unit);
     put_text(line, end, b"\n")
 }
 

@@ -30,10 +30,10 @@ use Rattle.tree.specs.Reach.{laterRow, reachBy, reachEnd}
 use Rattle.tree.specs.Nest.{lies, depth, parent, crosses, faulty, deep, firstFault, firstDeep}
 use Rattle.tree.specs.Tree.{placesFrom, firstErased, treeTests, listingOf, listTree}
 use Rattle.digits.specs.Digits.{glyph, digits, widthFrom, decimalWidth}
-use Rattle.listing.specs.Text.{headerText, unitText, rowText, refusalText, rowsText}
+use Rattle.listing.specs.Text.{headerText, entryText, unitText, rowText, refusalText, rowsText}
 use Rattle.listing.specs.Report.{listingSizes, rowRoom, attrRoom, placeRoom, answerText, treeText, reportText, inputText}
 use Rattle.listing.specs.Examples.{examples}
 
 pub examples-hold : map (λ e. inputText (e .longer) (e .bytes)) examples ≡ map (λ e. e .text) examples
-unfolding must _>>=_ _>>_ placed inRoom fillsRoom inRooms fillsRooms examples numberOf fundTypes valueOf there readAt isOn indexOf lookup tags used alsoKnown attributeKinds known forms formOf vendorNumber vendorsHold roleHolds roleForm rolesDiffer rolesHold settingsHold zeroFrom fixedEnd blockEnd textEnd valueEnd ending numbered readAttribute nullEnd tagHead sizeHead headAt plays runEnds readOn readRun flip littleFlag flagOf flagsOf rootKind attributes rootEndian entryFrom readEntry entriesThen wholeEntry entriesFrom readTags wholeWalk fitting sectionEntries readDebugSection glyph digits widthFrom decimalWidth headerText unitText rowText rowsText refusalText rowWords attrWords rowsWords attrsWords rowAt attrAt unitOf inUnit unitsFrom unitsHold erasedRow endianOf rowFrom rowOfKey isAt attrHolds runHolds rowHolds rowsHold tableHolds testTable wants attrFrom attributeOf asReference referenceBy referenceOf countBelow nearestBelow firstFrom laterRow reachBy reachEnd lies depth parent crosses faulty deep firstFault firstDeep placesFrom firstErased treeTests listingOf listTree listingSizes rowRoom attrRoom placeRoom answerText treeText reportText inputText
+unfolding must _>>=_ _>>_ placed inRoom fillsRoom inRooms fillsRooms examples numberOf fundTypes valueOf there readAt isOn indexOf lookup tags used alsoKnown attributeKinds known forms formOf vendorNumber vendorsHold roleHolds roleForm rolesDiffer rolesHold settingsHold zeroFrom fixedEnd blockEnd textEnd valueEnd ending numbered readAttribute nullEnd tagHead sizeHead headAt plays runEnds readOn readRun flip littleFlag flagOf flagsOf rootKind attributes rootEndian entryFrom readEntry entriesThen wholeEntry entriesFrom readTags wholeWalk fitting sectionEntries readDebugSection glyph digits widthFrom decimalWidth headerText entryText unitText rowText rowsText refusalText rowWords attrWords rowsWords attrsWords rowAt attrAt unitOf inUnit unitsFrom unitsHold erasedRow endianOf rowFrom rowOfKey isAt attrHolds runHolds rowHolds rowsHold tableHolds testTable wants attrFrom attributeOf asReference referenceBy referenceOf countBelow nearestBelow firstFrom laterRow reachBy reachEnd lies depth parent crosses faulty deep firstFault firstDeep placesFrom firstErased treeTests listingOf listTree listingSizes rowRoom attrRoom placeRoom answerText treeText reportText inputText
 examples-hold = refl

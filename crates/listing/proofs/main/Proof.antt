@@ -1,4 +1,5 @@
 use lib.ListN.{length-replicate}
+use Rattle.listing.specs.Text.{pageLimit}
 use Rattle.listing.proofs.Laws.Page.{printed-shown}
 use borrow.Author.Needs.{needs}
 use Prim.Native.Nat.{ℕ}

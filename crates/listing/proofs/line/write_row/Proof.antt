@@ -1,27 +1,20 @@
-use Rattle.digits.proofs.Laws.Digits.{short-place, hex-place}
-use Rattle.listing.proofs.Laws.Text.{row-put}
+use Rattle.listing.proofs.Laws.Text.{row-put, entry-place, unit-place}
 use borrow.Author.Needs.{needs}
 use native.Mathlib.Omega.{arith}
 use Rattle.listing.proofs.line.write_row.Statement.{statement}
 use Rattle.listing.proofs.line.write_row.Tie as tie
 
 put-text-requires : tie.Need-put-text-requires
-put-text-requires c κs = omega (arith, hex-place 8 _ (c .before .before .before .before .put-hex .ensures))
+put-text-requires c κs = omega (arith, entry-place _ _ _ (search needs) (c .before .before .before .before .put-entry .ensures))
 
-put-decimal-requires : tie.Need-put-decimal-requires
-put-decimal-requires c κs = omega (arith, hex-place 8 _ (c .before .before .before .before .before .before .before .before .put-hex .ensures))
+put-unit-requires : tie.Need-put-unit-requires
+put-unit-requires c κs = omega (arith, entry-place _ _ _ (search needs) (c .before .before .before .before .before .before .before .before .put-entry .ensures))
 
 put-text-requires-2 : tie.Need-put-text-requires-2
-put-text-requires-2 c κs = omega (arith, hex-place 8 _ (c .before .before .before .before .before .before .before .before .before .before .before .before .before .put-hex .ensures), short-place (c .before .before .before .before .before .before .before .before .before .before .before .before .before .before .before .before .args .depth) (search needs) (c .before .before .before .before .put-decimal .ensures))
-
-put-hex-requires-2 : tie.Need-put-hex-requires-2
-put-hex-requires-2 c κs = omega (arith, hex-place 8 _ (c .before .before .before .before .before .before .before .before .before .before .before .before .before .before .before .before .before .put-hex .ensures), short-place (c .before .before .before .before .before .before .before .before .before .before .before .before .before .before .before .before .before .before .before .before .args .depth) (search needs) (c .before .before .before .before .before .before .before .before .put-decimal .ensures))
-
-put-text-requires-3 : tie.Need-put-text-requires-3
-put-text-requires-3 c κs = omega (arith, hex-place 8 _ (c .before .before .before .before .before .before .before .before .before .before .before .before .before .before .before .before .before .before .before .before .before .before .put-hex .ensures), short-place (c .before .before .before .before .before .before .before .before .before .before .before .before .before .before .before .before .before .before .before .before .before .before .before .before .before .args .depth) (search needs) (c .before .before .before .before .before .before .before .before .before .before .before .before .before .put-decimal .ensures), hex-place 4 _ (c .before .before .before .before .put-hex2 .ensures))
+put-text-requires-2 c κs = omega (arith, entry-place _ _ _ (search needs) (c .before .before .before .before .before .before .before .before .before .before .before .before .before .put-entry .ensures), unit-place _ (c .before .before .before .before .put-unit .ensures))
 
 returns : tie.Need-returns
-returns c = row-put _ _ _ (c .before .before .before .before .before .before .before .before .before .before .before .before .before .before .before .before .before .before .before .before .before .before .before .before .before .put-hex .ensures) (c .before .before .before .before .before .before .before .before .before .before .before .before .before .before .before .before .before .before .before .before .put-text .ensures) (c .before .before .before .before .before .before .before .before .before .before .before .before .before .before .before .before .put-decimal .ensures) (c .before .before .before .before .before .before .before .before .before .before .before .put-text2 .ensures) (c .before .before .before .before .before .before .before .put-hex2 .ensures) (c .before .before .put-text3 .ensures)
+returns c = row-put _ _ _ _ (c .before .before .before .before .before .before .before .before .before .before .before .before .before .before .before .before .put-entry .ensures) (c .before .before .before .before .before .before .before .before .before .before .before .put-text .ensures) (c .before .before .before .before .before .before .before .put-unit .ensures) (c .before .before .put-text2 .ensures)
 
 pub write-row-spec : {M : Type 1} → statement M
 write-row-spec =
@@ -30,11 +23,8 @@ write-row-spec =
     (λ c κs. search needs)
     (λ c. search needs)
     put-text-requires
-    put-decimal-requires
+    put-unit-requires
     (λ c. search needs)
     put-text-requires-2
-    put-hex-requires-2
-    (λ c. search needs)
-    put-text-requires-3
     (λ c. search needs)
     returns)
