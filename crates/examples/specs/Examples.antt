@@ -1,7 +1,7 @@
--- The starred examples of document 01 ('Examples on each side') and four of document 02's K2, big-endian: what is asked of the public calls'
+-- The starred examples of document 01 ('Examples on each side') and some of document 02's K2 and K7, big-endian: what is asked of the public calls'
 -- definitions, and what they say, with number and place of a refusal, the byte that 4 to 6 of reading tell, and what lent memory then holds.
 -- `examples-hold` computes every row.
-use Prim.Native.Nat.{ℕ}
+use Prim.Native.Nat.{ℕ, _+_, _*_}
 use mathlib.Core.Bool.{Bool, true, false}
 use mathlib.Core.List.{List, [], _∷_}
 use lib.ListN.{replicate}
@@ -28,6 +28,9 @@ use Rattle.blocks.specs.Subscripts.{Array, arrayOf, processArraySubscriptData}
 use Rattle.blocks.specs.declared.types.Type.{«Type»}
 use Rattle.blocks.specs.declared.types.TypeKind.the-variants.{Fundamental}
 use Rattle.tables.specs.Table.{Table, table}
+use Rattle.tables.specs.Row.{rowWidth, attrWidth}
+use Rattle.tables.specs.Tests.{testTable}
+use Rattle.tables.specs.Unit.{noUnit}
 use Rattle.tables.specs.declared.row.Counts.{Counts}
 use Rattle.links.specs.Maybe.{Maybe, some}
 use Rattle.links.specs.Typed.{extentOfKey, partOf, valueOfKey}
@@ -36,11 +39,14 @@ use Rattle.records.specs.declared.enumeration.Enumeration.{Enumeration}
 use Rattle.records.specs.declared.fields.Name.the-variants as name
 use Rattle.entries.specs.Section.{counts, readDebugSection}
 
--- what an example asks: to read a section into lent tables, with the erased flag on or off; the Name, and the FundType, of the entry at 0 of a table;
+-- what an example asks: to read a section into lent tables, with the erased flag on or off, or into tables with room for five rows; whether a table
+-- passes the tests; the Name, and the FundType, of the entry at 0 of a table;
 -- what a fundamental type's number and a modifier's byte say, and a run of modifiers; what a type attribute of a number with these bytes of value
 -- says; what subscripts say, into lent room; what the enumeration at 0 of a table says, into lent rooms
 pub data Question : Type 0 where
   section : Bool → List ℕ → Question
+  five-rows : List ℕ → Question
+  tests : Table → Question
   name-of : Table → Question
   type-of : Table → Question
   type-number : ℕ → Question
@@ -53,6 +59,7 @@ pub data Question : Type 0 where
 -- what each says, whole
 pub data Answer : Type 0 where
   tables : Outcomes (Said Counts) ℕ ℕ → Answer
+  tested : Said Unit → Answer
   text : Said (Maybe Extent) → List ℕ → Answer
   value : Said (Maybe ℕ) → Answer
   fundamental : FundType → Answer
@@ -66,9 +73,17 @@ pub data Answer : Type 0 where
 abbrev settings : Bool → Settings
 settings erased = record { endian = Big; erased = erased; producer = Other; roles = noRoles }
 
--- what is lent: room for a row and two attributes, and a word more, with 9 in every word
+-- what is lent: 9 in every word
 abbrev lent : ℕ → List ℕ
 lent n = replicate n 9
+
+-- room for a row, and a word more
+abbrev lent-row : List ℕ
+lent-row = lent (rowWidth + 1)
+
+-- room for two attributes, and a word more
+abbrev lent-attrs : List ℕ
+lent-attrs = lent (2 * attrWidth + 1)
 
 -- values that are lent
 abbrev lent-values : List ℤ
@@ -76,7 +91,9 @@ lent-values = pos 9 ∷ pos 9 ∷ []
 
 -- what the definitions of the calls answer, with no vendor numbers
 unfoldable pub answer : Question → Answer
-answer (section erased s) = tables (readDebugSection (settings erased) [] (rustSizes 4) s (lent 6) (lent 5))
+answer (section erased s) = tables (readDebugSection (settings erased) [] (rustSizes 4) s lent-row lent-attrs)
+answer (five-rows s) = tables (readDebugSection (settings false) [] (rustSizes 4) s (lent (5 * rowWidth)) lent-attrs)
+answer (tests t) = tested (testTable t)
 answer (name-of t) = text (extentOfKey t 0 number.Name form.String) (partOf (t .section) (extentOfKey t 0 number.Name form.String))
 answer (type-of t) = value (valueOfKey t 0 number.FundType form.Data2)
 answer (type-number n) = fundamental (parseInt n)
@@ -99,11 +116,11 @@ q says a = record { asked = q; said = a }
 
 -- nothing is read: the tables stay as they are
 abbrev nothing-read : Said Counts → Answer
-nothing-read said = tables (outcomes said (lent 6) (lent 5))
+nothing-read said = tables (outcomes said lent-row lent-attrs)
 
--- one null entry: its row is five zeros
+-- one null entry: its row is five zeros and the mark for no unit
 abbrev null-read : Answer
-null-read = tables (outcomes (gives (counts 1 0)) (0 ∷ tag.Padding ∷ 0 ∷ 0 ∷ 0 ∷ 9 ∷ []) (lent 5))
+null-read = tables (outcomes (gives (counts 1 0)) (0 ∷ tag.Padding ∷ 0 ∷ 0 ∷ 0 ∷ noUnit ∷ 9 ∷ []) lent-attrs)
 
 -- the erased entry: name A at 8 and type 7 at 12, little-endian
 abbrev erased-entry : List ℕ
@@ -111,7 +128,7 @@ erased-entry = 0x00 ∷ 0x00 ∷ 0x00 ∷ 0x0e ∷ 0x00 ∷ 0x00 ∷ 0x38 ∷ 0x
 
 -- the words of its row (flags: 1 erased, 2 an erased root, 4 little-endian) and of its attributes, and a word of 9 behind each
 abbrev erased-row : List ℕ
-erased-row = 0 ∷ tag.LocalVariable ∷ 7 ∷ 0 ∷ 2 ∷ 9 ∷ []
+erased-row = 0 ∷ tag.LocalVariable ∷ 7 ∷ 0 ∷ 2 ∷ noUnit ∷ 9 ∷ []
 
 -- its attributes
 abbrev erased-attrs : List ℕ
@@ -153,11 +170,31 @@ list-first =
 
 -- an enumeration's row at 0 with two attributes
 abbrev enumeration-row : List ℕ
-enumeration-row = 0 ∷ tag.EnumerationType ∷ 0 ∷ 0 ∷ 2 ∷ []
+enumeration-row = 0 ∷ tag.EnumerationType ∷ 0 ∷ 0 ∷ 2 ∷ noUnit ∷ []
 
 -- an enumeration without a name, of ByteSize 1, with so many members
 abbrev enumeration-is : ℕ → Said Enumeration
 enumeration-is many = gives (record { name = name.Nothing; «byte_size» = 1; members = many })
+
+-- a null entry, a unit without a name, a null entry in it, another unit, a null entry in that
+abbrev two-units : List ℕ
+two-units =
+    0x00 ∷ 0x00 ∷ 0x00 ∷ 0x04 ∷ 0x00 ∷ 0x00 ∷ 0x00 ∷ 0x09 ∷ 0x00 ∷ 0x11 ∷ 0x00 ∷ 0x38 ∷ 0x00 ∷ 0x00 ∷ 0x00 ∷ 0x00 ∷ 0x04 ∷
+    0x00 ∷ 0x00 ∷ 0x00 ∷ 0x09 ∷ 0x00 ∷ 0x11 ∷ 0x00 ∷ 0x38 ∷ 0x00 ∷ 0x00 ∷ 0x00 ∷ 0x00 ∷ 0x04 ∷ []
+
+-- its rows, with these units
+abbrev rows-in : ℕ → ℕ → ℕ → ℕ → ℕ → List ℕ
+rows-in a b c d e =
+    0 ∷ tag.Padding ∷ 0 ∷ 0 ∷ 0 ∷ a ∷ 4 ∷ tag.CompileUnit ∷ 0 ∷ 0 ∷ 1 ∷ b ∷ 13 ∷ tag.Padding ∷ 0 ∷ 1 ∷ 0 ∷ c ∷
+    17 ∷ tag.CompileUnit ∷ 0 ∷ 1 ∷ 1 ∷ d ∷ 26 ∷ tag.Padding ∷ 0 ∷ 2 ∷ 0 ∷ e ∷ []
+
+-- its attributes: the two names, and a word of 9 behind them
+abbrev unit-names : List ℕ
+unit-names = number.Name ∷ 12 ∷ number.Name ∷ 25 ∷ 9 ∷ []
+
+-- a table of those rows
+abbrev units-told : ℕ → ℕ → ℕ → ℕ → ℕ → Question
+units-told a b c d e = tests (table two-units (settings false) [] (rustSizes 4) (rows-in a b c d e) unit-names (counts 5 2))
 
 -- in document 01's order; its type numbers and modifiers are asked alone, and again as attributes
 unfoldable pub examples : List Example
@@ -198,4 +235,13 @@ examples =
     section false (0x00 ∷ 0x00 ∷ 0x00 ∷ 0x0d ∷ 0x00 ∷ 0x0d ∷ 0x00 ∷ 0x23 ∷ 0x00 ∷ []) says nothing-read (refuses 4 0 (8 ∷ [])) ∷
     section false (0x00 ∷ 0x00 ∷ 0x00 ∷ 0x09 ∷ 0x00 ∷ 0x14 ∷ 0x00 ∷ 0x38 ∷ 0x41 ∷ []) says nothing-read (refuses 4 0 (8 ∷ [])) ∷
     section false (0x00 ∷ 0x00 ∷ 0x00 ∷ 0x04 ∷ 0x00 ∷ 0x00 ∷ 0x00 ∷ 0x0c ∷ 0x00 ∷ 0x14 ∷ 0x00 ∷ 0xe6 ∷ 0x00 ∷ 0x00 ∷ 0x00 ∷ 0x00 ∷ [])
-    says nothing-read (refuses 6 4 (10 ∷ [])) ∷ []
+    says nothing-read (refuses 6 4 (10 ∷ [])) ∷
+    -- document 02, K7: the unit of each row; and of tables that tell them otherwise: the mark for a row that has one, a unit before the first, the unit of
+    -- the row before, the next unit, the first unit for all
+    five-rows two-units says tables (outcomes (gives (counts 5 2)) (rows-in noUnit 4 4 17 17) unit-names) ∷
+    units-told noUnit 4 4 17 17 says tested (gives tt) ∷
+    units-told noUnit 4 noUnit 17 17 says tested (refuses 3 0 []) ∷
+    units-told 4 4 4 17 17 says tested (refuses 3 0 []) ∷
+    units-told noUnit noUnit 4 4 17 says tested (refuses 3 0 []) ∷
+    units-told noUnit 4 17 17 17 says tested (refuses 3 0 []) ∷
+    units-told noUnit 4 4 4 4 says tested (refuses 3 0 []) ∷ []

@@ -36,11 +36,15 @@ use crate::values::table;
 use attributes::decode::part;
 use entries::section::Section;
 use entries::section::read_debug_section;
+use format::limits::ATTRIBUTE_LIMIT;
+use format::limits::ENTRY_LIMIT;
 use format::presets::MW_VENDORS;
 use format::settings::Settings;
 use numbers::unsigned::bytes_there;
 use std::num::wrapping_add_usize;
+use tables::row::ATTR_WIDTH;
 use tables::row::Counts;
+use tables::row::ROW_WIDTH;
 
 // Where a packet stops being read: a question there has a wrong form.
 const STOP: usize = 0;
@@ -208,8 +212,8 @@ fn large_section(
     settings: Settings,
 ) -> usize {
     let body = body_at(packet, at);
-    let mut rows = [0u32; 20480];
-    let mut attrs = [0u32; 65536];
+    let mut rows = [0u32; ENTRY_LIMIT * ROW_WIDTH];
+    let mut attrs = [0u32; ATTRIBUTE_LIMIT * ATTR_WIDTH];
     match read_debug_section(s, settings, &MW_VENDORS, &SIZES, &mut rows, &mut attrs) {
         Section::Read(counts) => {
             section_read(packet, at, t, c, s, settings, &rows, &attrs, counts)
@@ -232,8 +236,8 @@ fn small_section(
     settings: Settings,
 ) -> usize {
     let body = body_at(packet, at);
-    let mut rows = [0u32; 320];
-    let mut attrs = [0u32; 512];
+    let mut rows = [0u32; 64 * ROW_WIDTH];
+    let mut attrs = [0u32; 256 * ATTR_WIDTH];
     match read_debug_section(s, settings, &MW_VENDORS, &SIZES, &mut rows, &mut attrs) {
         Section::Read(counts) => {
             section_read(packet, at, t, c, s, settings, &rows, &attrs, counts)

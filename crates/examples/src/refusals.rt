@@ -18,6 +18,7 @@ use records::unions::process_union_tag;
 use sizes::size::size_of_key;
 use sizes::sized::Sized;
 use tables::row::Counts;
+use tables::row::ROW_WIDTH;
 
 fn answered() {
     text(b": an answer\n");
@@ -48,7 +49,7 @@ fn read(s: &[u8], rows: &mut [u32], attrs: &mut [u32]) -> Counts {
 
 fn typedef_of_itself() {
     let s = b"\x00\x00\x00\x0c\x00\x16\x02\xb2\x00\x00\x00\x00";
-    let mut rows = [0u32; 5];
+    let mut rows = [0u32; ROW_WIDTH];
     let mut attrs = [0u32; 2];
     let counts = read(s, &mut rows, &mut attrs);
     text(b"typedef that specifies itself");
@@ -69,7 +70,7 @@ fn typedef_of_itself() {
 
 fn array_of_itself() {
     let s = b"\x00\x00\x00\x11\x00\x01\x00\xa3\x00\x07\x08\x00\x72\x00\x00\x00\x00";
-    let mut rows = [0u32; 5];
+    let mut rows = [0u32; ROW_WIDTH];
     let mut attrs = [0u32; 2];
     let counts = read(s, &mut rows, &mut attrs);
     text(b"size of an array of itself");
@@ -92,7 +93,7 @@ fn array_of_itself() {
 fn union_with_no_room() {
     let s =
         b"\x00\x00\x00\x12\x00\x17\x00\x12\x00\x00\x00\x26\x00\xb6\x00\x00\x00\x04\x00\x00\x00\x14\x00\x0d\x00\x55\x00\x07\x00\x23\x00\x06\x04\x00\x00\x00\x00\x07";
-    let mut rows = [0u32; 10];
+    let mut rows = [0u32; 2 * ROW_WIDTH];
     let mut attrs = [0u32; 8];
     let counts = read(s, &mut rows, &mut attrs);
     let mut room = [0u64; 0];
@@ -118,7 +119,7 @@ fn union_with_no_room() {
 fn enumeration_with_no_room() {
     let s =
         b"\x00\x00\x00\x18\x00\x04\x00\xb6\x00\x00\x00\x04\x00\xf4\x00\x00\x00\x06\x00\x00\x00\x01\x41\x00";
-    let mut rows = [0u32; 5];
+    let mut rows = [0u32; ROW_WIDTH];
     let mut attrs = [0u32; 4];
     let counts = read(s, &mut rows, &mut attrs);
     let mut values = [0i32; 0];
@@ -146,7 +147,7 @@ fn enumeration_with_no_room() {
 fn layout_with_no_room() {
     let s =
         b"\x00\x00\x00\x0c\x00\x13\x00\x12\x00\x00\x00\x20\x00\x00\x00\x14\x00\x0d\x00\x55\x00\x07\x00\x23\x00\x06\x04\x00\x00\x00\x00\x07";
-    let mut rows = [0u32; 10];
+    let mut rows = [0u32; 2 * ROW_WIDTH];
     let mut attrs = [0u32; 6];
     let counts = read(s, &mut rows, &mut attrs);
     let mut room = [0u64; 0];

@@ -443,6 +443,44 @@ fn put_structure(
     put_refusal(buffer, end, structure.number as u64, structure.place)
 }
 
+// How many bytes of the buffer are used, and the unit that was told last.
+struct Told {
+    used: usize,
+    unit: Unit,
+}
+
+// A structure, in its unit.
+fn tell_structure(
+    s: &[u8],
+    preset: Preset,
+    rows: &[u32],
+    attrs: &[u32],
+    counts: Counts,
+    structure: Structure,
+    members: &[u64],
+    room: &mut [u32],
+    buffer: &mut [u8],
+    told: Told,
+) -> Told {
+    let row = row_at(rows, structure.row as usize);
+    let unit = unit_named(s, preset, rows, attrs, counts, row.unit, told.unit);
+    let end = put_title(s, row, structure, unit, buffer, told.used);
+    let used = put_structure(
+        s,
+        preset,
+        rows,
+        attrs,
+        counts,
+        row.key,
+        structure,
+        members,
+        room,
+        buffer,
+        end,
+    );
+    Told { used, unit }
+}
+
 // One buffer for all of them, which is written out where it is full and at the end.
 fn report_structures(
     s: &[u8],
@@ -456,36 +494,32 @@ fn report_structures(
 ) {
     let mut buffer = [0u8; 4096];
     let mut room = child_room();
-    let mut unit = Unit {
+    let unit = Unit {
         key: NO_UNIT,
         name: Extent {
             place: 0,
             length: 0,
         },
     };
-    let mut used = 0;
+    let mut told = Told { used: 0, unit };
     let mut k: u32 = 0;
     while k < n {
         let structure = structure_at(structures, k);
-        let row = row_at(rows, structure.row as usize);
-        unit = unit_named(s, preset, rows, attrs, counts, row.unit, unit);
-        used = put_title(s, row, structure, unit, &mut buffer, used);
-        used = put_structure(
+        told = tell_structure(
             s,
             preset,
             rows,
             attrs,
             counts,
-            row.key,
             structure,
             members,
             &mut room,
             &mut buffer,
-            used,
+            told,
         );
         k += 1;
     }
-    flush(&buffer, used);
+    flush(&buffer, told.used);
 }
 
 // Tables that were read.
