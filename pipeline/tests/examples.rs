@@ -208,6 +208,25 @@ fn all_layouts() {
     assert_eq!(sizes, [Ok(12), Ok(89), Ok(104), Err(11), Ok(0), Ok(28), Ok(0)]);
 }
 
+/// Two structures of one name are told apart by their units.
+#[test]
+fn units_of_structures() {
+    let bytes = std::fs::read(concat!(env!("CARGO_MANIFEST_DIR"), "/../samples/units.debug")).unwrap();
+    let section = read(&bytes, none()).unwrap();
+    let units: Vec<_> = section.units().map(|unit| (unit.key, unit.name)).collect();
+    assert_eq!(units, [(0x14, &b"tower.c"[..]), (0x75, b"crane.c"), (0xbd, b"")]);
+    let layouts = section.layouts().unwrap();
+    let told: Vec<_> = layouts.iter().map(|s| (s.name, s.unit.map(|unit| unit.name))).collect();
+    let wanted = [("Early", None), ("Beam", Some("tower.c")), ("Beam", Some("crane.c")), ("Hook", Some(""))];
+    assert_eq!(told, wanted.map(|(name, unit)| (name.as_bytes(), unit.map(str::as_bytes))));
+    for entry in section.entries() {
+        assert_eq!(section.unit_of(entry.key).unwrap().map(|unit| unit.key), entry.unit);
+        let before = section.units().take_while(|unit| unit.key <= entry.key);
+        assert_eq!(before.last().map(|unit| unit.key), entry.unit);
+    }
+    assert_eq!(section.unit_of(1).unwrap_err().to_string(), "refused 11 at 00000001: no row with that key");
+}
+
 #[test]
 fn values_of_every_form() {
     let two = |n: u16, e| if e == Endian::Big { n.to_be_bytes() } else { n.to_le_bytes() }.to_vec();

@@ -5,7 +5,7 @@ use oracle::{
     known::{ATTRIBUTES, LEVELS, ROWS, tells_byte},
     ours::{ATTRIBUTE, Answer, NO_BYTE, ROW, Reader},
     sections::{Maker, Writer},
-    theirs::{read as rust, too_deep, unit_of},
+    theirs::{NO_UNIT, read as rust, too_deep, unit_of},
     util::{
         dwarf::{AttributeValue, DwarfInfo, Tag},
         reader::{Endian, FromReader},
@@ -46,7 +46,7 @@ fn same_block(section: &[u8], data: Endian, place: usize, form: u32, block: &[u8
 
 /// What became of one comparison: read by both, refused by both at one place and byte for one reason, or outside our limits.
 enum Agreed {
-    Read { rows: u64, attrs: u64 },
+    Read { rows: u64, attrs: u64, in_units: u64 },
     Refused(u32),
     Outside(&'static str),
 }
@@ -162,12 +162,14 @@ impl Compare {
         if too_deep(section, e, &info.tags).is_some() {
             return Err("ours reads more levels than are allowed".into());
         }
-        let mut first = 0;
+        let (mut first, mut in_units) = (0, 0);
         for (i, tag) in info.tags.values().enumerate() {
-            self.same_row(section, e, i, first, tag, unit_of(&info.tags, tag.key))?;
+            let unit = unit_of(&info.tags, tag.key);
+            self.same_row(section, e, i, first, tag, unit)?;
             first += tag.attributes.len();
+            in_units += (unit != NO_UNIT) as u64;
         }
-        Ok(Agreed::Read { rows: ours.rows, attrs: ours.attrs })
+        Ok(Agreed::Read { rows: ours.rows, attrs: ours.attrs, in_units })
     }
 
     /// The same section, as short as the difference still shows: runs of bytes are taken away, long ones first.
@@ -198,9 +200,10 @@ impl Compare {
         self.sections += 1;
         for erased in [false, true] {
             match self.judge(section, e, erased) {
-                Ok(Agreed::Read { rows, attrs }) => {
+                Ok(Agreed::Read { rows, attrs, in_units }) => {
                     self.add("read by both".into(), 1);
                     self.add("  rows equal".into(), rows);
+                    self.add("  rows in a unit".into(), in_units);
                     self.add("  attributes equal".into(), attrs);
                 }
                 Ok(Agreed::Refused(number)) => {
