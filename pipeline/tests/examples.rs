@@ -227,6 +227,17 @@ fn units_of_structures() {
     assert_eq!(section.unit_of(1).unwrap_err().to_string(), "refused 11 at 00000001: no row with that key");
 }
 
+/// Units go by the order of rows, erased ones too: one inside an erased root is that of what follows the root.
+#[test]
+fn a_unit_inside_an_erased_root() {
+    let inside = [0, 0, 0, 9, 0, 0x11, 0, 0x38, 0];
+    let root = [0, 0, 0, 21, 0, 0, 1, 0x21, 0, 0, 0, 0];
+    let bytes = [&root[..], &inside, &[0, 0, 0, 4]].concat();
+    let section = read(&bytes, Settings { erased: true, ..none() }).unwrap();
+    let told: Vec<_> = section.entries().map(|entry| (entry.key, entry.flags.erased, entry.unit)).collect();
+    assert_eq!(told, [(0, true, None), (12, true, Some(12)), (21, false, Some(12))]);
+}
+
 #[test]
 fn values_of_every_form() {
     let two = |n: u16, e| if e == Endian::Big { n.to_be_bytes() } else { n.to_le_bytes() }.to_vec();

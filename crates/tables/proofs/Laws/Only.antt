@@ -4,6 +4,7 @@ use denote.Ref.{now}
 use Rattle.lent.specs.OneAnswer.{OneAnswer, OneRoom}
 use Rattle.tables.proofs.row as row
 use Rattle.tables.proofs.store as store
+use Rattle.tables.proofs.unit as unit
 use Rattle.tables.proofs.holds as holds
 
 -- `row::row_at`
@@ -26,9 +27,25 @@ only-is-erased κs a z z′ e e′ p q = cc
 pub only-put-row-rows : OneRoom store.put_row.Kinds.ps store.put_row.Kinds.r (λ κs e. now (e .0)) store.put_row.Reads.Post
 only-put-row-rows κs a z z′ e e′ p q = cc
 
+-- `store::put_unit`
+pub only-put-unit-rows : OneRoom store.put_unit.Kinds.ps store.put_unit.Kinds.r (λ κs e. now (e .0)) store.put_unit.Reads.Post
+only-put-unit-rows κs a z z′ e e′ p q = cc
+
 -- `store::put_attr`
 pub only-put-attr-attrs : OneRoom store.put_attr.Kinds.ps store.put_attr.Kinds.r (λ κs e. now (e .0)) store.put_attr.Reads.Post
 only-put-attr-attrs κs a z z′ e e′ p q = cc
+
+-- `unit::unit_of`
+pub only-unit-of : OneAnswer unit.unit_of.Kinds.ps unit.unit_of.Kinds.r unit.unit_of.Reads.Post
+only-unit-of κs a z z′ e e′ p q = cc
+
+-- `unit::units_hold`
+pub only-units-hold : OneAnswer unit.units_hold.Kinds.ps unit.units_hold.Kinds.r unit.units_hold.Reads.Post
+only-units-hold κs a z z′ e e′ p q = cc
+
+-- `unit::put_units`
+pub only-put-units-rows : OneRoom unit.put_units.Kinds.ps unit.put_units.Kinds.r (λ κs e. now (e .0)) unit.put_units.Reads.Post
+only-put-units-rows κs a z z′ e e′ p q = cc
 
 -- `holds::table_holds`
 pub only-table-holds : OneAnswer holds.table_holds.Kinds.ps holds.table_holds.Kinds.r holds.table_holds.Reads.Post
