@@ -1,4 +1,4 @@
-//! Sections that mean something: structures with members, unions, enumerations, arrays, chains of typedefs, variables, labels, overlay branches.
+//! Sections that mean something: structures with members, unions, enumerations, arrays, chains of typedefs, variables, labels, overlay branches, units.
 use crate::{
     blocks::{TYPES, some_fund_type, some_location, some_subscripts, some_type_block, spoiled},
     sections::{Maker, Rng, Writer},
@@ -61,6 +61,7 @@ fn fields_of(tag: u16) -> &'static [(Field, usize)] {
         0x0a => &[(Name, 95), (LowPc, 95)],
         0x4080 => &[(OverlayName, 95), (OverlayId, 95), (LowPc, 95), (HighPc, 95), (Member, 50), (Name, 20)],
         0x05 => &[(Name, 70), (Type, 95)],
+        0x11 => &[(Name, 90), (Other, 20)],
         0x15 | 0x06 | 0x14 => &[(Name, 60), (Type, 50)],
         _ => &[(Name, 40), (Type, 30), (Other, 20)],
     }
@@ -320,7 +321,7 @@ impl Shaper {
     }
 
     fn entry(&mut self, d: &mut Draft, data: Endian, levels: usize) {
-        match self.rng().below(100) {
+        match self.rng().below(108) {
             0..20 => self.parent(d, data, 0x13, &[0x0d], levels),
             20..25 => self.parent(d, data, 0x02, &[0x0d, 0x0d, 0x0d, 0x1c, 0x07, 0x16], levels),
             25..35 => self.parent(d, data, 0x17, &[0x0d], levels),
@@ -335,10 +336,11 @@ impl Shaper {
             93..96 => self.parent(d, data, 0x15, &[0x05, 0x05, 0x18], levels),
             96..98 => self.parent(d, data, 0x14, &[0x05, 0x0c, 0x0a, 0x18], levels),
             98 => d.null(data),
-            _ => {
+            99 => {
                 let tag = self.maker.any_tag();
                 self.leaf(d, data, tag);
             }
+            _ => self.leaf(d, data, 0x11),
         }
     }
 
