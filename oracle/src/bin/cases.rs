@@ -149,6 +149,15 @@ impl Cases {
         keys
     }
 
+    /// How many of the rows that are compared stand in a unit, and how many sections have several.
+    fn tally_units(&mut self, info: &DwarfInfo) {
+        let units = info.tags.values().filter(|tag| tag.kind == TagKind::CompileUnit).count();
+        let outside = info.tags.values().take_while(|tag| tag.kind != TagKind::CompileUnit).count();
+        self.add("rows of sections that are read", info.tags.len() as u64);
+        self.add("rows in a unit", (info.tags.len() - outside) as u64);
+        self.add("sections with more than one unit", (units > 1) as u64);
+    }
+
     fn section(&mut self, class: &str, bytes: &[u8], settings: Settings) -> io::Result<()> {
         let (body, info) = answers::section(bytes, settings);
         let read = if info.is_ok() { "read" } else { "refused or over the limits" };
@@ -161,6 +170,7 @@ impl Cases {
         }
         let mut group = vec![(kind::SECTION, body)];
         if let Ok(info) = info {
+            self.tally_units(&info);
             for key in self.asked_keys(&info) {
                 self.ask_row(&mut group, &info, key);
             }
