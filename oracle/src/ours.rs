@@ -5,8 +5,7 @@ use crate::{
 };
 
 /// Words of a row (key, kind, flags, first attribute, number of attributes, key of its unit) and of an attribute (number, place of its value).
-pub const ROW: usize = 6;
-pub const ATTRIBUTE: usize = 2;
+pub use capbeacon::words::{ATTR_WIDTH as ATTRIBUTE, ROW_WIDTH as ROW};
 
 unsafe extern "C" {
     fn capbeacon_count_debug_section(

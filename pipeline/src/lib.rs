@@ -28,6 +28,12 @@ pub use error::{Error, Needed};
 pub use section::{Attribute, Entry, Flags, Layout, Member, Place, Section, Structure, Unit, Value};
 pub use settings::{Endian, Producer, Roles, Settings};
 
+/// The words of a row and of an attribute, for what calls the archive's functions itself.
+#[doc(hidden)]
+pub mod words {
+    pub use crate::raw::{ATTR_WIDTH, ROW_WIDTH};
+}
+
 /// The offset that a location block says: CONST n, ADD; any other block is refusal 17.
 ///
 /// ```
