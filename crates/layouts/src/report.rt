@@ -353,6 +353,17 @@ struct Unit {
     name: Extent,
 }
 
+// A unit without a name; also what stands for no unit.
+fn unnamed(key: u32) -> Unit {
+    Unit {
+        key,
+        name: Extent {
+            place: 0,
+            length: 0,
+        },
+    }
+}
+
 // The unit of that key: the last one, or it is looked up.
 fn unit_named(
     s: &[u8],
@@ -381,13 +392,7 @@ fn unit_named(
         NAME,
     ) {
         PartPlace::At(name) => Unit { key, name },
-        _ => Unit {
-            key,
-            name: Extent {
-                place: 0,
-                length: 0,
-            },
-        },
+        _ => unnamed(key),
     }
 }
 
@@ -494,14 +499,10 @@ fn report_structures(
 ) {
     let mut buffer = [0u8; 4096];
     let mut room = child_room();
-    let unit = Unit {
-        key: NO_UNIT,
-        name: Extent {
-            place: 0,
-            length: 0,
-        },
+    let mut told = Told {
+        used: 0,
+        unit: unnamed(NO_UNIT),
     };
-    let mut told = Told { used: 0, unit };
     let mut k: u32 = 0;
     while k < n {
         let structure = structure_at(structures, k);
