@@ -3,9 +3,11 @@ use crate::row::Row;
 use crate::row::row_at;
 use crate::store::put_unit;
 use format::tag_kind::COMPILE_UNIT;
+ghost use Prim.Native.Nat.{_*_, _≤_};
 ghost use mathlib.Core.Path.{_≡_};
+ghost use lib.ListN.{length};
 ghost use lib.Seq.{sets};
-ghost use Rattle.tables.specs.Row.{rowsFrom, rowsWords};
+ghost use Rattle.tables.specs.Row.{rowWidth, rowsFrom, rowsWords};
 ghost use Rattle.tables.specs.Unit.{noUnit, unitOf, unitsHold, withUnits};
 
 // The mark for none. Every row's key is below it.
@@ -23,7 +25,7 @@ pub fn unit_of(before: u32, row: Row) -> u32
 }
 
 // Has each of the table's n rows its unit?
-pub fn units_hold(rows: &[u32], n: usize) -> bool
+pub(crate) fn units_hold(rows: &[u32], n: usize) -> bool
     ensures { λ r. ⌜ r ≡ unitsHold (now (rows .entry)) 0 n noUnit ⌝ }
 {
     let mut unit = NO_UNIT;
@@ -39,8 +41,9 @@ pub fn units_hold(rows: &[u32], n: usize) -> bool
     true
 }
 
-// Each of the table's n rows gets its unit.
+// Each of the table's n rows, which are all there, gets its unit.
 pub fn put_units(rows: &mut [u32], n: usize)
+    requires { ⌜ n * rowWidth ≤ length (now rows) ⌝ }
     ensures { λ _. ⌜ now (rows .exit) ≡ sets (now (rows .entry)) 0 (rowsWords (withUnits (rowsFrom (now (rows .entry)) 0 n))) ⌝ }
 {
     let mut unit = NO_UNIT;

@@ -6,7 +6,7 @@ use mathlib.Core.Path.{_≡_, refl, sym, ap, ap₂, _∙_, subst}
 use mathlib.Core.Bool.{Bool, true, false}
 use mathlib.Core.List.{List, [], _∷_}
 use lib.ListN.{length}
-use lib.Seq.{sets}
+use lib.Seq.{sets, length-sets}
 use lib.Dec.{leb, ltb}
 use borrow.Author.Tests.{le-leb, lt-leb, lt-ltb, le-ltb, ltb-true}
 use Rattle.lent.specs.Outcome.{Outcomes, BothGiven, outcomes}
@@ -158,13 +158,17 @@ module _ (settings : Settings) (vendors sizes s : List ℕ) where
       fits-as : {b : Bool} → fitting c (length rows) (length attrs) ≡ b → fitting (countsOf (told .all)) (length rows) (length attrs) ≡ b
       fits-as f = ap (λ (x : Counts). fitting x (length rows) (length attrs)) (told .counts-are) ∙ f
 
+      -- what was counted is what reading stored
+      told-stored : {r : walk.the-data} {rows₁ attrs₁ : List ℕ} → WalkRead start (wholeWalk settings vendors s) r rows rows₁ attrs attrs₁
+          → Stored start (told .all .rows) (told .all .attrs) (told .all .stopped) rows rows₁ attrs attrs₁
+      told-stored {rows₁ = rows₁} {attrs₁} w =
+          subst (λ (v : Said Entries). WalkStores start v rows rows₁ attrs attrs₁) (section-gave (told .is) .2) (w .stores)
+
       pub read-done : {r : walk.the-data} {rows₁ rows₂ attrs₁ : List ℕ} → fitting c (length rows) (length attrs) ≡ true
           → WalkRead start (wholeWalk settings vendors s) r rows rows₁ attrs attrs₁ → rows₂ ≡ sets rows₁ 0 (rowsWords (withUnits (rowsFrom rows₁ 0 (c .rows))))
           → BothGiven (readDebugSection settings vendors sizes s rows attrs) (gives c) rows₂ attrs₁
       read-done {r} {rows₁} {rows₂} {attrs₁} f w u =
-          let all : Stored start (told .all .rows) (told .all .attrs) (told .all .stopped) rows rows₁ attrs attrs₁ =
-          subst (λ (v : Said Entries). WalkStores start v rows rows₁ attrs attrs₁) (section-gave (told .is) .2) (w .stores)
-          in
+          let all : Stored start (told .all .rows) (told .all .attrs) (told .all .stopped) rows rows₁ attrs attrs₁ = told-stored w in
           let count : c .rows ≡ length (told .all .rows) = ap (λ (x : Counts). x .rows) (sym (told .counts-are)) in
           outcome (read-stored (told .is) (fits-as f))
           (record {
@@ -172,6 +176,15 @@ module _ (settings : Settings) (vendors sizes s : List ℕ) where
             first-is = rw count at u ∙ units-over rows (told .all .rows) (fits-all (countsOf (told .all)) (length rows) (length attrs) (fits-as f) .rows-lent) (all .row-words);
             second-is = all .attr-words;
           })
+
+      -- the rows that were read are all there to be told their units
+      pub units-fit : {r : walk.the-data} {rows₁ attrs₁ : List ℕ} → fitting c (length rows) (length attrs) ≡ true
+          → WalkRead start (wholeWalk settings vendors s) r rows rows₁ attrs attrs₁ → c .rows * rowWidth ≤ length rows₁
+      units-fit {rows₁ = rows₁} {attrs₁} f w =
+          let all : Stored start (told .all .rows) (told .all .attrs) (told .all .stopped) rows rows₁ attrs attrs₁ = told-stored w in
+          let room = fits-all c (length rows) (length attrs) f in
+          let same : length rows₁ ≡ length rows = ap length (all .row-words) ∙ length-sets rows (start .rows * rowWidth) (rowsWords (told .all .rows)) in
+          omega (arith, room .rows-lent)
 
       pub read-room : fitting c (length rows) (length attrs) ≡ false
           → BothGiven (readDebugSection settings vendors sizes s rows attrs) (wanting (c .rows ∷ c .attrs ∷ [])) rows attrs

@@ -39,14 +39,6 @@ only-put-attr-attrs κs a z z′ e e′ p q = cc
 pub only-unit-of : OneAnswer unit.unit_of.Kinds.ps unit.unit_of.Kinds.r unit.unit_of.Reads.Post
 only-unit-of κs a z z′ e e′ p q = cc
 
--- `unit::units_hold`
-pub only-units-hold : OneAnswer unit.units_hold.Kinds.ps unit.units_hold.Kinds.r unit.units_hold.Reads.Post
-only-units-hold κs a z z′ e e′ p q = cc
-
--- `unit::put_units`
-pub only-put-units-rows : OneRoom unit.put_units.Kinds.ps unit.put_units.Kinds.r (λ κs e. now (e .0)) unit.put_units.Reads.Post
-only-put-units-rows κs a z z′ e e′ p q = cc
-
 -- `holds::table_holds`
 pub only-table-holds : OneAnswer holds.table_holds.Kinds.ps holds.table_holds.Kinds.r holds.table_holds.Reads.Post
 only-table-holds κs a z z′ e e′ p q = cc

@@ -1,4 +1,4 @@
-use Rattle.entries.proofs.Laws.Section.{countable, countable-short, read-done, read-room, read-refused, read-unread}
+use Rattle.entries.proofs.Laws.Section.{countable, countable-short, read-done, units-fit, read-room, read-refused, read-unread}
 use Rattle.entries.specs.Section.{saidSection}
 use borrow.Author.Needs.{needs}
 use mathlib.Core.Path.{sym, _∙_}
@@ -7,6 +7,10 @@ use Rattle.entries.proofs.section.read_debug_section.Tie as tie
 
 read-whole-requires : tie.Need-read-whole-requires
 read-whole-requires c κs = countable-short _ _ _ _ (countable _ _ _ _ (c .before .before .before .before .before .before .before .count-debug-section .ensures) (c .before .before .before .before .before .counts .given .1))
+
+put-units-requires : tie.Need-put-units-requires
+put-units-requires c κs =
+    units-fit _ _ _ _ _ _ (countable _ _ _ _ (c .before .before .before .before .before .before .before .before .before .before .before .before .before .count-debug-section .ensures) (c .before .before .before .before .before .before .before .before .before .before .before .counts .given .1)) (sym (c .before .before .before .before .before .before .before .before .before .fits-tables .ensures) ∙ c .before .before .before .before .before .before .before .before .if1 .taken) (c .before .before .before .before .before .read-whole .ensures)
 
 returns : tie.Need-returns
 unfolding saidSection
@@ -33,7 +37,7 @@ read-debug-section-spec =
     (λ c. search needs)
     (λ c κs. search needs)
     read-whole-requires
-    (λ c κs. search needs)
+    put-units-requires
     (λ c. search needs)
     (λ c. search needs)
     (λ c. search needs)
