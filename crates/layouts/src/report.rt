@@ -7,10 +7,10 @@
 //       hole 4 4
 //       member 8 16 load
 //
-// or `refused N at KEY` in place of the size. A unit is told by its key and its name, the source file; `unit -` where there is none. Numbers are decimal but for keys; `member`, `hole` and `padding` are followed by offset and size in bytes. Where
-// a base or another child that is no member may take bytes, a stretch without members is `no member`. A structure without ByteSize has `largest end` in place
-// of `size`, or is `declared only` where it has no children either. A section that is refused has one line alone, `refused N at KEY`; where a field could not be
-// read or was not known ` byte PLACE` follows, its first byte, written as keys are.
+// or `refused N at KEY` in place of the size. A unit is told by its key and its name, the source file; `unit -` where there is none. Numbers are decimal but for
+// keys; `member`, `hole` and `padding` are followed by offset and size in bytes. Where a base or another child that is no member may take bytes, a stretch without
+// members is `no member`. A structure without ByteSize has `largest end` in place of `size`, or is `declared only` where it has no children either. A section that
+// is refused has one line alone, `refused N at KEY`; where a field could not be read or was not known ` byte PLACE` follows, its first byte, written as keys are.
 use crate::gaps::Gap;
 use crate::gaps::Stretch;
 use crate::gaps::gap_between;

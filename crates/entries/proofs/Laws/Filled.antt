@@ -20,7 +20,7 @@ use Rattle.tables.specs.Row.{rowsWords, attrsWords, rowAt, attrAt, rowsFrom, at
 use Rattle.tables.proofs.Laws.Row.{rows-back, attrs-back}
 use Rattle.tables.specs.Unit.{noUnit, unitOf, inUnit, unitsFrom, withUnits, UnitIs, unitsHold}
 use Rattle.tables.proofs.Laws.Unit.{units-length, units-pass}
-use Rattle.tables.specs.Holds.{runHolds, rowHolds, rowsHold, tableHolds, TableHolds}
+use Rattle.tables.specs.Holds.{runHolds, rowHolds, rowsHold, tableHolds}
 use Rattle.tables.proofs.Laws.Holds.{row-passes, table-units, Fits, fits-all}
 use Rattle.tables.proofs.Laws.Held.{attr-passes, held-unit}
 use Rattle.tables.specs.declared.row.Row.{Row}

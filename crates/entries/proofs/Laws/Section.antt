@@ -22,8 +22,8 @@ use Rattle.tables.specs.Table.{lentRows}
 use Rattle.lent.proofs.Laws.Stores.{sets-over}
 use Rattle.tables.specs.Row.{rowWidth, attrWidth, rowsWords, attrsWords, rowsFrom}
 use Rattle.tables.specs.Unit.{noUnit, withUnits}
-use Rattle.tables.proofs.Laws.Row.{rows-back}
-use Rattle.tables.proofs.Laws.Unit.{units-length, words-long}
+use Rattle.tables.proofs.Laws.Row.{rows-long, rows-back}
+use Rattle.tables.proofs.Laws.Unit.{units-length}
 use Rattle.tables.proofs.Laws.Holds.{fits-all}
 use Rattle.tables.specs.declared.row.Row.{Row}
 use Rattle.tables.specs.declared.row.Counts.{Counts}
@@ -64,8 +64,8 @@ units-over : (t : List ℕ) (rs : List Row) {t₁ : List ℕ} → length rs * ro
     → sets t₁ 0 (rowsWords (withUnits (rowsFrom t₁ 0 (length rs)))) ≡ sets t 0 (rowsWords (withUnits rs))
 units-over t rs h p =
     let many : length (withUnits rs) ≡ length rs = units-length noUnit rs in
-    let first : length (rowsWords rs) ≡ length rs * rowWidth = words-long rs in
-    let second : length (rowsWords (withUnits rs)) ≡ length (withUnits rs) * rowWidth = words-long (withUnits rs) in
+    let first : length (rowsWords rs) ≡ length rs * rowWidth = rows-long rs in
+    let second : length (rowsWords (withUnits rs)) ≡ length (withUnits rs) * rowWidth = rows-long (withUnits rs) in
     rw (p, rows-back t rs h) (sets-over t 0 (rowsWords rs) (rowsWords (withUnits rs)) (omega arith))
 
 -- ---- what a section gave

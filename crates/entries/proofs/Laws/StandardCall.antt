@@ -1,8 +1,7 @@
 -- The public call against the standard, over its own contract: a section that the standard wrote is read into the tables with its values; and a section that
 -- was read, and is exact, is one that the standard wrote.
 use Prim.Native.Nat.{ℕ, _*_, _<_}
-use native.Mathlib.Omega.{arith}
-use mathlib.Core.Path.{_≡_, refl, sym, ap, ap₂, _∙_}
+use mathlib.Core.Path.{_≡_, sym, ap, ap₂, _∙_}
 use mathlib.Core.Bool.{true, false}
 use mathlib.Core.List.{List, [], _∷_}
 use lib.ListN.{length}
@@ -19,9 +18,10 @@ use Rattle.format.specs.Limits.{sectionLimit, erasedLimit}
 use Rattle.format.specs.Said.{Said, gives, must, _>>_}
 use Rattle.format.specs.Settings.{settingsHold}
 use Rattle.format.specs.declared.settings.Settings.{Settings}
-use Rattle.tables.specs.Row.{rowWidth, attrWidth, attrWords, rowsWords, attrsWords, rowsFrom, attrsFrom}
+use Rattle.tables.specs.Row.{rowWidth, attrWidth, rowsWords, attrsWords, rowsFrom, attrsFrom}
 use Rattle.tables.specs.Unit.{noUnit, unitOf, inUnit, unitsFrom, withUnits}
-use Rattle.tables.proofs.Laws.Unit.{units-length, words-long}
+use Rattle.tables.proofs.Laws.Row.{rows-long, attrs-long}
+use Rattle.tables.proofs.Laws.Unit.{units-length}
 use Rattle.tables.proofs.Laws.Holds.{Fits, fits-all}
 use Rattle.tables.specs.declared.row.Row.{Row}
 use Rattle.tables.specs.declared.row.Attr.{Attr}
@@ -36,13 +36,6 @@ use Rattle.entries.proofs.Laws.Filled.{answer-read}
 use Rattle.entries.proofs.Laws.StandardRead.{standard-read, standard-values}
 use Rattle.entries.proofs.Laws.StandardWritten.{standard-written}
 use Rattle.entries.proofs.section.read_debug_section as call
-
--- ---- words
-
-attrs-long : (xs : List Attr) → length (attrsWords xs) ≡ length xs * attrWidth
-unfolding attrsWords attrWords
-attrs-long [] = refl
-attrs-long (a ∷ xs) = let rest : length (attrsWords xs) ≡ length xs * attrWidth = attrs-long xs in omega arith
 
 -- ---- steps of the definition
 
@@ -101,7 +94,7 @@ module _ (κs : Lfts 5) (a : Dens κs call.Kinds.ps) (z : resT call.Kinds.r κs 
       let room : Fits (counts (length rs) (length xs)) (length (c .rows)) (length (c .attrs)) = fits-all (counts (length rs) (length xs)) (length (c .rows)) (length (c .attrs)) (lent .fits) in
       record {
         says = given .answer-is ∙ ap (λ (o : Outcomes (Said Counts) ℕ ℕ). o .answer) stored ∙ ap (λ (n : ℕ). gives (counts n (length xs))) (sym many);
-        rows-filled = sets-filled (rowsWords rs) (length rs * rowWidth) (c .rows) (words-long rs) (room .rows-lent)
+        rows-filled = sets-filled (rowsWords rs) (length rs * rowWidth) (c .rows) (rows-long rs) (room .rows-lent)
             (given .first-is ∙ ap (λ (o : Outcomes (Said Counts) ℕ ℕ). o .first) stored);
         attrs-filled = sets-filled (attrsWords xs) (length xs * attrWidth) (c .attrs) (attrs-long xs) (room .attrs-lent)
             (given .second-is ∙ ap (λ (o : Outcomes (Said Counts) ℕ ℕ). o .second) stored);

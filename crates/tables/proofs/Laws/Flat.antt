@@ -1,5 +1,5 @@
 -- Things of so many words each, one after the other in a table: what holds of rows and of attributes alike. `Row` says it of each.
-use Prim.Native.Nat.{ℕ, zero, suc, _+_, _-_, _*_, _≤_, _<_}
+use Prim.Native.Nat.{ℕ, zero, suc, _+_, _*_, _≤_, _<_}
 use native.Mathlib.Nat.{le-refl, add-mul, zero-mul, suc-mul}
 use native.Mathlib.Numerals.{add-one}
 use native.Mathlib.Omega.{arith}
@@ -33,7 +33,8 @@ module _ {A : Type 0} (kind : Kind A) where
   one-more : (i : ℕ) → (i + 1) * kind .width ≡ i * kind .width + kind .width
   one-more i = rw (add-one i, suc-mul i (kind .width))
 
-  length-all : (xs : List A) → length (kind .all xs) ≡ length xs * kind .width
+  -- a list takes so many words
+  pub length-all : (xs : List A) → length (kind .all xs) ≡ length xs * kind .width
   length-all [] = ap length (kind .all-none) ∙ sym (zero-mul (kind .width))
   length-all (x ∷ xs) =
       ap length (kind .all-more x xs) ∙ length-append (kind .words x) (kind .all xs)

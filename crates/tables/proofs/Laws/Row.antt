@@ -13,7 +13,7 @@ use Rattle.numbers.specs.declared.Endian.the-variants.{Big, Little}
 use Rattle.numbers.specs.declared.Endian.{Endian}
 use Rattle.tables.specs.Row.{endsOf, rowWidth, attrWidth, rowWords, attrWords, rowsWords, attrsWords, rowAt, attrAt, rowsFrom, attrsFrom, putRow, putUnit, putAttr, endianOf}
 use Rattle.lent.proofs.Laws.Stores.{sets-out}
-use Rattle.tables.proofs.Laws.Flat.{Kind, runs-append, all-back}
+use Rattle.tables.proofs.Laws.Flat.{Kind, length-all, runs-append, all-back}
 use Rattle.tables.specs.declared.row.Row.{Row}
 use Rattle.tables.specs.declared.row.Attr.{Attr}
 
@@ -137,6 +137,10 @@ attrKind =
 
 -- the rows
 
+pub rows-long : (rs : List Row) → length (rowsWords rs) ≡ length rs * rowWidth
+unfolding rowKind
+rows-long rs = length-all rowKind rs
+
 pub rows-append : (t : List ℕ) (i : ℕ) (xs ys : List Row)
     → sets t (i * rowWidth) (rowsWords (xs ++ ys)) ≡ sets (sets t (i * rowWidth) (rowsWords xs)) ((i + length xs) * rowWidth) (rowsWords ys)
 unfolding rowKind
@@ -147,6 +151,10 @@ unfolding rowKind
 rows-back t xs h = all-back rowKind t 0 xs (omega arith)
 
 -- the attributes
+
+pub attrs-long : (xs : List Attr) → length (attrsWords xs) ≡ length xs * attrWidth
+unfolding attrKind
+attrs-long xs = length-all attrKind xs
 
 pub attrs-append : (t : List ℕ) (i : ℕ) (xs ys : List Attr)
     → sets t (i * attrWidth) (attrsWords (xs ++ ys)) ≡ sets (sets t (i * attrWidth) (attrsWords xs)) ((i + length xs) * attrWidth) (attrsWords ys)

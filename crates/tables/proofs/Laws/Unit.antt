@@ -1,12 +1,12 @@
 -- What follows from `Unit`: for each way that the code comes to an answer; that the test passes exactly where each row's field holds its unit; and that a
 -- unit is one key alone.
 use Prim.Native.Nat.{ℕ, zero, suc, _+_, _-_, _*_, _≤_, _<_}
-use native.Mathlib.Nat.{le-refl, le-trans}
+use native.Mathlib.Nat.{le-refl}
 use native.Mathlib.Decide.{ℕ-discrete, decLt}
 use native.Mathlib.Numerals.{add-one, add-two, add-three, add-four, add-five}
 use native.Mathlib.Omega.{arith}
 use mathlib.Core.Path.{_≡_, refl, sym, ap, ap₂, subst, _∙_}
-use mathlib.Core.Bool.{Bool, true, false, _&&_}
+use mathlib.Core.Bool.{true, false, _&&_}
 use mathlib.Core.List.{List, [], _∷_}
 use lib.ListN.{length, length-set}
 use lib.Seq.{sets, set-getD, getD-set-other}
@@ -113,11 +113,6 @@ unfolding unitsFrom
 units-length before [] = refl
 units-length before (r ∷ rs) = ap suc (units-length (unitOf before r) rs)
 
-pub words-long : (rs : List Row) → length (rowsWords rs) ≡ length rs * rowWidth
-unfolding rowsWords rowWords
-words-long [] = refl
-words-long (r ∷ rs) = let rest : length (rowsWords rs) ≡ length rs * rowWidth = words-long rs in omega arith
-
 -- they pass the test
 pub units-pass : (t : List ℕ) (i before : ℕ) (rs : List Row) → rowsFrom t i (length rs) ≡ unitsFrom before rs → unitsHold t i (length rs) before ≡ true
 unfolding rowsFrom unitsFrom unitsHold unitOf inUnit
@@ -165,7 +160,8 @@ module _ (rows : List ℕ) where
   unit-one i (none never) (last k l q behind) = absurd (never k l q)
   unit-one i (none never) (none neither) = refl
 
-  pub units-are : (n i before : ℕ) → Before i before → unitsHold rows i n before ≡ true → (k : ℕ) → i ≤ k → k < i + n → UnitIs rows k (rowAt rows k .unit)
+  -- where the test passes, each field holds its row's unit
+  units-are : (n i before : ℕ) → Before i before → unitsHold rows i n before ≡ true → (k : ℕ) → i ≤ k → k < i + n → UnitIs rows k (rowAt rows k .unit)
   unfolding unitsHold
   units-are zero i before b h k l m = absurd (omega arith)
   units-are (suc n) i before b h k l m =
@@ -177,7 +173,7 @@ module _ (rows : List ℕ) where
       ]
 
   -- and where each field holds it, the test passes
-  pub units-hold : (n i before : ℕ) → Before i before → ((k : ℕ) → i ≤ k → k < i + n → UnitIs rows k (rowAt rows k .unit)) → unitsHold rows i n before ≡ true
+  units-hold : (n i before : ℕ) → Before i before → ((k : ℕ) → i ≤ k → k < i + n → UnitIs rows k (rowAt rows k .unit)) → unitsHold rows i n before ≡ true
   unfolding unitsHold
   units-hold zero i before b each = refl
   units-hold (suc n) i before b each =
