@@ -2,6 +2,7 @@
 -- the counts that are needed, with 4 to 6 the byte that was wanted (document 02, K2), else nothing. Every enum that is an answer has one definition,
 -- `said..`, that gives this for each of its cases, and promises are made of it.
 use Prim.Native.Nat.{ℕ}
+use mathlib.Core.Path.{_≡_}
 use mathlib.Core.Bool.{Bool, cond}
 use mathlib.Core.List.{List, [], _∷_}
 use lib.Seq.{sets}
@@ -52,6 +53,10 @@ unfoldable pub _>>_ : {A B : Type 0} → Said A → Said B → Said B
 unfoldable pub placed : {A : Type 0} → ℕ → Said A → Said A
 placed place (gives x) = gives x
 placed place (refuses number elsewhere told) = refuses number place told
+
+-- a number that this is not refused by, wherever and whatever is told besides (document 02, K8)
+pub record Never {A : Type 0} (number : ℕ) (d : Said A) : Type 0 where
+  pub never : (place : ℕ) (told : List ℕ) → d ≡ refuses number place told → ⊥
 
 -- ---- lent room: a refusal, 8 too, leaves it as it was
 

@@ -1,4 +1,5 @@
--- Laws. `Product` to `Stay`: for each way that the code comes to an answer. `Back` and `Only`: no second answer fits.
+-- Laws. `Product` to `Stay`: for each way that the code comes to an answer. `Never`: no size is refused by 14. `Back` and `Only`: no
+-- second answer fits.
 pub mod Product
 pub mod Walking
 pub mod Prepare
@@ -7,5 +8,6 @@ pub mod Noted
 pub mod Kept
 pub mod Size
 pub mod Stay
+pub mod Never
 pub mod Back
 pub mod Only

@@ -1,0 +1,97 @@
+-- An attribute's number says its form, so with settings that hold no value has another form than the record expects.
+use Prim.Native.Nat.{ℕ, _%_}
+use mathlib.Core.Path.{_≡_, refl, sym, ap, _∙_}
+use mathlib.Core.Bool.{Bool, true, false, not, _&&_, _||_, cond, false≢true}
+use mathlib.Core.List.{List, [], _∷_}
+use lib.ListN.{length}
+use lib.Dec.{leb, eqb}
+use borrow.Author.Tests.{eqb-true}
+use Rattle.numbers.proofs.Laws.Tests.{cond-all}
+use Rattle.format.specs.Lookup.{Line, lookup}
+use Rattle.format.specs.FormKind.{forms, formOf, formNumber, isForm}
+use Rattle.format.specs.FundType.{fundTypes}
+use Rattle.format.specs.Limits.{vendorLimit}
+use Rattle.format.specs.Settings.{vendorsHold, roleHolds, roleForm, rolesDiffer, rolesHold, plays, settingsHold}
+use Rattle.format.proofs.Laws.Computed.{and-left, and-right}
+use Rattle.format.proofs.Laws.Form.{low-bits, own-form}
+use Rattle.format.specs.declared.form_kind.FormKind.{FormKind}
+use Rattle.format.specs.declared.form_kind.FormKind.the-variants.{Data4, String}
+use Rattle.format.specs.declared.settings.Roles.{Roles}
+use Rattle.format.specs.declared.settings.Settings.{Settings}
+use Rattle.records.specs.Scan.{expectedForms, expected, expectedForm}
+
+-- ---- by number
+
+-- each line's number has the line's form
+unfoldable linesFormed : List (Line FormKind) → Bool
+linesFormed [] = true
+linesFormed (l ∷ ls) = isForm (l .meaning) (l .number) && linesFormed ls
+
+looked-up : (ls : List (Line FormKind)) → linesFormed ls ≡ true → (number : ℕ) → isForm (lookup ls (formOf number) number) number ≡ true
+unfolding linesFormed lookup
+looked-up [] t number = own-form number
+looked-up (l ∷ ls) t number =
+    cond-all (λ (form : FormKind). isForm form number ≡ true) (eqb (l .number) number)
+    (λ same. ap (isForm (l .meaning)) (sym (eqb-true (l .number) number same)) ∙ and-left (isForm (l .meaning) (l .number)) (linesFormed ls) t)
+    (λ other. looked-up ls (and-right (isForm (l .meaning) (l .number)) (linesFormed ls) t) number)
+
+by-number : (number : ℕ) → isForm (expected number) number ≡ true
+unfolding expected expectedForms linesFormed isForm formNumber formOf lookup forms
+by-number number = looked-up expectedForms refl number
+
+-- ---- by role
+
+-- an attribute that plays a role has the role's form
+role-formed : (form : FormKind) (role number : ℕ) → roleForm (formNumber form) role ≡ true → plays role number ≡ true → isForm form number ≡ true
+unfolding plays roleForm
+role-formed form role number held played =
+    let is : number ≡ role = eqb-true number role (and-right (not (eqb role 0)) (eqb number role) played) in
+    low-bits form number
+    (ap (λ (k : ℕ). k % 16) is ∙ eqb-true (role % 16) (formNumber form) (there (eqb role 0) (and-left (not (eqb role 0)) (eqb number role) played) held))
+  where
+    there : {b : Bool} (absent : Bool) → not absent ≡ true → (absent || b) ≡ true → b ≡ true
+    there false t h = h
+    there true t h = absurd (false≢true t)
+
+module _ (vendors : List ℕ) (roles : Roles) (hold : rolesHold vendors roles ≡ true) where
+  -- the forms of the three roles that are read
+  abbrev names : Bool
+  names = roleForm 8 (roles .mangled) && roleForm 8 (roles .«overlay_name»)
+
+  abbrev listed : Bool
+  listed =
+      roleHolds vendors (roles .«global_ref») && roleHolds vendors (roles .mangled) && roleHolds vendors (roles .«overlay_name»)
+      && roleHolds vendors (roles .«overlay_id»)
+
+  abbrev apart : Bool
+  apart =
+      rolesDiffer (roles .«global_ref») (roles .mangled) && rolesDiffer (roles .«global_ref») (roles .«overlay_name»)
+      && rolesDiffer (roles .«global_ref») (roles .«overlay_id») && rolesDiffer (roles .mangled) (roles .«overlay_name»)
+      && rolesDiffer (roles .mangled) (roles .«overlay_id») && rolesDiffer (roles .«overlay_name») (roles .«overlay_id»)
+
+  forms-hold : (names && roleForm 6 (roles .«overlay_id»)) ≡ true
+  unfolding rolesHold
+  forms-hold =
+      and-right listed (names && roleForm 6 (roles .«overlay_id»)) (and-left (listed && (names && roleForm 6 (roles .«overlay_id»))) apart hold)
+
+  pub roles-formed : (number : ℕ) → isForm (expectedForm roles number) number ≡ true
+  unfolding expectedForm formNumber
+  roles-formed number =
+      let both : names ≡ true = and-left names (roleForm 6 (roles .«overlay_id»)) forms-hold in
+      let P : FormKind → Type 0 = λ form. isForm form number ≡ true in
+      cond-all P (plays (roles .mangled) number)
+      (λ played. role-formed String (roles .mangled) number (and-left (roleForm 8 (roles .mangled)) (roleForm 8 (roles .«overlay_name»)) both) played)
+      (λ other. cond-all P (plays (roles .«overlay_name») number)
+      (λ played. role-formed String (roles .«overlay_name») number (and-right (roleForm 8 (roles .mangled)) (roleForm 8 (roles .«overlay_name»)) both) played)
+      (λ other. cond-all P (plays (roles .«overlay_id») number)
+      (λ played. role-formed Data4 (roles .«overlay_id») number (and-right names (roleForm 6 (roles .«overlay_id»)) forms-hold) played)
+      (λ other. by-number number)))
+
+-- the theorem: with settings that hold, an attribute of any number has the form that is expected of it
+pub expected-form : (settings : Settings) (vendors sizes : List ℕ) → settingsHold settings vendors sizes ≡ true
+    → (number : ℕ) → isForm (expectedForm (settings .roles) number) number ≡ true
+unfolding settingsHold
+expected-form settings vendors sizes hold =
+    let lists : Bool = leb (length vendors) vendorLimit && vendorsHold 0 vendors in
+    let roles : Bool = rolesHold vendors (settings .roles) in
+    roles-formed vendors (settings .roles) (and-right lists roles (and-left (lists && roles) (eqb (length sizes) (length fundTypes)) hold))
