@@ -1,26 +1,19 @@
 -- The scan over a row's attributes, one for all records (document 01, 'Types, records, sizes' and its refusal numbers): attributes in their order,
--- each of which the record must take (13), in the form that is expected (14), and whose type or location must be one (17, 18). The first fault met
--- counts; its place is the row's key.
+-- each of which the record must take (13), and whose type or location must be one (17, 18). The first fault met counts; its place is the row's key.
 use Prim.Native.Nat.{ℕ, zero, suc, _+_, _%_}
 use mathlib.Core.Bool.{Bool, cond, _||_}
-use mathlib.Core.List.{List, [], _∷_}
+use mathlib.Core.List.{List}
 use lib.Dec.{eqb}
 use Rattle.numbers.specs.declared.Endian.{Endian}
-use Rattle.format.specs.Lookup.{Line, _means_, lookup}
-use Rattle.format.specs.FormKind.{formOf, isForm}
-use Rattle.format.specs.AttributeKind.{Location, Name, FundType, ModFundType, UserDefType, ModUDType, ByteSize, BitOffset, BitSize, ElementList}
-use Rattle.format.specs.AttributeKind.{LowPc, HighPc, Member, ContainingType, Specification}
-use Rattle.format.specs.declared.form_kind.FormKind.{FormKind}
-use Rattle.format.specs.declared.form_kind.FormKind.the-variants.{Addr, Ref, Block2, Block4, Data2, Data4, String}
+use Rattle.format.specs.AttributeKind.{Location, FundType, ModFundType, UserDefType, ModUDType}
 use Rattle.format.specs.declared.settings.Roles.{Roles}
-use Rattle.format.specs.Said.{Said, gives, refusal, must, _>>_, placed}
+use Rattle.format.specs.Said.{Said, gives, must, _>>_, placed}
 use Rattle.format.specs.declared.refusal.Reason.the-variants as reason
 use Rattle.attributes.specs.Parts.{blockAt}
 use Rattle.blocks.specs.Location.{processOffset, processAddress}
 use Rattle.blocks.specs.Types.{processType}
 use Rattle.tables.specs.Row.{rowAt, attrAt}
 use Rattle.tables.specs.Row.{endsOf}
-use Rattle.format.specs.Settings.{plays}
 use Rattle.records.specs.Taken.{takes}
 use Rattle.records.specs.declared.taken.Record.{Record}
 use Rattle.records.specs.declared.taken.Record.the-variants as record′
@@ -34,34 +27,6 @@ runOf e rows i = record { first = rowAt rows i .first; count = rowAt rows i .cou
 -- attribute k of the table: a number has 16 bits, and in a table that was tested no word has more
 unfoldable pub attributeAt : List ℕ → ℕ → Attribute
 attributeAt attrs k = record { number = attrAt attrs k .number % 65536; value = attrAt attrs k .value }
-
--- ---- 14: the form that the Rust tests a value for
-
--- by number
-unfoldable pub expectedForms : List (Line FormKind)
-expectedForms =
-    Location means Block2 ∷
-    Name means String ∷
-    ByteSize means Data4 ∷
-    BitOffset means Data2 ∷
-    BitSize means Data4 ∷
-    ElementList means Block4 ∷
-    LowPc means Addr ∷
-    HighPc means Addr ∷
-    Member means Ref ∷
-    ContainingType means Ref ∷
-    Specification means Ref ∷ []
-
--- any other attribute may have its own
-unfoldable pub expected : ℕ → FormKind
-unfolding expectedForms
-expected number = lookup expectedForms (formOf number) number
-
--- the vendor attributes that play a role: two texts and a number
-unfoldable pub expectedForm : Roles → ℕ → FormKind
-expectedForm roles number =
-    cond (plays (roles .mangled) number) String
-    (cond (plays (roles .«overlay_name») number) String (cond (plays (roles .«overlay_id») number) Data4 (expected number)))
 
 -- ---- 17 and 18: what a type or a location says
 
@@ -92,11 +57,10 @@ contentFault r run s a =
 
 -- ---- an attribute, and all of them
 
--- 13 where the record does not take the attribute, 14 where the form is not the expected one, then what the value says
+-- 13 where the record does not take the attribute, then what the value says
 unfoldable pub attributeFault : Roles → Record → Run → List ℕ → Attribute → Said Unit
 attributeFault roles r run s a = do
   must (takes roles r (a .number)) reason.Extra (run .key)
-  must (isForm (expectedForm roles (a .number)) (a .number)) reason.Form (run .key)
   contentFault r run s a
 
 -- the first fault among n attributes from number j of the run on

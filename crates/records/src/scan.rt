@@ -1,8 +1,6 @@
-// The scan over a row's attributes, one for all records: each attribute must be one that the record takes (13), of the form that is expected (14), and say what
-// it means (17, 18).
+// The scan over a row's attributes, one for all records: each attribute must be one that the record takes (13), and say what it means (17, 18).
 use crate::taken::Record;
 use crate::taken::is_special;
-use crate::taken::plays;
 use crate::taken::takes;
 use attributes::decode::Endians;
 use attributes::decode::block2;
@@ -11,9 +9,6 @@ use blocks::location::process_address;
 use blocks::location::process_offset;
 use blocks::types::Typed;
 use blocks::types::process_type;
-use format::form_kind::FormKind;
-use format::form_kind::form_of;
-use format::form_kind::is_form;
 use format::refusal::Reason;
 use format::refusal::Refusal;
 use format::settings::Roles;
@@ -26,10 +21,10 @@ ghost use Prim.Native.Nat.{_-_};
 ghost use Rattle.tables.specs.Inside.Keyed.{refusedAt};
 ghost use Rattle.blocks.specs.Location.{saidLocated};
 ghost use Rattle.blocks.specs.Types.{saidTyped};
-ghost use Rattle.records.specs.Scan.{runOf, attributeAt, expected, expectedForm, isType, locationOf, faultOf, contentFault};
+ghost use Rattle.records.specs.Scan.{runOf, attributeAt, isType, locationOf, faultOf, contentFault};
 ghost use Rattle.records.specs.Inside.Scan.{saidFault};
 ghost use Rattle.records.specs.Scan.{attributeFault, faultAt, faultsFrom};
-ghost use Rattle.records.specs.Inside.Scan.{saidScan, formFault, scanFrom, Plain};
+ghost use Rattle.records.specs.Inside.Scan.{saidScan, scanFrom, Plain};
 
 // A row's attributes: where they begin, how many there are; its key; the endiannesses.
 pub struct Run {
@@ -100,41 +95,6 @@ pub fn placed(why: Refusal, key: u32) -> Refusal
     refused(reason, key)
 }
 
-// The form that the Rust tests a value for, by the attribute's number; any other attribute may have its own.
-fn expected(number: u16) -> FormKind
-    ensures { λ r. ⌜ r ≡ expected number ⌝ }
-{
-    match number {
-        0x23 => FormKind::Block2,
-        0x38 => FormKind::String,
-        0xb6 => FormKind::Data4,
-        0xc5 => FormKind::Data2,
-        0xd6 => FormKind::Data4,
-        0xf4 => FormKind::Block4,
-        0x111 => FormKind::Addr,
-        0x121 => FormKind::Addr,
-        0x142 => FormKind::Ref,
-        0x1d2 => FormKind::Ref,
-        0x2b2 => FormKind::Ref,
-        _ => form_of(number),
-    }
-}
-
-// The same with the vendor attributes that play a role.
-fn expected_form(roles: Roles, number: u16) -> FormKind
-    ensures { λ r. ⌜ r ≡ expectedForm roles number ⌝ }
-{
-    if plays(roles.mangled, number) {
-        FormKind::String
-    } else if plays(roles.overlay_name, number) {
-        FormKind::String
-    } else if plays(roles.overlay_id, number) {
-        FormKind::Data4
-    } else {
-        expected(number)
-    }
-}
-
 pub(crate) fn is_type(number: u16) -> bool
     ensures { λ r. ⌜ r ≡ isType number ⌝ }
 {
@@ -193,17 +153,6 @@ fn content_fault(s: &[u8], which: Record, run: Run, attribute: Attribute) -> Fau
     }
 }
 
-fn form_fault(s: &[u8], roles: Roles, which: Record, run: Run, attribute: Attribute) -> Fault
-    ensures { λ r. ⌜ saidFault r ≡ formFault roles which run (now (s .entry)) attribute ⌝ }
-{
-    let number = attribute.number;
-    if is_form(expected_form(roles, number), number) {
-        content_fault(s, which, run, attribute)
-    } else {
-        Fault::Refused(refused(Reason::Form, run.key))
-    }
-}
-
 // An attribute of a record.
 pub(crate) fn attribute_fault(
     s: &[u8],
@@ -215,7 +164,7 @@ pub(crate) fn attribute_fault(
     ensures { λ r. ⌜ saidFault r ≡ attributeFault roles which run (now (s .entry)) attribute ⌝ }
 {
     if takes(roles, which, attribute.number) {
-        form_fault(s, roles, which, run, attribute)
+        content_fault(s, which, run, attribute)
     } else {
         Fault::Refused(refused(Reason::Extra, run.key))
     }

@@ -121,7 +121,7 @@ fn is_taken(which: Record, number: u16) -> bool
 }
 
 // Does an attribute of this number play a role? A role that is absent is played by none.
-pub(crate) fn plays(role: u16, number: u16) -> bool
+fn plays(role: u16, number: u16) -> bool
     ensures { λ r. ⌜ r ≡ plays role number ⌝ }
 {
     (role != 0) & (number == role)

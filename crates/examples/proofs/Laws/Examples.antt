@@ -24,7 +24,7 @@ use Rattle.blocks.specs.Subscripts.{dimensionWords, elementOr, atEnd, before, r
 use Rattle.tables.specs.Row.{attrAt, rowWords, attrWords, rowsWords, attrsWords, rowAt, erasedRow, endsOf, endianOf}
 use Rattle.links.specs.Typed.{asValue, wordAt, spotFound, spotAt, spotIn, placeOfKey, asWidened, wordOfPlace, valueOfKey, liesAt, asExtent, extentOfPlace, extentOfKey, partOf}
 use Rattle.records.specs.Taken.{takenBy, roleTaken, takes, special}
-use Rattle.records.specs.Scan.{attributeAt, expectedForms, expected, expectedForm, isType, faultOf, contentFault, attributeFault, faultAt, numberAt, runOf}
+use Rattle.records.specs.Scan.{attributeAt, isType, faultOf, contentFault, attributeFault, faultAt, numberAt, runOf}
 use Rattle.records.specs.Fields.{isSought, lastFrom, asWord, wordIn, wordBy, lastOf, nameBy, nameOf, textOf, wordOf, wordNeeded}
 use Rattle.records.specs.Elements.{listWidth, valueAt, namedFrom, nameFrom, valued, elementThen, elementsFrom, elementsIn, valuesOf, namesOf}
 use Rattle.records.specs.Elements as element
@@ -47,5 +47,5 @@ use Rattle.examples.specs.Examples.{answer, examples}
 
 -- the definitions answer what document 01 says, in every row
 pub examples-hold : map (λ e. answer (e .asked)) examples ≡ map (λ e. e .said) examples
-unfolding answer examples numberOf parseInt fundTypeOf fundTypes modifierOf modifiers valueOf there readAt isOn indexOf lookup tags used alsoKnown attributeKinds known forms formOf zeroFrom fixedEnd blockEnd textEnd valueEnd ending numbered readAttribute textAt nullEnd tagHead sizeHead headAt plays runEnds readOn readRun flip littleFlag flagOf flagsOf rootKind attributes rootEndian entryFrom readEntry entriesThen wholeEntry entriesFrom readTags wholeWalk _>>=_ placed subscriptFormats subscriptFormatOf partAt blockAt isKnown isPointer allKnown anyPointer processModifiers must _>>_ modified numberIn knownNumber fundamental fundType lastBytes modFundType processType indexAt oneMore constBound elementAs elementTypeAt subscriptAs nextSubscript dimensionWords elementOr atEnd before raised step subscriptsFrom wholeBlock asValue wordAt takenBy roleTaken takes special attributeAt attrAt expectedForms expected expectedForm isType faultOf contentFault attributeFault faultAt numberAt formNumber isForm isSought lastFrom asWord wordIn wordBy listWidth valueAt namedFrom nameFrom valued element.elementAt elementThen elementsFrom elementsIn signedOf signedBelow sizeBefore listAt listsFrom vendorsHold roleHolds roleForm rolesDiffer rolesHold settingsHold inRoom inRooms fillsRoom fillsRooms rowWords attrWords rowsWords attrsWords rowAt unitOf inUnit unitsFrom unitsHold erasedRow endsOf fitting tableHolds rowsHold runHolds testTable foundRow rowOf rowOfKey wants attrFrom attributeOf asReference referenceBy referenceOf nextFrom nextRow rowNumber siblingBy siblingRow childWalk nullRow nonNull meets stops walkFrom spotFound spotAt spotIn placeOfKey asWidened wordOfPlace valueOfKey liesAt asExtent extentOfPlace extentOfKey partOf partLies textLies blockLies runOf kindTaken kindFault childlessFault lastOf nameBy nameOf textOf wordOf wordNeeded valuesOf namesOf isGcc inOrder enumerationSized rowLists enumerationAt enumerationInto processEnumerationTag processArraySubscriptData sectionEntries readDebugSection isAt attrHolds rowHolds rowFrom endianOf isMwcc vendorNumber
+unfolding answer examples numberOf parseInt fundTypeOf fundTypes modifierOf modifiers valueOf there readAt isOn indexOf lookup tags used alsoKnown attributeKinds known forms formOf zeroFrom fixedEnd blockEnd textEnd valueEnd ending numbered readAttribute textAt nullEnd tagHead sizeHead headAt plays runEnds readOn readRun flip littleFlag flagOf flagsOf rootKind attributes rootEndian entryFrom readEntry entriesThen wholeEntry entriesFrom readTags wholeWalk _>>=_ placed subscriptFormats subscriptFormatOf partAt blockAt isKnown isPointer allKnown anyPointer processModifiers must _>>_ modified numberIn knownNumber fundamental fundType lastBytes modFundType processType indexAt oneMore constBound elementAs elementTypeAt subscriptAs nextSubscript dimensionWords elementOr atEnd before raised step subscriptsFrom wholeBlock asValue wordAt takenBy roleTaken takes special attributeAt attrAt isType faultOf contentFault attributeFault faultAt numberAt formNumber isForm isSought lastFrom asWord wordIn wordBy listWidth valueAt namedFrom nameFrom valued element.elementAt elementThen elementsFrom elementsIn signedOf signedBelow sizeBefore listAt listsFrom vendorsHold roleHolds roleForm rolesDiffer rolesHold settingsHold inRoom inRooms fillsRoom fillsRooms rowWords attrWords rowsWords attrsWords rowAt unitOf inUnit unitsFrom unitsHold erasedRow endsOf fitting tableHolds rowsHold runHolds testTable foundRow rowOf rowOfKey wants attrFrom attributeOf asReference referenceBy referenceOf nextFrom nextRow rowNumber siblingBy siblingRow childWalk nullRow nonNull meets stops walkFrom spotFound spotAt spotIn placeOfKey asWidened wordOfPlace valueOfKey liesAt asExtent extentOfPlace extentOfKey partOf partLies textLies blockLies runOf kindTaken kindFault childlessFault lastOf nameBy nameOf textOf wordOf wordNeeded valuesOf namesOf isGcc inOrder enumerationSized rowLists enumerationAt enumerationInto processEnumerationTag processArraySubscriptData sectionEntries readDebugSection isAt attrHolds rowHolds rowFrom endianOf isMwcc vendorNumber
 examples-hold = refl

@@ -1,7 +1,7 @@
 -- An attribute's number says its form, so with settings that hold no value has another form than the record expects.
 use Prim.Native.Nat.{ℕ, _%_}
 use mathlib.Core.Path.{_≡_, refl, sym, ap, _∙_}
-use mathlib.Core.Bool.{Bool, true, false, not, _&&_, _||_, cond, false≢true}
+use mathlib.Core.Bool.{Bool, true, false, not, _&&_, _||_, false≢true}
 use mathlib.Core.List.{List, [], _∷_}
 use lib.ListN.{length}
 use lib.Dec.{leb, eqb}
@@ -16,9 +16,17 @@ use Rattle.format.proofs.Laws.Computed.{and-left, and-right}
 use Rattle.format.proofs.Laws.Form.{low-bits, own-form}
 use Rattle.format.specs.declared.form_kind.FormKind.{FormKind}
 use Rattle.format.specs.declared.form_kind.FormKind.the-variants.{Data4, String}
+use Rattle.format.specs.Said.{Said, must, _>>_}
+use Rattle.format.specs.declared.refusal.Reason.{Reason}
+use Rattle.format.specs.declared.refusal.Reason.the-variants as reason
 use Rattle.format.specs.declared.settings.Roles.{Roles}
 use Rattle.format.specs.declared.settings.Settings.{Settings}
-use Rattle.records.specs.Scan.{expectedForms, expected, expectedForm}
+use Rattle.records.specs.Taken.{takes}
+use Rattle.records.specs.Scan.{contentFault, attributeFault}
+use Rattle.records.specs.declared.taken.Record.{Record}
+use Rattle.records.specs.declared.scan.Run.{Run}
+use Rattle.records.specs.declared.scan.Attribute.{Attribute}
+use Rattle.records.specs.Form.{expectedForms, expected, expectedForm, formTested}
 
 -- ---- by number
 
@@ -95,3 +103,18 @@ expected-form settings vendors sizes hold =
     let lists : Bool = leb (length vendors) vendorLimit && vendorsHold 0 vendors in
     let roles : Bool = rolesHold vendors (settings .roles) in
     roles-formed vendors (settings .roles) (and-right lists roles (and-left (lists && roles) (eqb (length sizes) (length fundTypes)) hold))
+
+-- ---- so a test of it says nothing
+
+passed : (holds : Bool) (why : Reason) (key : ℕ) (next : Said Unit) → holds ≡ true → (must holds why key >> next) ≡ next
+unfolding must _>>_
+passed true why key next t = refl
+passed false why key next t = absurd (false≢true t)
+
+-- the theorem: with settings that hold, what is wrong with an attribute is the same with a test of its form as without, whatever its reason
+pub form-untested : (settings : Settings) (vendors sizes : List ℕ) → settingsHold settings vendors sizes ≡ true
+    → (why : Reason) (r : Record) (run : Run) (s : List ℕ) (a : Attribute) → formTested why (settings .roles) r run s a ≡ attributeFault (settings .roles) r run s a
+unfolding formTested attributeFault
+form-untested settings vendors sizes hold why r run s a =
+    ap (λ (d : Said Unit). must (takes (settings .roles) r (a .number)) reason.Extra (run .key) >> d)
+    (passed _ why (run .key) (contentFault r run s a) (expected-form settings vendors sizes hold (a .number)))

@@ -1,23 +1,21 @@
 -- No record is refused by 14, on any section, table and settings: past the tests the settings hold, so the form of every attribute is the one that is
 -- expected.
 use Prim.Native.Nat.{ℕ, zero, suc, _+_}
-use mathlib.Core.Path.{_≡_, refl, sym, subst}
-use mathlib.Core.Bool.{Bool, true, false, cond, false≢true}
-use mathlib.Core.List.{List, [], _∷_, _++_}
+use mathlib.Core.Path.{_≡_, refl}
+use mathlib.Core.Bool.{Bool, true, false}
+use mathlib.Core.List.{List, [], _∷_}
 use lib.ListN.{length}
 use lib.Dec.{eqb, ltb}
 use lib.IntN.{ℤ}
-use Rattle.numbers.specs.Value.{readAt}
 use Rattle.numbers.proofs.Laws.Tests.{cond-all}
 use Rattle.numbers.proofs.Laws.Value.{read-all}
 use Rattle.numbers.specs.declared.Endian.{Endian}
 use Rattle.format.specs.AttributeKind as attribute
-use Rattle.format.specs.FormKind.{isForm}
 use Rattle.format.specs.TagKind as tag
 use Rattle.format.specs.Limits.{specificationLimit}
 use Rattle.format.specs.Refusal.{numberOf}
 use Rattle.format.specs.Settings.{settingsHold}
-use Rattle.format.specs.Said.{Said, gives, refuses, refuse, must, _>>=_, _>>_, placed, Never}
+use Rattle.format.specs.Said.{Said, gives, refuse, _>>=_, _>>_, placed, Never}
 use Rattle.format.proofs.Laws.Never.{never-gives, never-refuse, never-must, never-then, never-past, never-placed, never-room, never-rooms, never-fills, never-fills-both}
 use Rattle.format.specs.declared.settings.Settings.{Settings}
 use Rattle.format.specs.declared.refusal.Reason.the-variants as reason
@@ -26,7 +24,6 @@ use Rattle.blocks.specs.declared.types.Type.{«Type»}
 use Rattle.blocks.proofs.Laws.Never.{shape-never, type-never}
 use Rattle.tables.specs.Table.{Table, Rows, tableRows}
 use Rattle.tables.specs.Row.{rowAt}
-use Rattle.tables.specs.Find.{rowOfKey}
 use Rattle.tables.specs.Keyed.{rowOf}
 use Rattle.tables.proofs.Laws.Never.{found-never, row-never, row-holds}
 use Rattle.tables.specs.declared.find.Found.{Found}
@@ -34,8 +31,8 @@ use Rattle.tables.specs.declared.find.Found.the-variants as found
 use Rattle.links.specs.Walk.{Walk, ends, endless}
 use Rattle.links.specs.Links.{childWalk, nonNull}
 use Rattle.records.specs.Taken.{special}
-use Rattle.records.specs.Scan.{runOf, attributeAt, expectedForm, isType, locationOf, faultOf, contentFault, attributeFault, faultsFrom, faultAt, numberAt}
-use Rattle.records.specs.Fields.{nameOf, attributeNeeded, nameNeeded, wordNeeded, typeBy, typeOf, offsetField, lastOf}
+use Rattle.records.specs.Scan.{attributeAt, isType, locationOf, faultOf, contentFault, attributeFault, faultsFrom, faultAt, numberAt}
+use Rattle.records.specs.Fields.{attributeNeeded, nameNeeded, wordNeeded, typeBy, typeOf, offsetField}
 use Rattle.records.specs.Front.{kindFault, childlessFault, headOf, frontOf}
 use Rattle.records.specs.Member.{bitsBy, memberFields, memberAt, processStructureMemberTag}
 use Rattle.records.specs.Unions.{RowMember, ignored, memberThen, childThen, membersFrom, membersBy, rowMembers, unionSized, unionAt, unionInto, processUnionTag}
@@ -57,7 +54,6 @@ use Rattle.records.specs.declared.fields.Word.the-variants as word
 use Rattle.records.specs.declared.elements.Element.{Element}
 use Rattle.records.specs.declared.elements.Element.the-variants as element
 use Rattle.records.specs.declared.typedef.Typedef.{Typedef}
-use Rattle.records.proofs.Laws.Form.{expected-form}
 
 -- ---- what an attribute says
 
@@ -169,18 +165,12 @@ list-never s attrs run j = never-placed (run .key) _ (elements-never _ (run .end
 
 -- ---- with settings that hold
 
--- a test that passed
-form-never : (holds : Bool) (key : ℕ) (next : Said Unit) → holds ≡ true → Never 14 next → Never 14 (must holds reason.Form key >> next)
-unfolding must _>>_
-form-never true key next t h = h
-form-never false key next t h = absurd (false≢true t)
-
 module _ (settings : Settings) (vendors sizes : List ℕ) (hold : settingsHold settings vendors sizes ≡ true) where
   attribute-fault-never : (r : Record) (run : Run) (s : List ℕ) (a : Attribute) → Never 14 (attributeFault (settings .roles) r run s a)
   unfolding attributeFault numberOf
   attribute-fault-never r run s a =
       never-past _ _ (never-must _ reason.Extra (run .key) refl)
-      (λ x p. form-never _ (run .key) _ (expected-form settings vendors sizes hold (a .number)) (content-never r run s a))
+      (λ x p. content-never r run s a)
 
   at-never : (r : Record) (run : Run) (s attrs : List ℕ) (j : ℕ) → Never 14 (faultAt (settings .roles) r run s attrs j)
   unfolding faultAt

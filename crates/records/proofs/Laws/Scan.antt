@@ -8,23 +8,19 @@ use mathlib.Core.Bool.{Bool, true, false, cond, true≢false}
 use mathlib.Core.List.{List}
 use Rattle.numbers.proofs.Laws.Tests.{cond-all}
 use Rattle.numbers.specs.declared.Endian.{Endian}
-use Rattle.format.specs.FormKind.{isForm}
-use Rattle.format.specs.declared.form_kind.FormKind.{FormKind}
 use Rattle.format.specs.declared.settings.Roles.{Roles}
 use Rattle.format.specs.declared.refusal.Refusal.{Refusal}
-use Rattle.format.specs.declared.refusal.Reason.the-variants as reason
 use Rattle.attributes.specs.declared.decode.Endians.{Endians}
 use Rattle.tables.specs.Row.{rowAt, attrAt}
-use Rattle.tables.specs.Inside.Keyed.{refusedAt}
 use Rattle.tables.specs.declared.row.Row.{Row}
 use Rattle.tables.specs.declared.row.Attr.{Attr}
 use Rattle.tables.specs.Row.{endsOf}
 use Rattle.records.specs.Taken.{special}
 use Rattle.records.proofs.Laws.Taken.{by-case}
 use Rattle.format.specs.Said.{Said, gives, refuses, refusal, _>>_, placed}
-use Rattle.format.proofs.Laws.Said.{case-said, must-passed, must-failed}
-use Rattle.records.specs.Scan.{runOf, attributeAt, expectedForm, locationOf, faultOf, contentFault, attributeFault, faultsFrom, faultAt, numberAt}
-use Rattle.records.specs.Inside.Scan.{saidFault, saidScan, formFault, scanFrom, Plain}
+use Rattle.format.proofs.Laws.Said.{case-said}
+use Rattle.records.specs.Scan.{runOf, attributeAt, locationOf, faultOf, attributeFault, faultsFrom, faultAt, numberAt}
+use Rattle.records.specs.Inside.Scan.{saidFault, saidScan, scanFrom, Plain}
 use Rattle.records.specs.declared.taken.Record.{Record}
 use Rattle.records.specs.declared.taken.Record.the-variants as record′
 use Rattle.records.specs.declared.scan.Run.{Run}
@@ -67,21 +63,6 @@ module _ {E A : Type 0} (said : E → Said A) (key : ℕ) {told x : E} (p : told
 
   pub fault-told : {z : Said Unit} → z ≡ faultOf key (said x) → z ≡ faultOf key (said told)
   fault-told h = by-case (λ (y : E). faultOf key (said y)) p h
-
--- ---- the form of a value
-
-module _ (roles : Roles) (r : Record) (run : Run) (s : List ℕ) (a : Attribute) {form : FormKind} {b : Bool} (q : form ≡ expectedForm roles (a .number))
-    (is : b ≡ isForm form (a .number)) where
-  form-is : b ≡ isForm (expectedForm roles (a .number)) (a .number)
-  form-is = is ∙ ap (λ (x : FormKind). isForm x (a .number)) q
-
-  pub form-right : {z : Said Unit} → b ≡ true → z ≡ contentFault r run s a → z ≡ formFault roles r run s a
-  unfolding formFault
-  form-right t h = must-passed form-is reason.Form (run .key) _ t h
-
-  pub form-wrong : {why : Refusal} → b ≡ false → why ≡ refusedAt (run .key) reason.Form → refusal why ≡ formFault roles r run s a
-  unfolding formFault
-  form-wrong t p = must-failed form-is reason.Form (run .key) _ t (ap refusal p)
 
 -- ---- records that read no attribute themselves
 

@@ -3,19 +3,16 @@ use Prim.Native.Nat.{ℕ, zero, suc}
 use mathlib.Core.Path.{_≡_}
 use mathlib.Core.Bool.{false, cond}
 use mathlib.Core.List.{List}
-use Rattle.format.specs.FormKind.{isForm}
-use Rattle.format.specs.Said.{Said, gives, refusal, must, _>>_}
+use Rattle.format.specs.Said.{Said, gives, refusal, _>>_}
 use Rattle.format.specs.declared.settings.Roles.{Roles}
-use Rattle.format.specs.declared.refusal.Reason.the-variants as reason
 use Rattle.records.specs.Taken.{special}
 use Rattle.records.specs.declared.taken.Record.{Record}
 use Rattle.records.specs.declared.scan.Run.{Run}
-use Rattle.records.specs.declared.scan.Attribute.{Attribute}
 use Rattle.records.specs.declared.scan.Fault.{Fault}
 use Rattle.records.specs.declared.scan.Fault.the-variants.{Clear, Refused}
 use Rattle.records.specs.declared.scan.Scan.{Scan}
 use Rattle.records.specs.declared.scan.Scan.the-variants as scan
-use Rattle.records.specs.Scan.{expectedForm, contentFault, faultAt, numberAt}
+use Rattle.records.specs.Scan.{faultAt, numberAt}
 
 -- what is wrong, if anything
 unfoldable pub saidFault : Fault → Said Unit
@@ -26,14 +23,6 @@ saidFault (Refused why) = refusal why
 unfoldable pub saidScan : Scan → Said ℕ
 saidScan (scan.Stop j) = gives j
 saidScan (scan.Refused why) = refusal why
-
--- ---- an attribute, and all of them
-
--- one that the record takes: its form, then what the value says
-unfoldable pub formFault : Roles → Record → Run → List ℕ → Attribute → Said Unit
-formFault roles r run s a = do
-  must (isForm (expectedForm roles (a .number)) (a .number)) reason.Form (run .key)
-  contentFault r run s a
 
 module _ (roles : Roles) (r : Record) (run : Run) (s attrs : List ℕ) where
   -- n attributes from number j on, up to the next that the record reads itself

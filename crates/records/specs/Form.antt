@@ -1,0 +1,53 @@
+-- The form in which the Rust's records want each value: a value of another form was document 01's refusal 14. An attribute's number says its form, so
+-- with settings that hold no value has another (document 02, K8), and no record tests it. This file is for the theorem that says so.
+use Prim.Native.Nat.{ℕ}
+use mathlib.Core.Bool.{cond}
+use mathlib.Core.List.{List, [], _∷_}
+use Rattle.format.specs.Lookup.{Line, _means_, lookup}
+use Rattle.format.specs.FormKind.{formOf, isForm}
+use Rattle.format.specs.AttributeKind.{Location, Name, ByteSize, BitOffset, BitSize, ElementList, LowPc, HighPc, Member, ContainingType, Specification}
+use Rattle.format.specs.Settings.{plays}
+use Rattle.format.specs.Said.{Said, must, _>>_}
+use Rattle.format.specs.declared.form_kind.FormKind.{FormKind}
+use Rattle.format.specs.declared.form_kind.FormKind.the-variants.{Addr, Ref, Block2, Block4, Data2, Data4, String}
+use Rattle.format.specs.declared.settings.Roles.{Roles}
+use Rattle.format.specs.declared.refusal.Reason.{Reason}
+use Rattle.format.specs.declared.refusal.Reason.the-variants as reason
+use Rattle.records.specs.Taken.{takes}
+use Rattle.records.specs.Scan.{contentFault}
+use Rattle.records.specs.declared.taken.Record.{Record}
+use Rattle.records.specs.declared.scan.Run.{Run}
+use Rattle.records.specs.declared.scan.Attribute.{Attribute}
+
+-- by number
+unfoldable pub expectedForms : List (Line FormKind)
+expectedForms =
+    Location means Block2 ∷
+    Name means String ∷
+    ByteSize means Data4 ∷
+    BitOffset means Data2 ∷
+    BitSize means Data4 ∷
+    ElementList means Block4 ∷
+    LowPc means Addr ∷
+    HighPc means Addr ∷
+    Member means Ref ∷
+    ContainingType means Ref ∷
+    Specification means Ref ∷ []
+
+-- any other attribute may have its own
+unfoldable pub expected : ℕ → FormKind
+unfolding expectedForms
+expected number = lookup expectedForms (formOf number) number
+
+-- the vendor attributes that play a role: two texts and a number
+unfoldable pub expectedForm : Roles → ℕ → FormKind
+expectedForm roles number =
+    cond (plays (roles .mangled) number) String
+    (cond (plays (roles .«overlay_name») number) String (cond (plays (roles .«overlay_id») number) Data4 (expected number)))
+
+-- `attributeFault` with a test of the form, as it was up to K8: refused for this reason where the form is not the expected one
+unfoldable pub formTested : Reason → Roles → Record → Run → List ℕ → Attribute → Said Unit
+formTested why roles r run s a = do
+  must (takes roles r (a .number)) reason.Extra (run .key)
+  must (isForm (expectedForm roles (a .number)) (a .number)) why (run .key)
+  contentFault r run s a
