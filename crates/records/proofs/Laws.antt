@@ -1,6 +1,6 @@
 -- Laws. `Taken` to `Typedef`: for each way that the code comes to an answer. `Form`: every attribute has the form that is expected of it. `Never`: no
--- record is refused by 14. `Same`: every record is what it was with a test of forms. `UnionFilled`, `EnumerationFilled`: what a room then holds.
--- `Only`: no second answer fits. `StandardElements`, `StandardMember`: against the standard.
+-- record is refused by 14. `UnionFilled`, `EnumerationFilled`: what a room then holds. `Only`: no second answer fits. `StandardElements`,
+-- `StandardMember`: against the standard.
 pub mod Taken
 pub mod Scan
 pub mod Fields
@@ -16,7 +16,6 @@ pub mod Enumeration
 pub mod Typedef
 pub mod Form
 pub mod Never
-pub mod Same
 pub mod Back
 pub mod Only
 pub mod UnionFilled

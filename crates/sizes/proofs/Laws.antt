@@ -1,5 +1,5 @@
--- Laws. `Product` to `Stay`: for each way that the code comes to an answer. `Never`: no size is refused by 14. `Same`: every
--- size is what it was with a test of forms. `Back` and `Only`: no second answer fits.
+-- Laws. `Product` to `Stay`: for each way that the code comes to an answer. `Never`: no size is refused by 14. `Back` and `Only`: no
+-- second answer fits.
 pub mod Product
 pub mod Walking
 pub mod Prepare
@@ -9,6 +9,5 @@ pub mod Kept
 pub mod Size
 pub mod Stay
 pub mod Never
-pub mod Same
 pub mod Back
 pub mod Only
