@@ -25,7 +25,10 @@ pub struct Error {
     pub(crate) byte: Option<u64>,
 }
 
-/// The refusals from 1 on.
+/// What a number says that is no refusal's: 14 too, which no input led to; it is not given, and no later refusal takes it.
+const NO_REFUSAL: &str = "no refusal has this number";
+
+/// The refusals from 1 on, with a gap at 14.
 const WORDS: [&str; 20] = [
     "a rule of the settings is broken",
     "the section has 2^32 bytes or more",
@@ -40,7 +43,7 @@ const WORDS: [&str; 20] = [
     "no row with that key",
     "a row of a kind that is not taken here",
     "an attribute that the record does not take",
-    "a value of another form than the record expects",
+    NO_REFUSAL,
     "a needed attribute is absent, or one bit attribute is without the other",
     "a child that is not allowed",
     "block bytes of no listed shape",
@@ -53,7 +56,7 @@ impl Error {
     /// What the number means.
     pub fn words(&self) -> &'static str {
         let at = (self.number as usize).wrapping_sub(1);
-        WORDS.get(at).copied().unwrap_or("no refusal has this number")
+        WORDS.get(at).copied().unwrap_or(NO_REFUSAL)
     }
 
     /// The first byte of the field that is not there (4) or not known (5, 6); the place is where the entry begins. Other refusals tell none.
@@ -91,3 +94,15 @@ impl fmt::Display for Error {
 }
 
 impl std::error::Error for Error {}
+
+#[cfg(test)]
+mod tests {
+    use super::{Error, NO_REFUSAL, Needed};
+
+    #[test]
+    fn fourteen_is_a_gap() {
+        let words = |number| Error { number, place: 0, needed: Needed::default(), byte: None }.words();
+        let none: Vec<u32> = (0..=21).filter(|number| words(*number) == NO_REFUSAL).collect();
+        assert_eq!(none, [0, 14, 21]);
+    }
+}

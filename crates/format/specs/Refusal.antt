@@ -1,10 +1,10 @@
--- The refusal numbers of document 01.
+-- The refusal numbers of document 01, without 14, which is not given (document 02, K8).
 use Prim.Native.Nat.{ℕ}
 use mathlib.Core.List.{List, [], _∷_}
 use Rattle.format.specs.Lookup.{Line, _means_, lookup}
 use Rattle.format.specs.declared.refusal.Reason.{Reason}
 use Rattle.format.specs.declared.refusal.Reason.the-variants.{Settings, Long, Table, Short, Tag, Attribute, Nested, Room, Link, Depth, Entry}
-use Rattle.format.specs.declared.refusal.Reason.the-variants.{Kind, Extra, Form, Missing, Child, Block, Number, Bound, Big}
+use Rattle.format.specs.declared.refusal.Reason.the-variants.{Kind, Extra, Missing, Child, Block, Number, Bound, Big}
 
 -- the number of each reason
 unfoldable pub numberOf : Reason → ℕ
@@ -21,7 +21,6 @@ numberOf Depth = 10
 numberOf Entry = 11
 numberOf Kind = 12
 numberOf Extra = 13
-numberOf Form = 14
 numberOf Missing = 15
 numberOf Child = 16
 numberOf Block = 17
@@ -44,7 +43,6 @@ reasons =
     11 means Entry ∷
     12 means Kind ∷
     13 means Extra ∷
-    14 means Form ∷
     15 means Missing ∷
     16 means Child ∷
     17 means Block ∷

@@ -1,4 +1,4 @@
-// The twenty refusals of document 01 and their numbers.
+// The refusals of document 01 and their numbers, 1 to 20 without 14: no input leads to it, so it is not given, and no later reason takes it (document 02, K8).
 ghost use mathlib.Core.Path.{_≡_};
 ghost use Rattle.format.specs.Refusal.{numberOf, reasonOf};
 
@@ -16,7 +16,6 @@ pub enum Reason {
     Entry,
     Kind,
     Extra,
-    Form,
     Missing,
     Child,
     Block,
@@ -49,7 +48,6 @@ pub fn number_of(reason: Reason) -> u32
         Reason::Entry => 11,
         Reason::Kind => 12,
         Reason::Extra => 13,
-        Reason::Form => 14,
         Reason::Missing => 15,
         Reason::Child => 16,
         Reason::Block => 17,
@@ -76,7 +74,6 @@ pub fn reason_of(number: u32) -> Reason
         11 => Reason::Entry,
         12 => Reason::Kind,
         13 => Reason::Extra,
-        14 => Reason::Form,
         15 => Reason::Missing,
         16 => Reason::Child,
         17 => Reason::Block,

@@ -1,11 +1,12 @@
 -- The form in which the Rust's records want each value: a value of another form was document 01's refusal 14. An attribute's number says its form, so
 -- with settings that hold no value has another (document 02, K8), and no record tests it. This file is for the theorem that says so.
 use Prim.Native.Nat.{ℕ}
-use mathlib.Core.Bool.{cond}
-use mathlib.Core.List.{List, [], _∷_}
-use Rattle.format.specs.Lookup.{Line, _means_, lookup}
+use mathlib.Core.Bool.{Bool, cond, _||_}
+use mathlib.Core.List.{List, [], _∷_, _++_, map}
+use Rattle.format.specs.Lookup.{Line, _means_, isOn, lookup}
 use Rattle.format.specs.FormKind.{formOf, isForm}
-use Rattle.format.specs.AttributeKind.{Location, Name, ByteSize, BitOffset, BitSize, ElementList, LowPc, HighPc, Member, ContainingType, Specification}
+use Rattle.format.specs.AttributeKind.{Sibling, Location, Name, FundType, ModFundType, UserDefType, ModUDType, ByteSize, BitOffset, BitSize}
+use Rattle.format.specs.AttributeKind.{ElementList, LowPc, HighPc, Member, ContainingType, Private, Protected, Public, Specification}
 use Rattle.format.specs.Settings.{plays}
 use Rattle.format.specs.Said.{Said, must, _>>_}
 use Rattle.format.specs.declared.form_kind.FormKind.{FormKind}
@@ -44,6 +45,16 @@ unfoldable pub expectedForm : Roles → ℕ → FormKind
 expectedForm roles number =
     cond (plays (roles .mangled) number) String
     (cond (plays (roles .«overlay_name») number) String (cond (plays (roles .«overlay_id») number) Data4 (expected number)))
+
+-- the attributes whose form the Rust does not look at: Sibling and the three visibilities, and the types, which `processType` reads by their number
+unfoldable pub anyForm : List ℕ
+anyForm = Sibling ∷ FundType ∷ ModFundType ∷ UserDefType ∷ ModUDType ∷ Private ∷ Protected ∷ Public ∷ []
+
+-- an attribute that this file speaks of: one of these, one whose form is expected, or one that plays a role
+unfoldable pub formSaid : Roles → ℕ → Bool
+formSaid roles number =
+    isOn number (anyForm ++ map (λ (l : Line FormKind). l .number) expectedForms)
+    || (plays (roles .mangled) number || (plays (roles .«overlay_name») number || plays (roles .«overlay_id») number))
 
 -- `attributeFault` with a test of the form, as it was up to K8: refused for this reason where the form is not the expected one
 unfoldable pub formTested : Reason → Roles → Record → Run → List ℕ → Attribute → Said Unit

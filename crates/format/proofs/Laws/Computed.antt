@@ -7,8 +7,9 @@ use mathlib.Core.Path.{_≡_, refl, sym, ap, _∙_}
 use mathlib.Core.Bool.{Bool, true, false, _&&_, Bool·beq, false≢true}
 use mathlib.Core.List.{List, [], _∷_}
 use lib.ListN.{take, drop}
-use lib.Dec.{ltb}
-use borrow.Author.Tests.{ltb-true, ne-eqb}
+use lib.Dec.{ltb, eqb}
+use borrow.Author.Tests.{ltb-true, eqb-true, ne-eqb}
+use Rattle.numbers.proofs.Laws.Tests.{cond-all}
 use Rattle.format.specs.Lookup.{isOn}
 
 pub and-left : (a b : Bool) → (a && b) ≡ true → a ≡ true
@@ -56,3 +57,15 @@ beyond b (suc k) [] n t h = refl
 beyond b (suc k) (x ∷ xs) n t h =
     let small : x < b = ltb-true x b (and-left (ltb x b) (allBelow b (take k xs)) t) in
     rw (ne-eqb x n (λ e. omega arith)) (beyond b k xs n (and-right (ltb x b) (allBelow b (take k xs)) t) h)
+
+-- the test passes at every number on the list
+unfoldable pub allOn : (ℕ → Bool) → List ℕ → Bool
+allOn f [] = true
+allOn f (x ∷ xs) = f x && allOn f xs
+
+pub all-on : (f : ℕ → Bool) (xs : List ℕ) (n : ℕ) → allOn f xs ≡ true → isOn n xs ≡ true → f n ≡ true
+unfolding allOn isOn
+all-on f [] n t h = absurd (false≢true h)
+all-on f (x ∷ xs) n t h =
+    cond-all (λ (k : ℕ). f n ≡ true) (eqb x n) {x = 0} {y = 0} (λ e. ap f (sym (eqb-true x n e)) ∙ and-left (f x) (allOn f xs) t)
+    (λ d. all-on f xs n (and-right (f x) (allOn f xs) t) (rw d at h))

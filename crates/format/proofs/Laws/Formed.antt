@@ -1,8 +1,8 @@
 -- With settings that hold, every known attribute number has a form: its low four bits are 1 to 8.
 use Prim.Native.Nat.{ℕ, suc, _%_, _≤_}
 use native.Mathlib.Omega.{arith}
-use mathlib.Core.Path.{_≡_, refl, sym, ap, _∙_}
-use mathlib.Core.Bool.{Bool, true, not, _&&_, cond, false≢true}
+use mathlib.Core.Path.{_≡_, refl, ap, _∙_}
+use mathlib.Core.Bool.{Bool, true, not, _&&_, cond}
 use mathlib.Core.List.{List, [], _∷_}
 use lib.ListN.{length}
 use lib.Dec.{leb, eqb}
@@ -17,16 +17,11 @@ use Rattle.format.specs.Limits.{vendorLimit}
 use Rattle.format.specs.Settings.{vendorNumber, vendorsHold, rolesHold, settingsHold}
 use Rattle.format.specs.declared.settings.Settings.{Settings}
 use Rattle.format.specs.declared.form_kind.FormKind.the-variants.{Undefined}
-use Rattle.format.proofs.Laws.Computed.{and-left, and-right, below, below-at}
+use Rattle.format.proofs.Laws.Computed.{and-left, and-right, below, below-at, allOn, all-on}
 
 -- the low four bits are one of the eight
 unfoldable lowFormed : ℕ → Bool
 lowFormed n = leb 1 (n % 16) && leb (n % 16) 8
-
--- of each number on a list
-unfoldable allFormed : List ℕ → Bool
-allFormed [] = true
-allFormed (x ∷ xs) = lowFormed x && allFormed xs
 
 -- such a number has a form
 low-formed : (n : ℕ) → lowFormed n ≡ true → formOf n ≡ Undefined → ⊥
@@ -41,21 +36,14 @@ low-formed n t p =
     let none : formNumber (formOf n) ≡ 0 = ap formNumber p in
     omega arith
 
-all-formed : (xs : List ℕ) (n : ℕ) → allFormed xs ≡ true → isOn n xs ≡ true → lowFormed n ≡ true
-unfolding allFormed isOn
-all-formed [] n t h = absurd (false≢true h)
-all-formed (x ∷ xs) n t h =
-    cond-all (λ (k : ℕ). lowFormed n ≡ true) (eqb x n) {x = 0} {y = 0} (λ e. ap lowFormed (sym (eqb-true x n e)) ∙ and-left (lowFormed x) (allFormed xs) t)
-    (λ d. all-formed xs n (and-right (lowFormed x) (allFormed xs) t) (rw d at h))
-
 -- document 01's own numbers are such
-named-formed : allFormed attributeKinds ≡ true
-unfolding allFormed lowFormed attributeKinds used alsoKnown
+named-formed : allOn lowFormed attributeKinds ≡ true
+unfolding allOn lowFormed attributeKinds used alsoKnown
 named-formed = refl
 
 -- and a vendor list's
-vendors-formed : (least : ℕ) (xs : List ℕ) → vendorsHold least xs ≡ true → allFormed xs ≡ true
-unfolding vendorsHold vendorNumber allFormed lowFormed
+vendors-formed : (least : ℕ) (xs : List ℕ) → vendorsHold least xs ≡ true → allOn lowFormed xs ≡ true
+unfolding vendorsHold vendorNumber allOn lowFormed
 vendors-formed least [] t = refl
 vendors-formed least (x ∷ xs) t =
     let here : (leb least x && vendorNumber x) ≡ true = and-left (leb least x && vendorNumber x) (vendorsHold (suc x) xs) t in
@@ -73,5 +61,5 @@ known-formed settings vendors sizes t n k =
     and-right (leb (length vendors) vendorLimit) (vendorsHold 0 vendors) (and-left lists roles (and-left (lists && roles) (eqb (length sizes) (length fundTypes)) t))
     in
     low-formed n
-    (cond-all (λ (k : ℕ). lowFormed n ≡ true) (isOn n attributeKinds) {x = 0} {y = 0} (λ e. all-formed attributeKinds n named-formed e)
-    (λ d. all-formed vendors n (vendors-formed 0 vendors holds) (rw d at k)))
+    (cond-all (λ (k : ℕ). lowFormed n ≡ true) (isOn n attributeKinds) {x = 0} {y = 0} (λ e. all-on lowFormed attributeKinds n named-formed e)
+    (λ d. all-on lowFormed vendors n (vendors-formed 0 vendors holds) (rw d at k)))

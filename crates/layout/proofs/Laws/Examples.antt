@@ -3,7 +3,7 @@ use mathlib.Core.Path.{_≡_, refl}
 use mathlib.Core.List.{[], _∷_}
 use Rattle.numbers.specs.Value.{there, readAt, valueOf}
 use Rattle.format.specs.AttributeKind.{attributeKinds}
-use Rattle.format.specs.FormKind.{formOf, isForm, formNumber}
+use Rattle.format.specs.FormKind.{formOf}
 use Rattle.format.specs.FundType.{fundTypes, parseInt, fundTypeOf}
 use Rattle.format.specs.InputA.{inputA, settingsA}
 use Rattle.format.specs.Known.{known}
@@ -42,5 +42,5 @@ use Rattle.layout.specs.Layout.{layoutOfKey, rowLay, laidFrom, endOr, la
 pub input-a : (sizeOfKey (table inputA settingsA [] sizesA rowsA attrsA countsA) 0 ≡ gives 4)
     × (layoutOfKey (table inputA settingsA [] sizesA rowsA attrsA countsA) 0 (7 ∷ 7 ∷ 7 ∷ 7 ∷ 7 ∷ [])
     ≡ record { answer = gives (record { row = 0; size = 4; members = 1 }); room = 0 ∷ 4 ∷ 0 ∷ 0 ∷ 7 ∷ [] })
-unfolding sizeOfKey entrySize settingsHold vendorsHold rolesHold roleHolds roleForm rolesDiffer fundTypes tableHolds fitting rowsHold rowHolds unitsHold unitOf rowAt isOn tags runHolds attrHolds known attributeKinds attrAt valueEnd formOf lookup fixedEnd there blockEnd readAt valueOf endianOf rowOfKey rowFrom rowSize shapeSize shapeOf membersOf memberRowsBy childWalk walkFrom stops nextRow nextFrom erasedRow siblingRow siblingBy referenceOf referenceBy attributeOf attrFrom wants asReference rowNumber meets memberRowsFrom nonNull nullRow memberChildThen memberThen memberAt frontOf headOf kindFault kindTaken faultsFrom runOf faultAt attributeFault takes takenBy attributeAt isForm formNumber plays contentFault isType processType fundType fundamental numberIn knownNumber parseInt fundTypeOf endsOf modified must _>>=_ _>>_ processModifiers allKnown shapeOperand blockAt partAt childlessFault memberFields typeOf typeBy lastOf lastFrom isSought offsetField bitsBy wordOf wordBy sizeOrEnds wordIn asWord wordAt asValue layoutOfKey rowLay isStructure laidFrom endOr laidMember memberSize sizeOr hasByteSize ownSize sizeOrLargest layoutInto laidWords namePlace nameLength nameOf nameBy typeSize typeSizeBy kindSize fundamentalSize indexOf anyPointer operandAt placed inRoom fillsRoom testTable rowOf foundRow attributeNeeded locationBlock faultOf locationOf layoutOf
+unfolding sizeOfKey entrySize settingsHold vendorsHold rolesHold roleHolds roleForm rolesDiffer fundTypes tableHolds fitting rowsHold rowHolds unitsHold unitOf rowAt isOn tags runHolds attrHolds known attributeKinds attrAt valueEnd formOf lookup fixedEnd there blockEnd readAt valueOf endianOf rowOfKey rowFrom rowSize shapeSize shapeOf membersOf memberRowsBy childWalk walkFrom stops nextRow nextFrom erasedRow siblingRow siblingBy referenceOf referenceBy attributeOf attrFrom wants asReference rowNumber meets memberRowsFrom nonNull nullRow memberChildThen memberThen memberAt frontOf headOf kindFault kindTaken faultsFrom runOf faultAt attributeFault takes takenBy attributeAt plays contentFault isType processType fundType fundamental numberIn knownNumber parseInt fundTypeOf endsOf modified must _>>=_ _>>_ processModifiers allKnown shapeOperand blockAt partAt childlessFault memberFields typeOf typeBy lastOf lastFrom isSought offsetField bitsBy wordOf wordBy sizeOrEnds wordIn asWord wordAt asValue layoutOfKey rowLay isStructure laidFrom endOr laidMember memberSize sizeOr hasByteSize ownSize sizeOrLargest layoutInto laidWords namePlace nameLength nameOf nameBy typeSize typeSizeBy kindSize fundamentalSize indexOf anyPointer operandAt placed inRoom fillsRoom testTable rowOf foundRow attributeNeeded locationBlock faultOf locationOf layoutOf
 input-a = (refl, refl)

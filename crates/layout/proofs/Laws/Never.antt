@@ -2,31 +2,26 @@
 use Prim.Native.Nat.{ℕ, zero, suc, _+_, _-_, _*_, _<_}
 use native.Mathlib.Omega.{arith}
 use mathlib.Core.Path.{_≡_, refl, sym, ap, _∙_}
-use mathlib.Core.Bool.{Bool, true, false}
+use mathlib.Core.Bool.{Bool}
 use mathlib.Core.List.{List, [], _∷_, _++_}
 use lib.ListN.{length, getD}
 use lib.Seq.{getD-append-add, getD-take}
-use Rattle.lent.specs.Outcome.{BothGiven}
 use Rattle.numbers.proofs.Laws.Tests.{cond-all}
 use Rattle.format.specs.Limits.{depthLimit}
-use Rattle.format.specs.Refusal.{numberOf}
-use Rattle.format.specs.Settings.{settingsHold}
-use Rattle.format.specs.Said.{Said, gives, refuses, must, _>>=_, _>>_, Never}
-use Rattle.format.proofs.Laws.Said.{rooms-gave}
+use Rattle.format.specs.Said.{Said, gives, refuses, Never}
 use Rattle.format.proofs.Laws.Never.{never-gives, never-is, never-must, never-then, never-past, never-room, never-rooms, never-fills, never-fills-both}
 use Rattle.format.specs.declared.settings.Settings.{Settings}
 use Rattle.format.specs.declared.refusal.Reason.the-variants as reason
 use Rattle.blocks.specs.declared.types.Type.{«Type»}
 use Rattle.tables.specs.Table.{Table, Rows, tableRows}
 use Rattle.tables.specs.Row.{rowAt}
-use Rattle.tables.specs.Tests.{testTable}
-use Rattle.tables.proofs.Laws.Never.{tests-never, row-never, tests-hold, row-holds}
+use Rattle.tables.proofs.Laws.Never.{tests-never, row-never}
 use Rattle.records.specs.Unions.{RowMember}
 use Rattle.records.specs.declared.fields.Name.{Name}
 use Rattle.records.proofs.Laws.Never.{member-never, union-never, enumeration-never, typedef-never, variable-never, label-never, ptr-to-member-never, overlay-branch-never}
 use Rattle.sizes.specs.Size.{innerSize, isStructure, shapeOf}
 use Rattle.sizes.proofs.Laws.Never.{member-size-never, end-never, members-of-never, type-never, size-of-key-never, size-of-type-never}
-use Rattle.layout.specs.Layout.{Lay, endOr, laidFrom, rowLay, layoutAt, layoutInto, layoutOfKey}
+use Rattle.layout.specs.Layout.{endOr, laidFrom, rowLay, layoutAt, layoutInto, layoutOfKey}
 use Rattle.layout.specs.All.{Structure, alsoIf, structureAt, structuresFrom, answerWords, structureWidth, structureWords, countsOf, layoutsInto, allLayouts}
 use Rattle.layout.specs.AllFilled.{AllFilled}
 use Rattle.layout.specs.Never.{NoFourteen}
@@ -47,19 +42,18 @@ module _ (rows : List ℕ) (sizeOf : «Type» → Said ℕ) (h : (of : «Type»)
   laid-never largest [] = never-gives _
   laid-never largest (m ∷ ms) =
       never-then _ _ (member-size-never sizeOf h m)
-      (λ size p. never-then _ _ (end-or-never _ largest _) (λ next p. never-then _ _ (laid-never next ms) (λ rest p. never-gives _)))
+      (λ size. never-then _ _ (end-or-never _ largest _) (λ next. never-then _ _ (laid-never next ms) (λ rest. never-gives _)))
 
-module _ (settings : Settings) (vendors sizes : List ℕ) (hold : settingsHold settings vendors sizes ≡ true) (t : Rows) (sizeOf : «Type» → Said ℕ)
-    (h : (of : «Type») → Never 14 (sizeOf of)) where
+module _ (settings : Settings) (t : Rows) (sizeOf : «Type» → Said ℕ) (h : (of : «Type») → Never 14 (sizeOf of)) where
   lay-never : (i : ℕ) → Never 14 (rowLay settings t sizeOf i)
-  unfolding rowLay numberOf
+  unfolding rowLay
   lay-never i =
-      never-past _ _ (never-must _ reason.Kind _ refl)
-      (λ x p. never-then _ _ (members-of-never settings vendors sizes hold t i) (λ ms p. laid-never (t .rows) sizeOf h _ 0 ms))
+      never-past _ _ (never-must _ reason.Kind _)
+      (never-then _ _ (members-of-never settings t i) (λ ms. laid-never (t .rows) sizeOf h _ 0 ms))
 
   layout-at-never : (i : ℕ) → Never 14 (layoutAt settings t sizeOf i)
   unfolding layoutAt
-  layout-at-never i = never-then _ _ (lay-never i) (λ l p. never-gives _)
+  layout-at-never i = never-then _ _ (lay-never i) (λ l. never-gives _)
 
   -- ---- all structures
 
@@ -96,29 +90,23 @@ module _ (settings : Settings) (vendors sizes : List ℕ) (hold : settingsHold s
 -- ---- the calls
 
 module _ (t : Table) where
-  inner-never : settingsHold (t .settings) (t .vendors) (t .sizes) ≡ true → (of : «Type») → Never 14 (innerSize t of)
-  inner-never hold of = type-never (t .settings) (t .vendors) (t .sizes) hold (tableRows t) (depthLimit - 1) of
+  inner-never : (of : «Type») → Never 14 (innerSize t of)
+  inner-never of = type-never (t .settings) (tableRows t) (t .sizes) (depthLimit - 1) of
 
   layout-never : (key : ℕ) (room : List ℕ) → Never 14 (layoutOfKey t key room .answer)
   unfolding layoutOfKey layoutInto
   layout-never key room =
       never-room room _ _ (row-never t key)
-      (λ i p. let hold : settingsHold (t .settings) (t .vendors) (t .sizes) ≡ true = row-holds t key p in
-      never-room room _ _ (lay-never (t .settings) (t .vendors) (t .sizes) hold (tableRows t) (innerSize t) (inner-never hold) i) (λ l p. never-fills _ _ _ _ room))
+      (λ i. never-room room _ _ (lay-never (t .settings) (tableRows t) (innerSize t) inner-never i) (λ l. never-fills _ _ _ _ room))
 
   all-never : (structures room : List ℕ) → Never 14 (allLayouts t structures room .answer)
   unfolding allLayouts layoutsInto
-  all-never structures room = never-rooms structures room _ _ (tests-never t) (λ x p. never-fills-both _ _ _ _ _ structures room)
+  all-never structures room = never-rooms structures room _ _ (tests-never t) (λ passed. never-fills-both _ _ _ _ _ structures room)
 
   module _ (structures room : List ℕ) (many : LayoutCounts) (given : allLayouts t structures room .answer ≡ gives many) where
-    passed : testTable t ≡ gives tt
-    unfolding allLayouts
-    passed = rooms-gave structures room (testTable t) _ given .1
-
     all-words-never : (k : ℕ) → k < many .structures → getD (allLayouts t structures room .first) (k * structureWidth + 1) 0 ≡ 14 → ⊥
     unfolding countsOf
     all-words-never k l p =
-        let hold : settingsHold (t .settings) (t .vendors) (t .sizes) ≡ true = tests-hold t passed in
         let xs : List Structure = structuresFrom (t .settings) (tableRows t) (innerSize t) 0 (t .counts .rows) in
         let filled : AllFilled xs many structures (allLayouts t structures room .first) room (allLayouts t structures room .second) =
         all-filled (t .settings) (t .vendors) (t .sizes) (t .section) (t .rows) (t .attrs) (t .counts) structures room
@@ -126,8 +114,8 @@ module _ (t : Table) where
         in
         let count : many .structures ≡ length xs = ap (λ (c : LayoutCounts). c .structures) (filled .counts-are) in
         let inside : k * structureWidth + 1 < length xs * structureWidth = omega (arith, count, l) in
-        words-never (t .settings) (t .vendors) (t .sizes) hold (tableRows t) (innerSize t) (inner-never hold) 0 xs
-        (structures-never (t .settings) (t .vendors) (t .sizes) hold (tableRows t) (innerSize t) (inner-never hold) 0 (t .counts .rows)) k (omega (arith, count, l))
+        words-never (t .settings) (tableRows t) (innerSize t) inner-never 0 xs
+        (structures-never (t .settings) (tableRows t) (innerSize t) inner-never 0 (t .counts .rows)) k (omega (arith, count, l))
         (ap (λ (ws : List ℕ). getD ws (k * structureWidth + 1) 0) (sym (filled .structures-filled .front))
         ∙ getD-take (length xs * structureWidth) (allLayouts t structures room .first) (k * structureWidth + 1) 0 inside ∙ p)
 

@@ -1,18 +1,19 @@
 -- An attribute's number says its form, so with settings that hold no value has another form than the record expects.
 use Prim.Native.Nat.{ℕ, _%_}
 use mathlib.Core.Path.{_≡_, refl, sym, ap, _∙_}
-use mathlib.Core.Bool.{Bool, true, false, not, _&&_, _||_, false≢true}
-use mathlib.Core.List.{List, [], _∷_}
+use mathlib.Core.Bool.{Bool, true, false, not, _&&_, _||_, or-true, false≢true}
+use mathlib.Core.List.{List, [], _∷_, _++_, map}
 use lib.ListN.{length}
 use lib.Dec.{leb, eqb}
 use borrow.Author.Tests.{eqb-true}
 use Rattle.numbers.proofs.Laws.Tests.{cond-all}
-use Rattle.format.specs.Lookup.{Line, lookup}
+use Rattle.format.specs.Lookup.{Line, isOn, lookup}
 use Rattle.format.specs.FormKind.{forms, formOf, formNumber, isForm}
 use Rattle.format.specs.FundType.{fundTypes}
 use Rattle.format.specs.Limits.{vendorLimit}
 use Rattle.format.specs.Settings.{vendorsHold, roleHolds, roleForm, rolesDiffer, rolesHold, plays, settingsHold}
-use Rattle.format.proofs.Laws.Computed.{and-left, and-right}
+use Rattle.format.proofs.Laws.Said.{must-passed}
+use Rattle.format.proofs.Laws.Computed.{and-left, and-right, allOn, all-on}
 use Rattle.format.proofs.Laws.Form.{low-bits, own-form}
 use Rattle.format.specs.declared.form_kind.FormKind.{FormKind}
 use Rattle.format.specs.declared.form_kind.FormKind.the-variants.{Data4, String}
@@ -21,12 +22,13 @@ use Rattle.format.specs.declared.refusal.Reason.{Reason}
 use Rattle.format.specs.declared.refusal.Reason.the-variants as reason
 use Rattle.format.specs.declared.settings.Roles.{Roles}
 use Rattle.format.specs.declared.settings.Settings.{Settings}
-use Rattle.records.specs.Taken.{takes}
+use Rattle.records.specs.Taken.{takenBy, roleTaken, takes}
 use Rattle.records.specs.Scan.{contentFault, attributeFault}
 use Rattle.records.specs.declared.taken.Record.{Record}
+use Rattle.records.specs.declared.taken.Record.the-variants as record′
 use Rattle.records.specs.declared.scan.Run.{Run}
 use Rattle.records.specs.declared.scan.Attribute.{Attribute}
-use Rattle.records.specs.Form.{expectedForms, expected, expectedForm, formTested}
+use Rattle.records.specs.Form.{expectedForms, expected, expectedForm, anyForm, formSaid, formTested}
 
 -- ---- by number
 
@@ -104,12 +106,43 @@ expected-form settings vendors sizes hold =
     let roles : Bool = rolesHold vendors (settings .roles) in
     roles-formed vendors (settings .roles) (and-right lists roles (and-left (lists && roles) (eqb (length sizes) (length fundTypes)) hold))
 
--- ---- so a test of it says nothing
+-- ---- which attributes that says it of
 
-passed : (holds : Bool) (why : Reason) (key : ℕ) (next : Said Unit) → holds ≡ true → (must holds why key >> next) ≡ next
-unfolding must _>>_
-passed true why key next t = refl
-passed false why key next t = absurd (false≢true t)
+-- every number that each record takes
+taken-said : (r : Record) → allOn (λ n. isOn n (anyForm ++ map (λ (l : Line FormKind). l .number) expectedForms)) (takenBy r) ≡ true
+unfolding allOn takenBy anyForm expectedForms isOn
+taken-said record′.Member = refl
+taken-said record′.Union = refl
+taken-said record′.Enumeration = refl
+taken-said record′.Typedef = refl
+taken-said record′.Variable = refl
+taken-said record′.Label = refl
+taken-said record′.PtrToMember = refl
+taken-said record′.OverlayBranch = refl
+
+-- the theorem: a number that a record takes is one whose form is expected, by its number or a role, or one that is taken in whatever form it has
+pub taken-expected : (roles : Roles) (r : Record) (number : ℕ) → takes roles r number ≡ true → formSaid roles number ≡ true
+unfolding takes formSaid roleTaken
+taken-expected roles r number t =
+    let named : Bool = isOn number (anyForm ++ map (λ (l : Line FormKind). l .number) expectedForms) in
+    let overlay : Bool = plays (roles .«overlay_name») number || plays (roles .«overlay_id») number in
+    let played : Bool = plays (roles .mangled) number || overlay in
+    cond-all (λ (k : ℕ). formSaid roles number ≡ true) (isOn number (takenBy r)) {x = 0} {y = 0}
+    (λ on. ap (λ (b : Bool). b || played) (all-on _ (takenBy r) number (taken-said r) on))
+    (λ off. ap (λ (b : Bool). named || b) (role r (rw off at t)) ∙ or-true named)
+  where
+    role : (r : Record) → roleTaken roles r number ≡ true
+        → (plays (roles .mangled) number || (plays (roles .«overlay_name») number || plays (roles .«overlay_id») number)) ≡ true
+    role record′.Variable t = ap (λ (b : Bool). b || (plays (roles .«overlay_name») number || plays (roles .«overlay_id») number)) t
+    role record′.OverlayBranch t = ap (λ (b : Bool). plays (roles .mangled) number || b) t ∙ or-true (plays (roles .mangled) number)
+    role record′.Member t = absurd (false≢true t)
+    role record′.Union t = absurd (false≢true t)
+    role record′.Enumeration t = absurd (false≢true t)
+    role record′.Typedef t = absurd (false≢true t)
+    role record′.Label t = absurd (false≢true t)
+    role record′.PtrToMember t = absurd (false≢true t)
+
+-- ---- so a test of it says nothing
 
 -- the theorem: with settings that hold, what is wrong with an attribute is the same with a test of its form as without, whatever its reason
 pub form-untested : (settings : Settings) (vendors sizes : List ℕ) → settingsHold settings vendors sizes ≡ true
@@ -117,4 +150,4 @@ pub form-untested : (settings : Settings) (vendors sizes : List ℕ) → setting
 unfolding formTested attributeFault
 form-untested settings vendors sizes hold why r run s a =
     ap (λ (d : Said Unit). must (takes (settings .roles) r (a .number)) reason.Extra (run .key) >> d)
-    (passed _ why (run .key) (contentFault r run s a) (expected-form settings vendors sizes hold (a .number)))
+    (sym (must-passed refl why (run .key) (contentFault r run s a) (expected-form settings vendors sizes hold (a .number)) refl))

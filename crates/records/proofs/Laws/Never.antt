@@ -1,7 +1,5 @@
--- No record is refused by 14, on any section, table and settings: past the tests the settings hold, so the form of every attribute is the one that is
--- expected.
+-- No record is refused by 14, on any section, table and settings.
 use Prim.Native.Nat.{ℕ, zero, suc, _+_}
-use mathlib.Core.Path.{_≡_, refl}
 use mathlib.Core.Bool.{Bool, true, false}
 use mathlib.Core.List.{List, [], _∷_}
 use lib.ListN.{length}
@@ -13,8 +11,6 @@ use Rattle.numbers.specs.declared.Endian.{Endian}
 use Rattle.format.specs.AttributeKind as attribute
 use Rattle.format.specs.TagKind as tag
 use Rattle.format.specs.Limits.{specificationLimit}
-use Rattle.format.specs.Refusal.{numberOf}
-use Rattle.format.specs.Settings.{settingsHold}
 use Rattle.format.specs.Said.{Said, gives, refuse, _>>=_, _>>_, placed, Never}
 use Rattle.format.proofs.Laws.Never.{never-gives, never-refuse, never-must, never-then, never-past, never-placed, never-room, never-rooms, never-fills, never-fills-both}
 use Rattle.format.specs.declared.settings.Settings.{Settings}
@@ -24,8 +20,7 @@ use Rattle.blocks.specs.declared.types.Type.{«Type»}
 use Rattle.blocks.proofs.Laws.Never.{shape-never, type-never}
 use Rattle.tables.specs.Table.{Table, Rows, tableRows}
 use Rattle.tables.specs.Row.{rowAt}
-use Rattle.tables.specs.Keyed.{rowOf}
-use Rattle.tables.proofs.Laws.Never.{found-never, row-never, row-holds}
+use Rattle.tables.proofs.Laws.Never.{found-never, row-never}
 use Rattle.tables.specs.declared.find.Found.{Found}
 use Rattle.tables.specs.declared.find.Found.the-variants as found
 use Rattle.links.specs.Walk.{Walk, ends, endless}
@@ -59,7 +54,7 @@ use Rattle.records.specs.declared.typedef.Typedef.{Typedef}
 
 fault-never : {A : Type 0} (key : ℕ) (d : Said A) → Never 14 d → Never 14 (faultOf key d)
 unfolding faultOf
-fault-never key d h = never-past _ _ (never-placed key d h) (λ x p. never-gives tt)
+fault-never key d h = never-past _ _ (never-placed key d h) (never-gives tt)
 
 location-never : (r : Record) (e : Endian) (block : List ℕ) → Never 14 (locationOf r e block)
 unfolding locationOf
@@ -81,7 +76,7 @@ content-never r run s a =
 pub faults-never : (fault : ℕ → Said Unit) → ((j : ℕ) → Never 14 (fault j)) → (j n : ℕ) → Never 14 (faultsFrom fault j n)
 unfolding faultsFrom
 faults-never fault h j zero = never-gives tt
-faults-never fault h j (suc n) = never-past _ _ (h j) (λ x p. faults-never fault h (suc j) n)
+faults-never fault h j (suc n) = never-past _ _ (h j) (faults-never fault h (suc j) n)
 
 -- ---- what is needed
 
@@ -92,30 +87,30 @@ HeldNever nothing = Unit
 
 module _ (key : ℕ) where
   attribute-never : (attrs : List ℕ) (f : Found) → Never 14 (attributeNeeded attrs key f)
-  unfolding attributeNeeded numberOf
+  unfolding attributeNeeded
   attribute-never attrs (found.At k) = never-gives _
-  attribute-never attrs found.Nothing = never-refuse reason.Missing key refl
+  attribute-never attrs found.Nothing = never-refuse reason.Missing key
 
   name-never : (n : Name) → Never 14 (nameNeeded key n)
-  unfolding nameNeeded numberOf
+  unfolding nameNeeded
   name-never (name.Is text) = never-gives text
-  name-never name.Nothing = never-refuse reason.Missing key refl
+  name-never name.Nothing = never-refuse reason.Missing key
 
   word-never : (w : Word) → Never 14 (wordNeeded key w)
-  unfolding wordNeeded numberOf
+  unfolding wordNeeded
   word-never (word.Is x) = never-gives x
-  word-never word.Nothing = never-refuse reason.Missing key refl
+  word-never word.Nothing = never-refuse reason.Missing key
 
   held-never : (h : Held) → HeldNever h → Never 14 (typeNeeded key h)
-  unfolding typeNeeded numberOf
+  unfolding typeNeeded
   held-never (holds d) h = h
-  held-never nothing h = never-refuse reason.Missing key refl
+  held-never nothing h = never-refuse reason.Missing key
 
   bits-never : (size offset : Word) → Never 14 (bitsBy key size offset)
-  unfolding bitsBy numberOf
+  unfolding bitsBy
   bits-never (word.Is size) (word.Is offset) = never-gives _
-  bits-never (word.Is size) word.Nothing = never-refuse reason.Missing key refl
-  bits-never word.Nothing (word.Is offset) = never-refuse reason.Missing key refl
+  bits-never (word.Is size) word.Nothing = never-refuse reason.Missing key
+  bits-never word.Nothing (word.Is offset) = never-refuse reason.Missing key
   bits-never word.Nothing word.Nothing = never-gives _
 
 module _ (s attrs : List ℕ) (run : Run) where
@@ -124,30 +119,30 @@ module _ (s attrs : List ℕ) (run : Run) where
 
   type-of-never : Never 14 (typeOf s attrs run)
   unfolding typeOf typeBy
-  type-of-never = never-then _ _ (attribute-never (run .key) attrs _) (λ a p. said-type-never a)
+  type-of-never = never-then _ _ (attribute-never (run .key) attrs _) said-type-never
 
   offset-never : Never 14 (offsetField s attrs run)
   unfolding offsetField
-  offset-never = never-then _ _ (attribute-never (run .key) attrs _) (λ a p. never-placed (run .key) _ (shape-never _ (run .ends .section) _))
+  offset-never = never-then _ _ (attribute-never (run .key) attrs _) (λ a. never-placed (run .key) _ (shape-never _ (run .ends .section) _))
 
 -- ---- before the fields
 
 kind-never : (settings : Settings) (rows : List ℕ) (r : Record) (i : ℕ) → Never 14 (kindFault settings rows r i)
-unfolding kindFault numberOf
-kind-never settings rows r i = never-must _ reason.Kind _ refl
+unfolding kindFault
+kind-never settings rows r i = never-must _ reason.Kind _
 
 childless-never : (rows : List ℕ) (i : ℕ) (w : Walk) → Never 14 (childlessFault rows i w)
-unfolding childlessFault numberOf
-childless-never rows i (ends cs) = never-must _ reason.Child _ refl
-childless-never rows i endless = never-refuse reason.Link _ refl
+unfolding childlessFault
+childless-never rows i (ends cs) = never-must _ reason.Child _
+childless-never rows i endless = never-refuse reason.Link _
 
 -- ---- an enumeration's list
 
 element-never : (base : ℕ) (next : ℕ → Said (List Listed)) → ((k : ℕ) → Never 14 (next k)) → (e : Element) → Never 14 (elementThen base next e)
-unfolding elementThen numberOf
-element-never base next h (element.Is value place length next′) = never-then _ _ (h next′) (λ xs p. never-gives _)
+unfolding elementThen
+element-never base next h (element.Is value place length next′) = never-then _ _ (h next′) (λ xs. never-gives _)
 element-never base next h (element.Name next′) = h next′
-element-never base next h element.Missing = never-refuse reason.Block 0 refl
+element-never base next h element.Missing = never-refuse reason.Block 0
 
 elements-never : (width : ℕ) (e : Endian) (base : ℕ) (block : List ℕ) (turns at : ℕ) → Never 14 (elementsFrom width e base block turns at)
 unfolding elementsFrom
@@ -163,14 +158,12 @@ list-never : (s attrs : List ℕ) (run : Run) (j : ℕ) → Never 14 (listAt s a
 unfolding listAt elementsIn
 list-never s attrs run j = never-placed (run .key) _ (elements-never _ (run .ends .section) _ _ _ 0)
 
--- ---- with settings that hold
+-- ---- attributes in their order
 
-module _ (settings : Settings) (vendors sizes : List ℕ) (hold : settingsHold settings vendors sizes ≡ true) where
+module _ (settings : Settings) where
   attribute-fault-never : (r : Record) (run : Run) (s : List ℕ) (a : Attribute) → Never 14 (attributeFault (settings .roles) r run s a)
-  unfolding attributeFault numberOf
-  attribute-fault-never r run s a =
-      never-past _ _ (never-must _ reason.Extra (run .key) refl)
-      (λ x p. content-never r run s a)
+  unfolding attributeFault
+  attribute-fault-never r run s a = never-past _ _ (never-must _ reason.Extra (run .key)) (content-never r run s a)
 
   at-never : (r : Record) (run : Run) (s attrs : List ℕ) (j : ℕ) → Never 14 (faultAt (settings .roles) r run s attrs j)
   unfolding faultAt
@@ -179,11 +172,11 @@ module _ (settings : Settings) (vendors sizes : List ℕ) (hold : settingsHold s
   module _ (t : Rows) where
     head-never : (r : Record) (i : ℕ) → Never 14 (headOf settings (t .section) (t .rows) (t .attrs) r i)
     unfolding headOf
-    head-never r i = never-past _ _ (kind-never settings (t .rows) r i) (λ x p. faults-never _ (at-never r _ (t .section) (t .attrs)) 0 _)
+    head-never r i = never-past _ _ (kind-never settings (t .rows) r i) (faults-never _ (at-never r _ (t .section) (t .attrs)) 0 _)
 
     front-never : (r : Record) (i : ℕ) → Never 14 (frontOf settings t r i)
     unfolding frontOf
-    front-never r i = never-past _ _ (head-never r i) (λ x p. childless-never (t .rows) i (childWalk t i))
+    front-never r i = never-past _ _ (head-never r i) (childless-never (t .rows) i (childWalk t i))
 
     -- ---- records that read no attribute themselves
 
@@ -191,51 +184,51 @@ module _ (settings : Settings) (vendors sizes : List ℕ) (hold : settingsHold s
     unfolding memberAt memberFields
     member-at-never i =
         never-past _ _ (front-never record′.Member i)
-        (λ x p. never-then _ _ (type-of-never (t .section) (t .attrs) _)
-        (λ of p. never-then _ _ (offset-never (t .section) (t .attrs) _) (λ offset p. never-then _ _ (bits-never _ _ _) (λ b p. never-gives _))))
+        (never-then _ _ (type-of-never (t .section) (t .attrs) _)
+        (λ of. never-then _ _ (offset-never (t .section) (t .attrs) _) (λ offset. never-then _ _ (bits-never _ _ _) (λ b. never-gives _))))
 
     variable-at-never : (i : ℕ) → Never 14 (variableAt settings t i)
     unfolding variableAt variableFields
     variable-at-never i =
-        never-past _ _ (front-never record′.Variable i) (λ x p. never-then _ _ (type-of-never (t .section) (t .attrs) _) (λ of p. never-gives _))
+        never-past _ _ (front-never record′.Variable i) (never-then _ _ (type-of-never (t .section) (t .attrs) _) (λ of. never-gives _))
 
     label-at-never : (i : ℕ) → Never 14 (labelAt settings t i)
     unfolding labelAt labelFields
     label-at-never i =
         never-past _ _ (front-never record′.Label i)
-        (λ x p. never-then _ _ (name-never _ _) (λ text p. never-then _ _ (word-never _ _) (λ address p. never-gives _)))
+        (never-then _ _ (name-never _ _) (λ text. never-then _ _ (word-never _ _) (λ address. never-gives _)))
 
     pub ptr-at-never : (i : ℕ) → Never 14 (ptrAt settings t i)
     unfolding ptrAt ptrFields
     ptr-at-never i =
         never-past _ _ (front-never record′.PtrToMember i)
-        (λ x p. never-then _ _ (type-of-never (t .section) (t .attrs) _) (λ of p. never-then _ _ (word-never _ _) (λ containing p. never-gives _)))
+        (never-then _ _ (type-of-never (t .section) (t .attrs) _) (λ of. never-then _ _ (word-never _ _) (λ containing. never-gives _)))
 
     overlay-at-never : (i : ℕ) → Never 14 (overlayAt settings (t .section) (t .rows) (t .attrs) i)
     unfolding overlayAt overlayFields
     overlay-at-never i =
         never-past _ _ (head-never record′.OverlayBranch i)
-        (λ x p. never-then _ _ (name-never _ _)
-        (λ text p. never-then _ _ (word-never _ _)
-        (λ id p. never-then _ _ (word-never _ _) (λ start p. never-then _ _ (word-never _ _) (λ end p. never-gives _)))))
+        (never-then _ _ (name-never _ _)
+        (λ text. never-then _ _ (word-never _ _)
+        (λ id. never-then _ _ (word-never _ _) (λ start. never-then _ _ (word-never _ _) (λ end. never-gives _)))))
 
     -- ---- unions
 
     pub member-then-never : (c : ℕ) (rest : Said (List RowMember)) → Never 14 rest → Never 14 (memberThen settings t c rest)
     unfolding memberThen
-    member-then-never c rest h = never-then _ _ (member-at-never c) (λ m p. never-then _ _ h (λ ms p. never-gives _))
+    member-then-never c rest h = never-then _ _ (member-at-never c) (λ m. never-then _ _ h (λ ms. never-gives _))
 
     members-never : (key : ℕ) (cs : List ℕ) → Never 14 (membersFrom settings t key cs)
-    unfolding membersFrom childThen numberOf
+    unfolding membersFrom childThen
     members-never key [] = never-gives []
     members-never key (c ∷ cs) =
         cond-all (Never 14) (eqb (rowAt (t .rows) c .kind) tag.Member) (λ q. member-then-never c _ (members-never key cs))
-        (λ q. cond-all (Never 14) (ignored (rowAt (t .rows) c .kind)) (λ q. members-never key cs) (λ q. never-refuse reason.Child key refl))
+        (λ q. cond-all (Never 14) (ignored (rowAt (t .rows) c .kind)) (λ q. members-never key cs) (λ q. never-refuse reason.Child key))
 
     members-by-never : (key : ℕ) (w : Walk) → Never 14 (membersBy settings t key w)
-    unfolding membersBy numberOf
+    unfolding membersBy
     members-by-never key (ends cs) = members-never key (nonNull (t .rows) cs)
-    members-by-never key endless = never-refuse reason.Link key refl
+    members-by-never key endless = never-refuse reason.Link key
 
     row-members-never : (i : ℕ) → Never 14 (rowMembers settings t i)
     unfolding rowMembers
@@ -245,7 +238,7 @@ module _ (settings : Settings) (vendors sizes : List ℕ) (hold : settingsHold s
     unfolding unionAt unionSized
     union-at-never i =
         never-past _ _ (head-never record′.Union i)
-        (λ x p. never-then _ _ (row-members-never i) (λ ms p. never-then _ _ (word-never _ _) (λ size p. never-gives _)))
+        (never-then _ _ (row-members-never i) (λ ms. never-then _ _ (word-never _ _) (λ size. never-gives _)))
 
     -- ---- enumerations
 
@@ -258,8 +251,8 @@ module _ (settings : Settings) (vendors sizes : List ℕ) (hold : settingsHold s
     lists-never run j zero = never-gives []
     lists-never run j (suc m) =
         never-past _ _ (at-never record′.Enumeration run (t .section) (t .attrs) j)
-        (λ x p. never-then _ _ (own-list-never run j (special record′.Enumeration (numberAt (settings .roles) record′.Enumeration run (t .section) (t .attrs) j)))
-        (λ xs p. never-then _ _ (lists-never run (suc j) m) (λ ys p. never-gives _)))
+        (never-then _ _ (own-list-never run j (special record′.Enumeration (numberAt (settings .roles) record′.Enumeration run (t .section) (t .attrs) j)))
+        (λ xs. never-then _ _ (lists-never run (suc j) m) (λ ys. never-gives _)))
 
     row-lists-never : (i : ℕ) → Never 14 (rowLists settings t i)
     unfolding rowLists
@@ -269,27 +262,27 @@ module _ (settings : Settings) (vendors sizes : List ℕ) (hold : settingsHold s
     unfolding enumerationAt enumerationSized
     enumeration-at-never i =
         never-past _ _ (kind-never settings (t .rows) record′.Enumeration i)
-        (λ x p. never-then _ _ (row-lists-never i)
-        (λ xs p. never-past _ _ (childless-never (t .rows) i (childWalk t i)) (λ x p. never-then _ _ (word-never _ _) (λ size p. never-gives _))))
+        (never-then _ _ (row-lists-never i)
+        (λ xs. never-past _ _ (childless-never (t .rows) i (childWalk t i)) (never-then _ _ (word-never _ _) (λ size. never-gives _))))
 
     -- ---- typedefs
 
     specified-never : (run : Run) (levels j : ℕ) → Never 14 (specified settings t run levels j)
-    unfolding specified specifiedBy numberOf
+    unfolding specified specifiedBy
     specified-never run levels j =
         never-past _ _ (at-never record′.Typedef run (t .section) (t .attrs) j)
-        (λ x p. read-all (specifiedBy settings (t .rows) (t .count) levels) (refuse reason.Block (run .key)) (run .ends .section) 4 (t .section)
+        (read-all (specifiedBy settings (t .rows) (t .count) levels) (refuse reason.Block (run .key)) (run .ends .section) 4 (t .section)
         (attributeAt (t .attrs) (run .first + j) .value) (Never 14)
         (λ q. never-then _ _ (found-never _ _)
-        (λ r p. never-past _ _ (never-must _ reason.Depth _ refl)
-        (λ x p. never-past _ _ (kind-never settings (t .rows) record′.Typedef r) (λ x p. never-gives r))))
-        (λ q. never-refuse reason.Block (run .key) refl))
+        (λ r. never-past _ _ (never-must _ reason.Depth _)
+        (never-past _ _ (kind-never settings (t .rows) record′.Typedef r) (never-gives r))))
+        (λ q. never-refuse reason.Block (run .key)))
 
     typedef-end-never : (i : ℕ) (known : SoFar) → HeldNever (known .of) → Never 14 (typedefEnd settings t i known)
     unfolding typedefEnd
     typedef-end-never i known h =
         never-past _ _ (childless-never (t .rows) i (childWalk t i))
-        (λ x p. never-then _ _ (name-never _ (known .name)) (λ text p. never-then _ _ (held-never _ (known .of) h) (λ of p. never-gives _)))
+        (never-then _ _ (name-never _ (known .name)) (λ text. never-then _ _ (held-never _ (known .of) h) (λ of. never-gives _)))
 
     filled-never : (known : SoFar) (typedef : Typedef) → HeldNever (known .of) → HeldNever (filledIn known typedef .of)
     unfolding filledIn typeFilled
@@ -316,65 +309,58 @@ module _ (settings : Settings) (vendors sizes : List ℕ) (hold : settingsHold s
           | false ↦ faultAt (settings .roles) record′.Typedef run (t .section) (t .attrs) j >> attributesFrom settings t below levels i run (suc j) m next
         ])) [
           | true ↦ never-then _ _ (specified-never run levels j)
-              (λ r p. never-then _ named (h r) (λ typedef p. attributes-never below h levels i run (suc j) m _ (filled-never known typedef k)))
+              (λ r. never-then _ named (h r) (λ typedef. attributes-never below h levels i run (suc j) m _ (filled-never known typedef k)))
           | false ↦ never-past _ _ (at-never record′.Typedef run (t .section) (t .attrs) j)
-              (λ x p. attributes-never below h levels i run (suc j) m next (overwritten-never run _ known k))
+              (attributes-never below h levels i run (suc j) m next (overwritten-never run _ known k))
         ]
 
     typedef-run-never : (levels i : ℕ) → Never 14 (typedefRun settings t levels i)
-    unfolding typedefRun nothingYet numberOf
-    typedef-run-never zero i = attributes-never _ (λ r. never-refuse reason.Depth _ refl) zero i _ 0 _ nothingYet tt
+    unfolding typedefRun nothingYet
+    typedef-run-never zero i = attributes-never _ (λ r. never-refuse reason.Depth _) zero i _ 0 _ nothingYet tt
     typedef-run-never (suc levels) i = attributes-never _ (typedef-run-never levels) (suc levels) i _ 0 _ nothingYet tt
 
     typedef-at-never : (i : ℕ) → Never 14 (typedefAt settings t i)
     unfolding typedefAt
-    typedef-at-never i = never-past _ _ (kind-never settings (t .rows) record′.Typedef i) (λ x p. typedef-run-never specificationLimit i)
+    typedef-at-never i = never-past _ _ (kind-never settings (t .rows) record′.Typedef i) (typedef-run-never specificationLimit i)
 
 -- ---- the calls
 
 module _ (t : Table) (key : ℕ) where
-  -- past the row of a key the settings hold
-  keyed-never : {A : Type 0} (next : ℕ → Said A) → (settingsHold (t .settings) (t .vendors) (t .sizes) ≡ true → (i : ℕ) → Never 14 (next i))
-      → Never 14 (rowOf t key >>= next)
-  keyed-never next h = never-then _ next (row-never t key) (λ i p. h (row-holds t key p) i)
-
   pub member-never : Never 14 (processStructureMemberTag t key)
   unfolding processStructureMemberTag
-  member-never = keyed-never _ (λ hold i. member-at-never (t .settings) (t .vendors) (t .sizes) hold (tableRows t) i)
+  member-never = never-then _ _ (row-never t key) (member-at-never (t .settings) (tableRows t))
 
   pub union-never : (room : List ℕ) → Never 14 (processUnionTag t key room .answer)
   unfolding processUnionTag unionInto
   union-never room =
       never-room room _ _ (row-never t key)
-      (λ i p. let hold : settingsHold (t .settings) (t .vendors) (t .sizes) ≡ true = row-holds t key p in
-      never-room room _ _ (union-at-never (t .settings) (t .vendors) (t .sizes) hold (tableRows t) i)
-      (λ u p. never-room room _ _ (row-members-never (t .settings) (t .vendors) (t .sizes) hold (tableRows t) i) (λ ms p. never-fills _ _ _ _ room)))
+      (λ i. never-room room _ _ (union-at-never (t .settings) (tableRows t) i)
+      (λ u. never-room room _ _ (row-members-never (t .settings) (tableRows t) i) (λ ms. never-fills _ _ _ _ room)))
 
   pub enumeration-never : (values : List ℤ) (names : List ℕ) → Never 14 (processEnumerationTag t key values names .answer)
   unfolding processEnumerationTag enumerationInto
   enumeration-never values names =
       never-rooms values names _ _ (row-never t key)
-      (λ i p. let hold : settingsHold (t .settings) (t .vendors) (t .sizes) ≡ true = row-holds t key p in
-      never-rooms values names _ _ (enumeration-at-never (t .settings) (t .vendors) (t .sizes) hold (tableRows t) i)
-      (λ e p. never-rooms values names _ _ (row-lists-never (t .settings) (t .vendors) (t .sizes) hold (tableRows t) i)
-      (λ xs p. never-fills-both _ _ _ _ _ values names)))
+      (λ i. never-rooms values names _ _ (enumeration-at-never (t .settings) (tableRows t) i)
+      (λ e. never-rooms values names _ _ (row-lists-never (t .settings) (tableRows t) i)
+      (λ xs. never-fills-both _ _ _ _ _ values names)))
 
   pub typedef-never : Never 14 (processTypedefTag t key)
   unfolding processTypedefTag
-  typedef-never = keyed-never _ (λ hold i. typedef-at-never (t .settings) (t .vendors) (t .sizes) hold (tableRows t) i)
+  typedef-never = never-then _ _ (row-never t key) (typedef-at-never (t .settings) (tableRows t))
 
   pub variable-never : Never 14 (processVariableTag t key)
   unfolding processVariableTag
-  variable-never = keyed-never _ (λ hold i. variable-at-never (t .settings) (t .vendors) (t .sizes) hold (tableRows t) i)
+  variable-never = never-then _ _ (row-never t key) (variable-at-never (t .settings) (tableRows t))
 
   pub label-never : Never 14 (processSubroutineLabelTag t key)
   unfolding processSubroutineLabelTag
-  label-never = keyed-never _ (λ hold i. label-at-never (t .settings) (t .vendors) (t .sizes) hold (tableRows t) i)
+  label-never = never-then _ _ (row-never t key) (label-at-never (t .settings) (tableRows t))
 
   pub ptr-to-member-never : Never 14 (processPtrToMemberTag t key)
   unfolding processPtrToMemberTag
-  ptr-to-member-never = keyed-never _ (λ hold i. ptr-at-never (t .settings) (t .vendors) (t .sizes) hold (tableRows t) i)
+  ptr-to-member-never = never-then _ _ (row-never t key) (ptr-at-never (t .settings) (tableRows t))
 
   pub overlay-branch-never : Never 14 (processOverlayBranch t key)
   unfolding processOverlayBranch
-  overlay-branch-never = keyed-never _ (λ hold i. overlay-at-never (t .settings) (t .vendors) (t .sizes) hold (tableRows t) i)
+  overlay-branch-never = never-then _ _ (row-never t key) (overlay-at-never (t .settings) (tableRows t))

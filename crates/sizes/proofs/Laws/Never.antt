@@ -1,7 +1,6 @@
 -- No size is refused by 14, on any section, table and settings.
 use Prim.Native.Nat.{ℕ, zero, suc, _+_, _*_}
-use mathlib.Core.Path.{_≡_, refl}
-use mathlib.Core.Bool.{Bool, true, false, cond}
+use mathlib.Core.Bool.{true, false}
 use mathlib.Core.List.{List, [], _∷_}
 use lib.ListN.{length, drop}
 use lib.Dec.{eqb}
@@ -10,9 +9,7 @@ use Rattle.numbers.specs.declared.Endian.{Endian}
 use Rattle.format.specs.AttributeKind as attribute
 use Rattle.format.specs.TagKind as tag
 use Rattle.format.specs.Limits.{depthLimit}
-use Rattle.format.specs.Refusal.{numberOf}
-use Rattle.format.specs.Settings.{settingsHold}
-use Rattle.format.specs.Said.{Said, gives, refuse, must, _>>=_, _>>_, placed, Never}
+use Rattle.format.specs.Said.{Said, gives, _>>=_, _>>_, placed, Never}
 use Rattle.format.proofs.Laws.Never.{never-gives, never-refuse, never-must, never-then, never-past, never-placed}
 use Rattle.format.specs.declared.settings.Settings.{Settings}
 use Rattle.format.specs.declared.refusal.Reason.the-variants as reason
@@ -23,13 +20,12 @@ use Rattle.blocks.specs.declared.types.TypeKind.the-variants as kind
 use Rattle.blocks.proofs.Laws.Never.{subscript-never, subscripts-never}
 use Rattle.tables.specs.Table.{Table, Rows, tableRows}
 use Rattle.tables.specs.Row.{rowAt}
-use Rattle.tables.specs.Tests.{testTable}
-use Rattle.tables.proofs.Laws.Never.{tests-never, found-never, tests-hold}
+use Rattle.tables.proofs.Laws.Never.{tests-never, found-never}
 use Rattle.tables.specs.declared.find.Found.{Found}
 use Rattle.tables.specs.declared.find.Found.the-variants as found
 use Rattle.links.specs.Walk.{Walk, ends, endless}
 use Rattle.links.specs.Links.{childWalk, nonNull}
-use Rattle.records.specs.Scan.{runOf, attributeAt}
+use Rattle.records.specs.Scan.{attributeAt}
 use Rattle.records.specs.Unions.{RowMember}
 use Rattle.records.specs.declared.scan.Run.{Run}
 use Rattle.records.specs.declared.fields.Word.{Word}
@@ -44,8 +40,8 @@ use Rattle.sizes.specs.declared.prepare.Shape.the-variants as shape
 -- ---- types and arrays
 
 kind-size-never : (sizes : List ℕ) (entry : ℕ → Said ℕ) → ((key : ℕ) → Never 14 (entry key)) → (k : TypeKind) → Never 14 (kindSize sizes entry k)
-unfolding kindSize fundamentalSize numberOf
-kind-size-never sizes entry h (kind.Fundamental number) = never-past _ _ (never-must _ reason.Number 0 refl) (λ x p. never-gives _)
+unfolding kindSize fundamentalSize
+kind-size-never sizes entry h (kind.Fundamental number) = never-past _ _ (never-must _ reason.Number 0) (never-gives _)
 kind-size-never sizes entry h (kind.UserDefined key) = h key
 
 type-size-never : (sizes : List ℕ) (entry : ℕ → Said ℕ) → ((key : ℕ) → Never 14 (entry key)) → (t : «Type») → Never 14 (typeSizeBy sizes entry t)
@@ -54,9 +50,9 @@ type-size-never sizes entry h t = cond-all (Never 14) (t .pointer) (λ q. never-
 
 part-never : (e : Endian) (key : ℕ) (next : ℕ → ℕ → Said ℕ) → ((used size : ℕ) → Never 14 (next used size)) → (size : ℕ) (part : Part)
     → Never 14 (partThen e key next size part)
-unfolding partThen times numberOf
+unfolding partThen times
 part-never e key next h size (dimension index many used) =
-    never-then _ _ (never-past _ _ (never-must _ reason.Big key refl) (λ x p. never-gives (size * many))) (λ product p. h used product)
+    never-then _ _ (never-past _ _ (never-must _ reason.Big key) (never-gives (size * many))) (λ product. h used product)
 part-never e key next h size (element t used) = h used size
 
 product-never : (e : Endian) (key turns size : ℕ) (block : List ℕ) → Never 14 (productFrom e key turns size block)
@@ -67,13 +63,13 @@ product-never e key (suc turns) size block =
     elim (eqb (length block) 0) as (λ b. Never {A = ℕ} 14 (elim b [ true ↦ gives size | false ↦ placed key (nextSubscript e block) >>= partThen e key next size ])) [
       | true ↦ never-gives size
       | false ↦ never-then (placed key (nextSubscript e block)) (partThen e key next size) (never-placed key _ (subscript-never e block))
-          (λ part p. part-never e key next (λ used product. product-never e key turns product (drop used block)) size part)
+          (λ part. part-never e key next (λ used product. product-never e key turns product (drop used block)) size part)
     ]
 
 needed-never : (key : ℕ) (f : Found) → Never 14 (neededAt key f)
-unfolding neededAt numberOf
+unfolding neededAt
 needed-never key (found.At k) = never-gives k
-needed-never key found.Nothing = never-refuse reason.Missing key refl
+needed-never key found.Nothing = never-refuse reason.Missing key
 
 module _ (s attrs : List ℕ) (run : Run) where
   array-read-never : (k : ℕ) → Never 14 (subscriptsAt s attrs run k)
@@ -84,14 +80,14 @@ module _ (s attrs : List ℕ) (run : Run) where
   unfolding subscriptFault
   subscript-fault-never j =
       cond-all (Never 14) (eqb (attributeAt attrs (run .first + j) .number) attribute.SubscrData)
-      (λ q. never-past _ _ (array-read-never (run .first + j)) (λ x p. never-gives tt)) (λ q. never-gives tt)
+      (λ q. never-past _ _ (array-read-never (run .first + j)) (never-gives tt)) (λ q. never-gives tt)
 
   array-never : (size : «Type» → Said ℕ) → ((t : «Type») → Never 14 (size t)) → Never 14 (arraySize s attrs run size)
   unfolding arraySize productOf
   array-never size h =
       never-past _ _ (faults-never _ subscript-fault-never 0 (run .count))
-      (λ x p. never-then _ _ (needed-never (run .key) _)
-      (λ k p. never-then _ _ (array-read-never k) (λ array p. never-then _ _ (h (array .element)) (λ n p. product-never _ (run .key) _ n _))))
+      (never-then _ _ (needed-never (run .key) _)
+      (λ k. never-then _ _ (array-read-never k) (λ array. never-then _ _ (h (array .element)) (λ n. product-never _ (run .key) _ n _))))
 
 -- ---- members and their ends
 
@@ -104,59 +100,59 @@ member-size-never size h m = own (m .member .«byte_size»)
     own word.Nothing = h (m .member .of)
 
 pub end-never : (key largest end : ℕ) → Never 14 (withEnd key largest end)
-unfolding withEnd numberOf
-end-never key largest end = never-past _ _ (never-must _ reason.Big key refl) (λ x p. never-gives _)
+unfolding withEnd
+end-never key largest end = never-past _ _ (never-must _ reason.Big key) (never-gives _)
 
 module _ (rows : List ℕ) (size : «Type» → Said ℕ) (h : (t : «Type») → Never 14 (size t)) where
   ends-never : (largest : ℕ) (ms : List RowMember) → Never 14 (endsFrom rows size largest ms)
   unfolding endsFrom
   ends-never largest [] = never-gives largest
   ends-never largest (m ∷ ms) =
-      never-then _ _ (member-size-never size h m) (λ n p. never-then _ _ (end-never _ largest _) (λ next p. ends-never next ms))
+      never-then _ _ (member-size-never size h m) (λ n. never-then _ _ (end-never _ largest _) (λ next. ends-never next ms))
 
   size-or-ends-never : (ms : List RowMember) (w : Word) → Never 14 (sizeOrEnds rows size ms w)
   unfolding sizeOrEnds
   size-or-ends-never ms (word.Is n) = never-gives n
   size-or-ends-never ms word.Nothing = ends-never 0 ms
 
--- ---- with settings that hold
+-- ---- rows
 
-module _ (settings : Settings) (vendors sizes : List ℕ) (hold : settingsHold settings vendors sizes ≡ true) (t : Rows) where
+module _ (settings : Settings) (t : Rows) where
   member-rows-never : (cs : List ℕ) → Never 14 (memberRowsFrom settings t cs)
   unfolding memberRowsFrom memberChildThen
   member-rows-never [] = never-gives []
   member-rows-never (c ∷ cs) =
       cond-all (Never 14) (eqb (rowAt (t .rows) c .kind) tag.Member)
-      (λ q. member-then-never settings vendors sizes hold t c _ (member-rows-never cs)) (λ q. member-rows-never cs)
+      (λ q. member-then-never settings t c _ (member-rows-never cs)) (λ q. member-rows-never cs)
 
   member-rows-by-never : (key : ℕ) (w : Walk) → Never 14 (memberRowsBy settings t key w)
-  unfolding memberRowsBy numberOf
+  unfolding memberRowsBy
   member-rows-by-never key (ends cs) = member-rows-never (nonNull (t .rows) cs)
-  member-rows-by-never key endless = never-refuse reason.Link key refl
+  member-rows-by-never key endless = never-refuse reason.Link key
 
   pub members-of-never : (i : ℕ) → Never 14 (membersOf settings t i)
   unfolding membersOf
   members-of-never i = member-rows-by-never _ (childWalk t i)
 
   shape-size-never : (size : «Type» → Said ℕ) → ((of : «Type») → Never 14 (size of)) → (i : ℕ) (s : Shape) → Never 14 (shapeSize settings t size i s)
-  unfolding shapeSize numberOf
+  unfolding shapeSize
   shape-size-never size h i shape.Array = array-never (t .section) (t .attrs) _ size h
-  shape-size-never size h i shape.Structure = never-then _ _ (members-of-never i) (λ ms p. size-or-ends-never (t .rows) size h ms _)
-  shape-size-never size h i shape.Enumeration = never-then _ _ (enumeration-at-never settings vendors sizes hold t i) (λ e p. never-gives _)
-  shape-size-never size h i shape.Union = never-then _ _ (union-at-never settings vendors sizes hold t i) (λ u p. never-gives _)
-  shape-size-never size h i shape.PtrToMember = never-past _ _ (ptr-at-never settings vendors sizes hold t i) (λ x p. never-gives 4)
+  shape-size-never size h i shape.Structure = never-then _ _ (members-of-never i) (λ ms. size-or-ends-never (t .rows) size h ms _)
+  shape-size-never size h i shape.Enumeration = never-then _ _ (enumeration-at-never settings t i) (λ e. never-gives _)
+  shape-size-never size h i shape.Union = never-then _ _ (union-at-never settings t i) (λ u. never-gives _)
+  shape-size-never size h i shape.PtrToMember = never-past _ _ (ptr-at-never settings t i) (never-gives 4)
   shape-size-never size h i shape.Subroutine = never-gives 0
-  shape-size-never size h i shape.Other = never-refuse reason.Kind _ refl
+  shape-size-never size h i shape.Other = never-refuse reason.Kind _
 
-  entry-never : (levels key : ℕ) → Never 14 (entrySize settings sizes t levels key)
-  unfolding entrySize rowSize numberOf
-  entry-never zero key = never-past _ _ (found-never key _) (λ x p. never-refuse reason.Depth key refl)
-  entry-never (suc levels) key =
-      never-then _ _ (found-never key _) (λ i p. shape-size-never _ (type-size-never sizes _ (entry-never levels)) i (shapeOf (rowAt (t .rows) i .kind)))
+  entry-never : (sizes : List ℕ) (levels key : ℕ) → Never 14 (entrySize settings sizes t levels key)
+  unfolding entrySize rowSize
+  entry-never sizes zero key = never-past _ _ (found-never key _) (never-refuse reason.Depth key)
+  entry-never sizes (suc levels) key =
+      never-then _ _ (found-never key _) (λ i. shape-size-never _ (type-size-never sizes _ (entry-never sizes levels)) i (shapeOf (rowAt (t .rows) i .kind)))
 
-  pub type-never : (levels : ℕ) (of : «Type») → Never 14 (typeSize settings sizes t levels of)
+  pub type-never : (sizes : List ℕ) (levels : ℕ) (of : «Type») → Never 14 (typeSize settings sizes t levels of)
   unfolding typeSize
-  type-never levels of = type-size-never sizes _ (entry-never levels) of
+  type-never sizes levels of = type-size-never sizes _ (entry-never sizes levels) of
 
 -- ---- the calls
 
@@ -164,9 +160,9 @@ module _ (t : Table) where
   pub size-of-key-never : (key : ℕ) → Never 14 (sizeOfKey t key)
   unfolding sizeOfKey
   size-of-key-never key =
-      never-past _ _ (tests-never t) (λ x p. entry-never (t .settings) (t .vendors) (t .sizes) (tests-hold t p) (tableRows t) depthLimit key)
+      never-past _ _ (tests-never t) (entry-never (t .settings) (tableRows t) (t .sizes) depthLimit key)
 
   pub size-of-type-never : (of : «Type») → Never 14 (sizeOfType t of)
   unfolding sizeOfType
   size-of-type-never of =
-      never-past _ _ (tests-never t) (λ x p. type-never (t .settings) (t .vendors) (t .sizes) (tests-hold t p) (tableRows t) depthLimit of)
+      never-past _ _ (tests-never t) (type-never (t .settings) (tableRows t) (t .sizes) depthLimit of)

@@ -8,16 +8,15 @@ returns-7 : tie.Need-returns-7
 unfolding numberOf
 returns-7 c = sym (ap (numberOf) (c .enum-told7 .given .1))
 
-returns-15 : tie.Need-returns-15
+returns-14 : tie.Need-returns-14
 unfolding numberOf
-returns-15 c = sym (ap (numberOf) (c .enum-told15 .given .1))
+returns-14 c = sym (ap (numberOf) (c .enum-told14 .given .1))
 
 pub number-of-spec : {M : Type 1} → statement M
 unfolding numberOf
 number-of-spec =
     tie.close
     (tie.spec
-    (λ c. search needs)
     (λ c. search needs)
     (λ c. search needs)
     (λ c. search needs)
@@ -50,10 +49,9 @@ number-of-spec =
     (λ c. sym (ap (numberOf) (c .enum-told11 .given .1)))
     (λ c. sym (ap (numberOf) (c .enum-told12 .given .1)))
     (λ c. sym (ap (numberOf) (c .enum-told13 .given .1)))
-    (λ c. sym (ap (numberOf) (c .enum-told14 .given .1)))
-    returns-15
+    returns-14
+    (λ c. sym (ap (numberOf) (c .enum-told15 .given .1)))
     (λ c. sym (ap (numberOf) (c .enum-told16 .given .1)))
     (λ c. sym (ap (numberOf) (c .enum-told17 .given .1)))
     (λ c. sym (ap (numberOf) (c .enum-told18 .given .1)))
-    (λ c. sym (ap (numberOf) (c .enum-told19 .given .1)))
-    (λ c. sym (ap (numberOf) (c .enum-told20 .given .1))))
+    (λ c. sym (ap (numberOf) (c .enum-told19 .given .1))))

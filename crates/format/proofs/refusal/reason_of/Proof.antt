@@ -10,9 +10,9 @@ returns-8 : tie.Need-returns-8
 unfolding lookup reasons reasonOf
 returns-8 c = sym (ap (lookup reasons Settings) (c .match .keys8))
 
-returns-20 : tie.Need-returns-20
+returns-19 : tie.Need-returns-19
 unfolding lookup reasons reasonOf
-returns-20 c = lookup-none _ reasons Settings _ (c .match .rest)
+returns-19 c = lookup-none _ reasons Settings _ (c .match .rest)
 
 pub reason-of-spec : {M : Type 1} → statement M
 unfolding lookup reasons reasonOf
@@ -37,5 +37,4 @@ reason-of-spec =
     (λ c. sym (ap (lookup reasons Settings) (c .match .keys16)))
     (λ c. sym (ap (lookup reasons Settings) (c .match .keys17)))
     (λ c. sym (ap (lookup reasons Settings) (c .match .keys18)))
-    (λ c. sym (ap (lookup reasons Settings) (c .match .keys19)))
-    returns-20)
+    returns-19)
