@@ -46,15 +46,27 @@ expectedForm roles number =
     cond (plays (roles .mangled) number) String
     (cond (plays (roles .«overlay_name») number) String (cond (plays (roles .«overlay_id») number) Data4 (expected number)))
 
--- the attributes whose form the Rust does not look at: Sibling and the three visibilities, and the types, which `processType` reads by their number
-unfoldable pub anyForm : List ℕ
-anyForm = Sibling ∷ FundType ∷ ModFundType ∷ UserDefType ∷ ModUDType ∷ Private ∷ Protected ∷ Public ∷ []
+-- ---- which attributes that is about
 
--- an attribute that this file speaks of: one of these, one whose form is expected, or one that plays a role
+-- the types are wanted in these forms by the Rust's `process_type`, which every record hands them to
+unfoldable pub typeForms : List (Line FormKind)
+typeForms =
+    FundType means Data2 ∷
+    ModFundType means Block2 ∷
+    UserDefType means Ref ∷
+    ModUDType means Block2 ∷ []
+
+-- of these nothing but the number counts: Sibling, and the three visibilities
+unfoldable pub anyForm : List ℕ
+anyForm = Sibling ∷ Private ∷ Protected ∷ Public ∷ []
+
+-- an attribute that this file speaks of: one of all these, or one that plays a role
 unfoldable pub formSaid : Roles → ℕ → Bool
 formSaid roles number =
-    isOn number (anyForm ++ map (λ (l : Line FormKind). l .number) expectedForms)
+    isOn number (anyForm ++ map (λ (l : Line FormKind). l .number) (expectedForms ++ typeForms))
     || (plays (roles .mangled) number || (plays (roles .«overlay_name») number || plays (roles .«overlay_id») number))
+
+-- ---- the test that there was
 
 -- `attributeFault` with a test of the form, as it was up to K8: refused for this reason where the form is not the expected one
 unfoldable pub formTested : Reason → Roles → Record → Run → List ℕ → Attribute → Said Unit

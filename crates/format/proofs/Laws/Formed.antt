@@ -4,19 +4,17 @@ use native.Mathlib.Omega.{arith}
 use mathlib.Core.Path.{_≡_, refl, ap, _∙_}
 use mathlib.Core.Bool.{Bool, true, not, _&&_, cond}
 use mathlib.Core.List.{List, [], _∷_}
-use lib.ListN.{length}
 use lib.Dec.{leb, eqb}
 use borrow.Author.Tests.{leb-true, le-leb, eqb-true}
 use Rattle.numbers.proofs.Laws.Tests.{cond-all}
 use Rattle.format.specs.Lookup.{isOn, lookup}
 use Rattle.format.specs.FormKind.{forms, formOf, formNumber}
 use Rattle.format.specs.AttributeKind.{used, alsoKnown, attributeKinds}
-use Rattle.format.specs.FundType.{fundTypes}
 use Rattle.format.specs.Known.{known}
-use Rattle.format.specs.Limits.{vendorLimit}
-use Rattle.format.specs.Settings.{vendorNumber, vendorsHold, rolesHold, settingsHold}
+use Rattle.format.specs.Settings.{vendorNumber, vendorsHold, settingsHold}
 use Rattle.format.specs.declared.settings.Settings.{Settings}
 use Rattle.format.specs.declared.form_kind.FormKind.the-variants.{Undefined}
+use Rattle.format.proofs.Laws.Settings.{settings-parts}
 use Rattle.format.proofs.Laws.Computed.{and-left, and-right, below, below-at, allOn, all-on}
 
 -- the low four bits are one of the eight
@@ -53,13 +51,8 @@ vendors-formed least (x ∷ xs) t =
 -- the theorem
 pub known-formed : (settings : Settings) (vendors sizes : List ℕ) → settingsHold settings vendors sizes ≡ true → (n : ℕ) → known vendors n ≡ true
     → formOf n ≡ Undefined → ⊥
-unfolding settingsHold known
+unfolding known
 known-formed settings vendors sizes t n k =
-    let lists : Bool = leb (length vendors) vendorLimit && vendorsHold 0 vendors in
-    let roles : Bool = rolesHold vendors (settings .roles) in
-    let holds : vendorsHold 0 vendors ≡ true =
-    and-right (leb (length vendors) vendorLimit) (vendorsHold 0 vendors) (and-left lists roles (and-left (lists && roles) (eqb (length sizes) (length fundTypes)) t))
-    in
     low-formed n
     (cond-all (λ (k : ℕ). lowFormed n ≡ true) (isOn n attributeKinds) {x = 0} {y = 0} (λ e. all-on lowFormed attributeKinds n named-formed e)
-    (λ d. all-on lowFormed vendors n (vendors-formed 0 vendors holds) (rw d at k)))
+    (λ d. all-on lowFormed vendors n (vendors-formed 0 vendors (settings-parts settings vendors sizes t .0)) (rw d at k)))

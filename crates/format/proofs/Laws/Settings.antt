@@ -1,14 +1,18 @@
--- What follows from `Settings`: the vendor list from a place on, for the loop.
+-- What follows from `Settings`: the vendor list from a place on, for the loop; what settings that hold are known to be.
 use Prim.Native.Nat.{ℕ, _+_, _≤_, _<_}
 use native.Mathlib.Numerals.{add-one}
 use mathlib.Core.Path.{_≡_}
-use mathlib.Core.Bool.{true, false, _&&_}
+use mathlib.Core.Bool.{Bool, true, false, _&&_}
 use mathlib.Core.List.{List}
 use lib.ListN.{length, getD, drop, drop-of-length-le}
 use lib.Seq.{drop-cons}
-use lib.Dec.{leb}
+use lib.Dec.{leb, eqb}
 use borrow.Author.Tests.{le-leb, lt-leb}
-use Rattle.format.specs.Settings.{vendorNumber, vendorsHold}
+use Rattle.format.specs.FundType.{fundTypes}
+use Rattle.format.specs.Limits.{vendorLimit}
+use Rattle.format.specs.Settings.{vendorNumber, vendorsHold, rolesHold, settingsHold}
+use Rattle.format.specs.declared.settings.Settings.{Settings}
+use Rattle.format.proofs.Laws.Computed.{and-left, and-right}
 
 module _ (vendors : List ℕ) (i least : ℕ) where
   vendors-step : i < length vendors
@@ -33,3 +37,13 @@ module _ (vendors : List ℕ) (i least : ℕ) where
   pub vendors-end : length vendors ≤ i → true ≡ vendorsHold least (drop i vendors)
   unfolding vendorsHold
   vendors-end h = rw (drop-of-length-le vendors h)
+
+-- settings that hold: their vendor list and their roles do
+pub settings-parts : (settings : Settings) (vendors sizes : List ℕ) → settingsHold settings vendors sizes ≡ true
+    → (vendorsHold 0 vendors ≡ true) × (rolesHold vendors (settings .roles) ≡ true)
+unfolding settingsHold
+settings-parts settings vendors sizes t =
+    let few : Bool = leb (length vendors) vendorLimit in
+    let roles : Bool = rolesHold vendors (settings .roles) in
+    let both : (few && vendorsHold 0 vendors && roles) ≡ true = and-left (few && vendorsHold 0 vendors && roles) (eqb (length sizes) (length fundTypes)) t in
+    (and-right few (vendorsHold 0 vendors) (and-left (few && vendorsHold 0 vendors) roles both), and-right (few && vendorsHold 0 vendors) roles both)

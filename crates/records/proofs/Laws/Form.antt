@@ -3,16 +3,14 @@ use Prim.Native.Nat.{ℕ, _%_}
 use mathlib.Core.Path.{_≡_, refl, sym, ap, _∙_}
 use mathlib.Core.Bool.{Bool, true, false, not, _&&_, _||_, or-true, false≢true}
 use mathlib.Core.List.{List, [], _∷_, _++_, map}
-use lib.ListN.{length}
-use lib.Dec.{leb, eqb}
+use lib.Dec.{eqb}
 use borrow.Author.Tests.{eqb-true}
 use Rattle.numbers.proofs.Laws.Tests.{cond-all}
 use Rattle.format.specs.Lookup.{Line, isOn, lookup}
 use Rattle.format.specs.FormKind.{forms, formOf, formNumber, isForm}
-use Rattle.format.specs.FundType.{fundTypes}
-use Rattle.format.specs.Limits.{vendorLimit}
-use Rattle.format.specs.Settings.{vendorsHold, roleHolds, roleForm, rolesDiffer, rolesHold, plays, settingsHold}
+use Rattle.format.specs.Settings.{roleHolds, roleForm, rolesDiffer, rolesHold, plays, settingsHold}
 use Rattle.format.proofs.Laws.Said.{must-passed}
+use Rattle.format.proofs.Laws.Settings.{settings-parts}
 use Rattle.format.proofs.Laws.Computed.{and-left, and-right, allOn, all-on}
 use Rattle.format.proofs.Laws.Form.{low-bits, own-form}
 use Rattle.format.specs.declared.form_kind.FormKind.{FormKind}
@@ -28,7 +26,7 @@ use Rattle.records.specs.declared.taken.Record.{Record}
 use Rattle.records.specs.declared.taken.Record.the-variants as record′
 use Rattle.records.specs.declared.scan.Run.{Run}
 use Rattle.records.specs.declared.scan.Attribute.{Attribute}
-use Rattle.records.specs.Form.{expectedForms, expected, expectedForm, anyForm, formSaid, formTested}
+use Rattle.records.specs.Form.{expectedForms, typeForms, expected, expectedForm, anyForm, formSaid, formTested}
 
 -- ---- by number
 
@@ -100,17 +98,18 @@ module _ (vendors : List ℕ) (roles : Roles) (hold : rolesHold vendors roles �
 -- the theorem: with settings that hold, an attribute of any number has the form that is expected of it
 pub expected-form : (settings : Settings) (vendors sizes : List ℕ) → settingsHold settings vendors sizes ≡ true
     → (number : ℕ) → isForm (expectedForm (settings .roles) number) number ≡ true
-unfolding settingsHold
-expected-form settings vendors sizes hold =
-    let lists : Bool = leb (length vendors) vendorLimit && vendorsHold 0 vendors in
-    let roles : Bool = rolesHold vendors (settings .roles) in
-    roles-formed vendors (settings .roles) (and-right lists roles (and-left (lists && roles) (eqb (length sizes) (length fundTypes)) hold))
+expected-form settings vendors sizes hold = roles-formed vendors (settings .roles) (settings-parts settings vendors sizes hold .1)
+
+-- the theorem: the four types have the forms in which they are read, whatever the settings
+pub type-form : (number : ℕ) → isForm (lookup typeForms (formOf number) number) number ≡ true
+unfolding typeForms linesFormed isForm formNumber formOf lookup forms
+type-form number = looked-up typeForms refl number
 
 -- ---- which attributes that says it of
 
 -- every number that each record takes
-taken-said : (r : Record) → allOn (λ n. isOn n (anyForm ++ map (λ (l : Line FormKind). l .number) expectedForms)) (takenBy r) ≡ true
-unfolding allOn takenBy anyForm expectedForms isOn
+taken-said : (r : Record) → allOn (λ n. isOn n (anyForm ++ map (λ (l : Line FormKind). l .number) (expectedForms ++ typeForms))) (takenBy r) ≡ true
+unfolding allOn takenBy anyForm expectedForms typeForms isOn
 taken-said record′.Member = refl
 taken-said record′.Union = refl
 taken-said record′.Enumeration = refl
@@ -120,11 +119,11 @@ taken-said record′.Label = refl
 taken-said record′.PtrToMember = refl
 taken-said record′.OverlayBranch = refl
 
--- the theorem: a number that a record takes is one whose form is expected, by its number or a role, or one that is taken in whatever form it has
+-- the theorem: a number that a record takes is one whose form is expected, by its number or a role, or one of which nothing but the number counts
 pub taken-expected : (roles : Roles) (r : Record) (number : ℕ) → takes roles r number ≡ true → formSaid roles number ≡ true
 unfolding takes formSaid roleTaken
 taken-expected roles r number t =
-    let named : Bool = isOn number (anyForm ++ map (λ (l : Line FormKind). l .number) expectedForms) in
+    let named : Bool = isOn number (anyForm ++ map (λ (l : Line FormKind). l .number) (expectedForms ++ typeForms)) in
     let overlay : Bool = plays (roles .«overlay_name») number || plays (roles .«overlay_id») number in
     let played : Bool = plays (roles .mangled) number || overlay in
     cond-all (λ (k : ℕ). formSaid roles number ≡ true) (isOn number (takenBy r)) {x = 0} {y = 0}
