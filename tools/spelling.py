@@ -115,7 +115,8 @@ def vocabulary():
 
 def turned(path, text, table, constants):
     crate = path.split("/")[1] if path.startswith("crates/") else ""
-    apart = {old: new for (crates, old), new in APART.items() if not crates or crate in crates.split()}
+    apart = {old: new for (crates, old), new in APART.items() if path.endswith(".antt") and (not crates or crate in crates.split())}
+    walked = path.endswith("/Proof.antt")
     own = path in {f"crates/format/specs/{m}.antt" for m in VOCABULARY}
     aliases = {m[2] or m[1] for m in re.finditer(r"(?m)use Rattle\.format\.specs\.(AttributeKind|TagKind|FundType)(?: as (\w+))?;?$", text)}
 
@@ -135,7 +136,7 @@ def turned(path, text, table, constants):
         dot, name = m[1], m[2]
         if not dot and (own or name in imported) and name in constants and not re.search(r"specs\.declared\.[\w.]*\.?\{?$", text[: m.start()].split("\n")[-1]):
             return constant(name)
-        if name in apart and not (dot and "-" not in name and name not in ("run_holds", "row_words")):
+        if name in apart and not (dot and (walked or "-" not in name and name not in ("run_holds", "row_words"))):
             return dot + apart[name]
         return dot + table.get(name, name)
 

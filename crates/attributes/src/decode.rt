@@ -9,7 +9,7 @@ use numbers::Endian;
 use numbers::unsigned::{Read16, Read32, Read64, bytes_there, u16_at, u32_at, u64_at};
 
 // Addresses and references are in the section's endianness, all else in the entry's own, its data endianness.
-#[derive(Drop)]
+#[derive(Clone, Copy)]
 pub struct Endians {
     pub section: Endian,
     pub data: Endian,
@@ -56,14 +56,14 @@ pub fn data8(s: &[u8], at: usize, ends: Endians) -> Read64
 }
 
 // Where a part of a section lies: the place of its first byte, and how many there are.
-#[derive(Drop)]
+#[derive(Clone, Copy)]
 pub struct Extent {
     pub place: usize,
     pub length: usize,
 }
 
 // Where the part lies that is asked for; or it is cut, not wholly inside.
-#[derive(Drop)]
+#[derive(Clone, Copy)]
 pub enum Lying {
     At(Extent),
     Cut,

@@ -9,7 +9,7 @@ use format::form_kind::form_of;
 use numbers::Endian;
 use numbers::unsigned::{Read16, u16_at};
 
-#[derive(Drop)]
+#[derive(Clone, Copy)]
 pub enum Attribute {
     // Its number, the place of its value, where the next field begins.
     Read {
@@ -23,7 +23,7 @@ pub enum Attribute {
 }
 
 // Where the value of an attribute ends, by its number. Of one that is not known, the value's place as it was asked: reading's loop then has none to keep.
-#[derive(Drop)]
+#[derive(Clone, Copy)]
 pub enum Ending {
     At(usize),
     Short(usize),

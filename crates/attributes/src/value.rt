@@ -8,7 +8,7 @@ use numbers::Endian;
 use numbers::unsigned::{Read16, Read32, bytes_there, u16_at, u32_at};
 
 // The place after a value, or the first byte of the field that is not there.
-#[derive(Drop)]
+#[derive(Clone, Copy)]
 pub enum End {
     At(usize),
     Short(usize),

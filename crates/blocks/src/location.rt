@@ -21,14 +21,14 @@ const ADD: u8 = 0x07;
 const MW_FP_REG: u8 = 0x80;
 
 // An offset or an address.
-#[derive(Drop)]
+#[derive(Clone, Copy)]
 pub enum Located {
     Is(u32),
     Refused(Refusal),
 }
 
 // Where a variable is, in place of the Rust's text.
-#[derive(Drop)]
+#[derive(Clone, Copy)]
 pub enum VariableLocation {
     Register(u32),
     Address(u32),

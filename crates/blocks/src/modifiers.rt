@@ -7,7 +7,7 @@ use format::modifier::{Modifier, parse_int};
 use format::refusal::{Reason, Refusal};
 
 // All are known: does a pointer or a reference stand among them? Or 18.
-#[derive(Drop)]
+#[derive(Clone, Copy)]
 pub enum Modifiers {
     Known { pointer: bool },
     Refused(Refusal),

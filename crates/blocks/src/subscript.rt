@@ -18,7 +18,7 @@ use numbers::Endian;
 use numbers::unsigned::{Read16, Read32, bytes_there, u16_at, u32_at};
 use std::num::wrapping_add_u32;
 
-#[derive(Drop)]
+#[derive(Clone, Copy)]
 pub enum Subscript {
     // The index type and the size; 0 is unbounded.
     Dimension { index: u16, size: u32, used: usize },
@@ -27,7 +27,7 @@ pub enum Subscript {
 }
 
 // The index type of a dimension whose low bound is 0.
-#[derive(Drop)]
+#[derive(Clone, Copy)]
 pub enum Index {
     Is(u16),
     Refused(Refusal),

@@ -17,20 +17,20 @@ use numbers::Endian;
 pub const DIMENSION_WIDTH: usize = 2;
 
 // The element type, the last of its kind, if there was one yet.
-#[derive(Drop)]
+#[derive(Clone, Copy)]
 pub enum Element {
     Is(Type),
     Nothing,
 }
 
 // The element type, its modifiers' place counted from the block's first byte, and how many dimensions there are.
-#[derive(Drop)]
+#[derive(Clone, Copy)]
 pub enum ArrayRead {
     Are { element: Type, dimensions: usize },
     Refused(Refusal),
 }
 
-#[derive(Drop)]
+#[derive(Clone, Copy)]
 pub enum Subscripts {
     Read { element: Type, dimensions: usize },
     Refused(Refusal),

@@ -12,14 +12,14 @@ use numbers::Endian;
 use numbers::unsigned::{Read16, Read32, u16_at, u32_at};
 
 // A fundamental type, or the key of the entry that defines the type.
-#[derive(Drop)]
+#[derive(Clone, Copy)]
 pub enum TypeKind {
     Fundamental(u16),
     UserDefined(u32),
 }
 
 // A type: its modifiers are `count` bytes from `place` on, outermost first; does a pointer or a reference stand among them?
-#[derive(Drop)]
+#[derive(Clone, Copy)]
 pub struct Type {
     pub kind: TypeKind,
     pub place: usize,
@@ -27,7 +27,7 @@ pub struct Type {
     pub pointer: bool,
 }
 
-#[derive(Drop)]
+#[derive(Clone, Copy)]
 pub enum Typed {
     Is(Type),
     Refused(Refusal),

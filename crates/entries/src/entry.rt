@@ -16,7 +16,7 @@ use tables::store::put_row;
 use tables::unit::NO_UNIT;
 
 // Where reading stands: the place, and how many rows and attributes were read.
-#[derive(Drop)]
+#[derive(Clone, Copy)]
 pub struct State {
     pub at: usize,
     pub rows: usize,
@@ -24,20 +24,20 @@ pub struct State {
 }
 
 // What stays the same through a whole reading: the erased flag, and the number that plays MwGlobalRef.
-#[derive(Drop)]
+#[derive(Clone, Copy)]
 pub struct Fixed {
     pub erased: bool,
     pub global: u16,
 }
 
 // How the entries around are read: as erased or not, in which data endianness.
-#[derive(Drop)]
+#[derive(Clone, Copy)]
 pub struct Mode {
     pub erased: bool,
     pub endian: Endian,
 }
 
-#[derive(Drop)]
+#[derive(Clone, Copy)]
 pub enum Entry {
     Next(State),
     // A root was read: its inside follows, in this endianness, up to this end.
@@ -90,7 +90,7 @@ fn kind_of(root: bool, kind: u16, high: bool) -> u16
 }
 
 // What is known of an entry before its attributes are read.
-#[derive(Drop)]
+#[derive(Clone, Copy)]
 pub struct Shape {
     pub erased: bool,
     pub root: bool,
@@ -99,7 +99,7 @@ pub struct Shape {
     pub end: usize,
 }
 
-#[derive(Drop)]
+#[derive(Clone, Copy)]
 pub enum Body {
     Read(State),
     Unread(Reason, usize),
@@ -152,7 +152,7 @@ fn read_body(
 }
 
 // The data endianness of a root; or where the two bytes to look at, which are not there, would begin.
-#[derive(Drop)]
+#[derive(Clone, Copy)]
 pub enum Look {
     Is(Endian),
     Short(usize),

@@ -8,7 +8,7 @@ use format::tag_kind::{PADDING, is_tag};
 use numbers::Endian;
 use numbers::unsigned::{Read16, Read32, u16_at, u32_at};
 
-#[derive(Drop)]
+#[derive(Clone, Copy)]
 pub enum Head {
     // A null entry, and padding that is stepped over: where the next entry begins.
     Null(usize),

@@ -15,7 +15,7 @@ use tables::row::Attr;
 use tables::store::put_attr;
 
 // Where reading stopped, how many attributes the table then has, whether a HighPc was among those read.
-#[derive(Drop)]
+#[derive(Clone, Copy)]
 pub enum AttrsRead {
     Ran { at: usize, attrs: usize, high: bool },
     // The first byte of the field that could not be read, or of the number that is not known.

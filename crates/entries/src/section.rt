@@ -15,7 +15,7 @@ use tables::row::{ATTR_WIDTH, Counts, ROW_WIDTH};
 use tables::unit::put_units;
 
 // What counting answers.
-#[derive(Drop)]
+#[derive(Clone, Copy)]
 pub enum Count {
     Counted(Counts),
     // 1, 2 or 7.
@@ -25,7 +25,7 @@ pub enum Count {
 }
 
 // What reading answers.
-#[derive(Drop)]
+#[derive(Clone, Copy)]
 pub enum Section {
     Read(Counts),
     // 1, 2 or 7.

@@ -7,7 +7,7 @@ ghost use Rattle.entries.specs.Inside.Promise.{Ready, farthest, WalkRead};
 use crate::entry::{Entry, Fixed, Mode, State, read_entry};
 use format::refusal::Reason;
 
-#[derive(Drop)]
+#[derive(Clone, Copy)]
 pub enum Walk {
     Walked(State),
     // Refusal 7, and refusals 4 to 6 with the first byte of the field; each with the innermost entry's key.

@@ -20,7 +20,7 @@ pub const MISSHAPEN: u32 = 2;
 pub const PASSED: u32 = 3;
 
 // Where the next expected word stands, and whether ours is a refusal.
-#[derive(Drop)]
+#[derive(Clone, Copy)]
 pub struct Cursor {
     pub at: usize,
     pub verdict: u32,

@@ -2,6 +2,8 @@
 // names, `-` being standard input: what was compared, and every difference. CASES.md says what a case is. Read `document` (the examples), `refusals`, `stream`
 // (packets of a file), `questions` (what a packet asks), then the files that ask: `alone` (of a block), `values` (a section's rows), `relations`, `single`,
 // `unions`, `layouts` and `enumerations` (by key), over `fields`, `settings`, `cursor` (the expected words against ours) and `tally` (the counts).
+#![tactic(auto)]
+
 mod alone;
 mod cursor;
 mod document;

@@ -5,7 +5,7 @@ ghost use Rattle.exports.specs.Inside.Told.{told_as, refused_as};
 use format::refusal::{Refusal, number_of};
 
 // Up to three results; 0 where a call has fewer.
-#[derive(Drop)]
+#[derive(Clone, Copy)]
 pub struct Results {
     pub first: u64,
     pub second: u64,
@@ -13,7 +13,7 @@ pub struct Results {
 }
 
 // An answer's number, the place of a refusal (0 where there is none), and what the results then hold.
-#[derive(Drop)]
+#[derive(Clone, Copy)]
 pub struct Told {
     pub number: u32,
     pub place: u64,

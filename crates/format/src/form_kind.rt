@@ -2,7 +2,7 @@
 ghost use Rattle.std.specs.Prelude.{◌≡◌};
 ghost use Rattle.format.specs.FormKind.{form_of, form_number, is_form};
 
-#[derive(Drop)]
+#[derive(Clone, Copy)]
 pub enum FormKind {
     Addr,
     Ref,

@@ -60,7 +60,7 @@ pub const INT128: u16 = 0xa510;
 pub const VEC2X32_FLOAT: u16 = 0xac00;
 
 // What a number says as a fundamental type: one of the 28, or nothing known (refusal 18).
-#[derive(Drop)]
+#[derive(Clone, Copy)]
 pub enum FundType {
     Known(u16),
     Unknown,

@@ -2,7 +2,7 @@
 ghost use Rattle.std.specs.Prelude.{◌≡◌};
 ghost use Rattle.format.specs.LocationOp.{location_op_of};
 
-#[derive(Drop)]
+#[derive(Clone, Copy)]
 pub enum LocationOp {
     Register,
     BaseRegister,

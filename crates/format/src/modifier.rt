@@ -2,7 +2,7 @@
 ghost use Rattle.std.specs.Prelude.{◌≡◌};
 ghost use Rattle.format.specs.Modifier.{modifier_of};
 
-#[derive(Drop)]
+#[derive(Clone, Copy)]
 pub enum Modifier {
     MwPointerTo,
     PointerTo,

@@ -2,7 +2,7 @@
 ghost use Rattle.std.specs.Prelude.{◌≡◌};
 ghost use Rattle.format.specs.Refusal.{number_of, reason_of};
 
-#[derive(Drop)]
+#[derive(Clone, Copy)]
 pub enum Reason {
     Settings,
     Long,
@@ -26,7 +26,7 @@ pub enum Reason {
 }
 
 // A refusal and its place: 64 bits, since an entry can be wanted past the end of the longest section.
-#[derive(Drop)]
+#[derive(Clone, Copy)]
 pub struct Refusal {
     pub reason: Reason,
     pub place: u64,

@@ -7,7 +7,7 @@ use crate::limits::VENDOR_LIMIT;
 use crate::lookup::on_list;
 use numbers::Endian;
 
-#[derive(Drop)]
+#[derive(Clone, Copy)]
 pub enum Producer {
     Mwcc,
     Gcc,
@@ -15,7 +15,7 @@ pub enum Producer {
 }
 
 // The vendor attribute that plays each part, or 0 for none.
-#[derive(Drop)]
+#[derive(Clone, Copy)]
 pub struct Roles {
     pub global_ref: u16,
     pub mangled: u16,
@@ -24,7 +24,7 @@ pub struct Roles {
 }
 
 // The vendor list and the 28 sizes stand beside this, as slices, so that ones of a wrong length can be refused.
-#[derive(Drop)]
+#[derive(Clone, Copy)]
 pub struct Settings {
     pub endian: Endian,
     pub erased: bool,

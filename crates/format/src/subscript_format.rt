@@ -2,7 +2,7 @@
 ghost use Rattle.std.specs.Prelude.{◌≡◌};
 ghost use Rattle.format.specs.SubscriptFormat.{subscript_format_of};
 
-#[derive(Drop)]
+#[derive(Clone, Copy)]
 pub enum SubscriptFormat {
     FundTypeConstConst,
     FundTypeConstLocation,

@@ -30,13 +30,13 @@ use sizes::sized::Sized;
 use tables::row::{Counts, row_at};
 use tables::tests::{Tested, test_table};
 
-#[derive(Drop)]
+#[derive(Clone, Copy)]
 pub struct LayoutCounts {
     pub structures: usize,
     pub members: usize,
 }
 
-#[derive(Drop)]
+#[derive(Clone, Copy)]
 pub enum AllLayouts {
     // How many structures and classes there are, and how many members of those that have a layout.
     Are(LayoutCounts),

@@ -32,7 +32,7 @@ use sizes::sized::Sized;
 use tables::keyed::{Keyed, row_of};
 use tables::row::{Counts, row_at};
 
-#[derive(Drop)]
+#[derive(Clone, Copy)]
 pub struct Layout {
     pub row: usize,
     pub size: u32,
@@ -40,13 +40,13 @@ pub struct Layout {
 }
 
 // With no room.
-#[derive(Drop)]
+#[derive(Clone, Copy)]
 pub enum LayoutWhole {
     Is(Layout),
     Refused(Refusal),
 }
 
-#[derive(Drop)]
+#[derive(Clone, Copy)]
 pub enum LayoutRead {
     Is(Layout),
     Refused(Refusal),
@@ -55,7 +55,7 @@ pub enum LayoutRead {
 }
 
 // How many members are laid, and their largest end.
-#[derive(Drop)]
+#[derive(Clone, Copy)]
 pub enum Laying {
     Is { count: usize, largest: u32 },
     Refused(Refusal),

@@ -11,7 +11,7 @@ use format::tag_kind::{
     TYPEDEF, UNION_TYPE,
 };
 
-#[derive(Drop)]
+#[derive(Clone, Copy)]
 pub enum Gap {
     Is { at: u64, bytes: u64 },
     Nothing,
@@ -38,7 +38,7 @@ pub fn reach_with(reached: u64, offset: u32, size: u32) -> u64
 }
 
 // What a stretch without members is called.
-#[derive(Drop)]
+#[derive(Clone, Copy)]
 pub enum Stretch {
     Hole,
     Padding,

@@ -6,6 +6,8 @@
 // into its rooms in `words`, the rooms in `rooms`, the buffered output in `out`; this file only reads arguments and input. What it means: specs/Gaps.antt,
 // specs/Presets.antt, and the specs of `sizes`. `io::read_full` does not tell a read error from the end of input: after an error, what was read before it is
 // printed.
+#![tactic(auto)]
+
 mod gaps;
 mod out;
 mod presets;

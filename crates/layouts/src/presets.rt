@@ -7,7 +7,7 @@ use format::settings::{Producer, Settings};
 use numbers::Endian;
 use numbers::prefix::starts_with;
 
-#[derive(Drop)]
+#[derive(Clone, Copy)]
 pub struct Preset {
     pub settings: Settings,
     // How many of the vendor numbers are on the list.

@@ -155,7 +155,7 @@ fn put_stretch(buffer: &mut [u8], used: usize, others: bool, last: bool, gap: Ga
 }
 
 // How many bytes of the buffer are used, and what the members have reached.
-#[derive(Drop)]
+#[derive(Clone, Copy)]
 struct Shown {
     used: usize,
     reached: u64,
@@ -192,7 +192,7 @@ fn show_members(
 }
 
 // What a structure's row says beside its members: whether it has a ByteSize, whether it has children, whether some that are no members may take bytes.
-#[derive(Drop)]
+#[derive(Clone, Copy)]
 struct Around {
     sized: bool,
     children: bool,
@@ -311,7 +311,7 @@ fn is_number(value: Value) -> bool {
 }
 
 // A unit, and where its name lies in the section; it is empty where it has none.
-#[derive(Drop)]
+#[derive(Clone, Copy)]
 struct Unit {
     key: u32,
     name: Extent,
@@ -413,7 +413,7 @@ fn put_structure(
 }
 
 // How many bytes of the buffer are used, and the unit that was told last.
-#[derive(Drop)]
+#[derive(Clone, Copy)]
 struct Told {
     used: usize,
     unit: Unit,

@@ -3,7 +3,7 @@ use layout::all::STRUCTURE_WIDTH;
 use layout::one::LAID_WIDTH;
 
 // A member in a layout.
-#[derive(Drop)]
+#[derive(Clone, Copy)]
 pub struct Placed {
     pub offset: u32,
     pub size: u32,
@@ -11,7 +11,7 @@ pub struct Placed {
     pub name_length: u32,
 }
 
-#[derive(Drop)]
+#[derive(Clone, Copy)]
 pub struct Structure {
     pub row: u32,
     // 0, or a refusal's number and its place.

@@ -12,7 +12,7 @@ use numbers::Endian;
 use tables::row::row_at;
 
 // What going over a walk comes to: it ends, and a child was met or none; or it never ends.
-#[derive(Drop)]
+#[derive(Clone, Copy)]
 pub enum Walked {
     Ended(bool),
     Endless,

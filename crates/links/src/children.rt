@@ -16,7 +16,7 @@ use numbers::Endian;
 use tables::keyed::{Keyed, row_of};
 use tables::row::{Counts, row_at};
 
-#[derive(Drop)]
+#[derive(Clone, Copy)]
 pub enum ChildRows {
     Listed(usize),
     Refused(Refusal),
@@ -25,7 +25,7 @@ pub enum ChildRows {
 }
 
 // What a walk comes to: so many children; or it never ends.
-#[derive(Drop)]
+#[derive(Clone, Copy)]
 pub enum Gathered {
     Count(usize),
     Endless,

@@ -9,14 +9,14 @@ use tables::find::Found;
 use tables::row::{attr_at, row_at};
 
 // What is looked for: an attribute of this number, or a type attribute.
-#[derive(Drop)]
+#[derive(Clone, Copy)]
 pub enum Wanted {
     Number(u32),
     Type,
 }
 
 // What a reference refers to: a key.
-#[derive(Drop)]
+#[derive(Clone, Copy)]
 pub enum Reference {
     To(u32),
     Nothing,

@@ -10,7 +10,7 @@ use format::settings::Settings;
 use tables::keyed::{Keyed, row_of};
 use tables::row::Counts;
 
-#[derive(Drop)]
+#[derive(Clone, Copy)]
 pub enum Neighbour {
     Row(usize),
     Nothing,

@@ -21,7 +21,7 @@ use tables::keyed::{Keyed, row_of};
 use tables::row::{Attr, Counts, attr_at, ends_of};
 
 // The attribute that was looked for; or the row has none.
-#[derive(Drop)]
+#[derive(Clone, Copy)]
 pub enum Looked {
     At(Attr),
     Nothing,
@@ -29,7 +29,7 @@ pub enum Looked {
 }
 
 // What an attribute of the wanted form says; or the row has none.
-#[derive(Drop)]
+#[derive(Clone, Copy)]
 pub enum Value {
     Is(u32),
     Nothing,
@@ -37,7 +37,7 @@ pub enum Value {
 }
 
 // Where a text or a block lies in the section; or the row has none.
-#[derive(Drop)]
+#[derive(Clone, Copy)]
 pub enum PartPlace {
     At(Extent),
     Nothing,
@@ -45,13 +45,13 @@ pub enum PartPlace {
 }
 
 // The place of a value, and the endiannesses it is read in.
-#[derive(Drop)]
+#[derive(Clone, Copy)]
 pub struct Spot {
     pub at: usize,
     pub ends: Endians,
 }
 
-#[derive(Drop)]
+#[derive(Clone, Copy)]
 pub enum Spotted {
     At(Spot),
     Nothing,

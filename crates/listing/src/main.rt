@@ -1,6 +1,8 @@
 // The listing program: a section from standard input, its listing to standard output. Read `report` (what is printed for an input), `page` (its lines), `line`; the crate
 // `digits` writes fields. What it prints: specs/Report.antt and specs/Text.antt.
 // `io::read_full` does not tell a read error from the end of input: after an error, what was read before it is listed.
+#![tactic(auto)]
+
 mod line;
 mod page;
 mod report;

@@ -6,7 +6,7 @@ use crate::Endian;
 use crate::unsigned::{bytes_there, half16, half32};
 
 // What reading a signed number of any of these widths answers.
-#[derive(Drop)]
+#[derive(Clone, Copy)]
 pub enum ReadSigned {
     Value(i32),
     Short,

@@ -5,25 +5,25 @@ ghost use Rattle.numbers.specs.Value.{value_of, there, read_at};
 use crate::Endian;
 
 // What reading at a place answers: the value, or that the bytes are not there.
-#[derive(Drop)]
+#[derive(Clone, Copy)]
 pub enum Read8 {
     Value(u8),
     Short,
 }
 
-#[derive(Drop)]
+#[derive(Clone, Copy)]
 pub enum Read16 {
     Value(u16),
     Short,
 }
 
-#[derive(Drop)]
+#[derive(Clone, Copy)]
 pub enum Read32 {
     Value(u32),
     Short,
 }
 
-#[derive(Drop)]
+#[derive(Clone, Copy)]
 pub enum Read64 {
     Value(u64),
     Short,

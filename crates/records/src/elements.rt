@@ -15,7 +15,7 @@ use numbers::Endian;
 use numbers::signed::{ReadSigned, i8_at, i16_at, i32_at};
 
 // A value and the name at `place`, of `length` bytes; where the next element begins.
-#[derive(Drop)]
+#[derive(Clone, Copy)]
 pub enum Element {
     Is {
         value: i32,
@@ -30,7 +30,7 @@ pub enum Element {
 }
 
 // Where the elements of a list go: number k of `total` to slot k, or from the back.
-#[derive(Drop)]
+#[derive(Clone, Copy)]
 pub struct Slots {
     pub reversed: bool,
     pub total: usize,

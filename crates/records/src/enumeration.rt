@@ -23,7 +23,7 @@ use format::settings::{Producer, Settings};
 use tables::keyed::{Keyed, row_of};
 use tables::row::{Counts, attr_at};
 
-#[derive(Drop)]
+#[derive(Clone, Copy)]
 pub struct Enumeration {
     pub name: Name,
     pub byte_size: u32,
@@ -31,13 +31,13 @@ pub struct Enumeration {
 }
 
 // What a row says, with no room.
-#[derive(Drop)]
+#[derive(Clone, Copy)]
 pub enum EnumerationWhole {
     Is(Enumeration),
     Refused(Refusal),
 }
 
-#[derive(Drop)]
+#[derive(Clone, Copy)]
 pub enum EnumerationRead {
     Is(Enumeration),
     Refused(Refusal),
@@ -46,7 +46,7 @@ pub enum EnumerationRead {
 }
 
 // Where the attributes come to next, and how many elements there are by then.
-#[derive(Drop)]
+#[derive(Clone, Copy)]
 pub enum Step {
     Next { at: usize, count: usize },
     Refused(Refusal),

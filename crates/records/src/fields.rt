@@ -24,7 +24,7 @@ use links::typed::{Spot, Value, word_at};
 use tables::find::Found;
 
 // The kinds of attributes of which the last counts.
-#[derive(Drop)]
+#[derive(Clone, Copy)]
 pub enum Sought {
     Number(u16),
     Type,
@@ -32,33 +32,33 @@ pub enum Sought {
 }
 
 // A text: its bytes are `length` from `place` on.
-#[derive(Drop)]
+#[derive(Clone, Copy)]
 pub struct Text {
     pub place: usize,
     pub length: usize,
 }
 
 // What may be absent.
-#[derive(Drop)]
+#[derive(Clone, Copy)]
 pub enum Name {
     Is(Text),
     Nothing,
 }
 
-#[derive(Drop)]
+#[derive(Clone, Copy)]
 pub enum Word {
     Is(u32),
     Nothing,
 }
 
 // What may not be.
-#[derive(Drop)]
+#[derive(Clone, Copy)]
 pub enum Needed {
     Is(u32),
     Refused(Refusal),
 }
 
-#[derive(Drop)]
+#[derive(Clone, Copy)]
 pub enum Visibility {
     Private,
     Protected,

@@ -15,13 +15,13 @@ use format::settings::Settings;
 use tables::keyed::{Keyed, row_of};
 use tables::row::Counts;
 
-#[derive(Drop)]
+#[derive(Clone, Copy)]
 pub struct Label {
     pub name: Text,
     pub address: u32,
 }
 
-#[derive(Drop)]
+#[derive(Clone, Copy)]
 pub enum LabelRead {
     Is(Label),
     Refused(Refusal),

@@ -3,6 +3,8 @@
 // `process_overlay_branch`. `taken` says which attributes each takes, `scan` goes over them, `fields` picks what counts, `front` is what comes before the fields;
 // then a file for each record, with `elements` for an enumeration's list and `member_words` for what goes into lent room. What it means: the specs of the
 // same names.
+#![tactic(auto)]
+
 pub mod elements;
 pub mod enumeration;
 pub mod fields;

@@ -19,19 +19,19 @@ use tables::keyed::{Keyed, row_of};
 use tables::row::Counts;
 
 // The bits of a bit field, if it is one.
-#[derive(Drop)]
+#[derive(Clone, Copy)]
 pub enum Bits {
     Are { size: u32, offset: u32 },
     Nothing,
 }
 
-#[derive(Drop)]
+#[derive(Clone, Copy)]
 pub enum BitsRead {
     Are(Bits),
     Refused(Refusal),
 }
 
-#[derive(Drop)]
+#[derive(Clone, Copy)]
 pub struct Member {
     pub name: Name,
     pub of: Type,
@@ -41,7 +41,7 @@ pub struct Member {
     pub byte_size: Word,
 }
 
-#[derive(Drop)]
+#[derive(Clone, Copy)]
 pub enum MemberRead {
     Is(Member),
     Refused(Refusal),

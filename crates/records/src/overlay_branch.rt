@@ -14,7 +14,7 @@ use format::settings::{Roles, Settings};
 use tables::keyed::{Keyed, row_of};
 use tables::row::Counts;
 
-#[derive(Drop)]
+#[derive(Clone, Copy)]
 pub struct OverlayBranch {
     pub name: Text,
     pub id: u32,
@@ -23,7 +23,7 @@ pub struct OverlayBranch {
     pub compile_unit: Word,
 }
 
-#[derive(Drop)]
+#[derive(Clone, Copy)]
 pub enum OverlayBranchRead {
     Is(OverlayBranch),
     Refused(Refusal),

@@ -17,13 +17,13 @@ use tables::keyed::{Keyed, row_of};
 use tables::row::Counts;
 
 // The type that is pointed to, and the key of the type that contains it.
-#[derive(Drop)]
+#[derive(Clone, Copy)]
 pub struct PtrToMember {
     pub of: Type,
     pub containing: u32,
 }
 
-#[derive(Drop)]
+#[derive(Clone, Copy)]
 pub enum PtrToMemberRead {
     Is(PtrToMember),
     Refused(Refusal),

@@ -18,7 +18,7 @@ use numbers::Endian;
 use tables::row::{attr_at, ends_of, row_at};
 
 // A row's attributes: where they begin, how many there are; its key; the endiannesses.
-#[derive(Drop)]
+#[derive(Clone, Copy)]
 pub struct Run {
     pub first: u32,
     pub count: u32,
@@ -27,21 +27,21 @@ pub struct Run {
 }
 
 // An attribute's number, which has 16 bits, and the place of its value.
-#[derive(Drop)]
+#[derive(Clone, Copy)]
 pub struct Attribute {
     pub number: u16,
     pub value: usize,
 }
 
 // Nothing wrong so far, or a refusal.
-#[derive(Drop)]
+#[derive(Clone, Copy)]
 pub enum Fault {
     Clear,
     Refused(Refusal),
 }
 
 // Attribute `at` of the run is the record's own business, or `at` is the run's count: all the others before it are in order.
-#[derive(Drop)]
+#[derive(Clone, Copy)]
 pub enum Scan {
     Stop(usize),
     Refused(Refusal),

@@ -12,7 +12,7 @@ use format::attribute_kind::{
 use format::lookup::on_list;
 use format::settings::Roles;
 
-#[derive(Drop)]
+#[derive(Clone, Copy)]
 pub enum Record {
     Member,
     Union,

@@ -1,7 +1,7 @@
 // How many of a list there are; or a refusal.
 use format::refusal::Refusal;
 
-#[derive(Drop)]
+#[derive(Clone, Copy)]
 pub enum Tally {
     Count(usize),
     Refused(Refusal),

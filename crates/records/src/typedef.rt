@@ -26,34 +26,34 @@ use tables::find::{Found, find_row};
 use tables::keyed::{Keyed, row_of};
 use tables::row::Counts;
 
-#[derive(Drop)]
+#[derive(Clone, Copy)]
 pub struct Typedef {
     pub name: Text,
     pub of: Type,
 }
 
-#[derive(Drop)]
+#[derive(Clone, Copy)]
 pub enum TypedefRead {
     Is(Typedef),
     Refused(Refusal),
 }
 
 // What specifications have filled in so far.
-#[derive(Drop)]
+#[derive(Clone, Copy)]
 pub enum Filling {
     Is(Typedef),
     Nothing,
 }
 
 // The row that a specification names.
-#[derive(Drop)]
+#[derive(Clone, Copy)]
 pub enum Specified {
     Row(usize),
     Refused(Refusal),
 }
 
 // Where the attributes of a typedef come to next: a specification at `at`, which names a typedef's row; or the end.
-#[derive(Drop)]
+#[derive(Clone, Copy)]
 pub enum Pause {
     At { at: usize, row: usize },
     End,

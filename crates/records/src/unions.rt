@@ -27,7 +27,7 @@ use links::link::{next_row, sibling_row};
 use tables::keyed::{Keyed, row_of};
 use tables::row::{Counts, row_at};
 
-#[derive(Drop)]
+#[derive(Clone, Copy)]
 pub struct Union {
     pub name: Name,
     pub byte_size: u32,
@@ -35,13 +35,13 @@ pub struct Union {
 }
 
 // What a row and its children say, with no room.
-#[derive(Drop)]
+#[derive(Clone, Copy)]
 pub enum UnionWhole {
     Is(Union),
     Refused(Refusal),
 }
 
-#[derive(Drop)]
+#[derive(Clone, Copy)]
 pub enum UnionRead {
     Is(Union),
     Refused(Refusal),

@@ -15,7 +15,7 @@ use format::settings::Settings;
 use tables::keyed::{Keyed, row_of};
 use tables::row::{Counts, row_at};
 
-#[derive(Drop)]
+#[derive(Clone, Copy)]
 pub struct Variable {
     pub name: Name,
     pub mangled_name: Name,
@@ -24,7 +24,7 @@ pub struct Variable {
     pub local: bool,
 }
 
-#[derive(Drop)]
+#[derive(Clone, Copy)]
 pub enum VariableRead {
     Is(Variable),
     Refused(Refusal),

@@ -16,7 +16,7 @@ use links::link::sibling_row;
 use numbers::Endian;
 
 // What a member adds to its structure.
-#[derive(Drop)]
+#[derive(Clone, Copy)]
 pub enum Added {
     Is { offset: u32, size: u32 },
     Refused(Refusal),

@@ -31,7 +31,7 @@ use records::unions::{UnionWhole, union_at};
 use tables::row::row_at;
 
 // How a row comes to its size.
-#[derive(Drop)]
+#[derive(Clone, Copy)]
 pub enum Shape {
     Array,
     Structure,
@@ -44,7 +44,7 @@ pub enum Shape {
 }
 
 // An entry's size, or what is still needed: the size of an array's element, whose subscripts are attribute `at`; the ends of a structure's members.
-#[derive(Drop)]
+#[derive(Clone, Copy)]
 pub enum Prepared {
     Size(u32),
     Element { of: Type, at: usize },

@@ -1,7 +1,7 @@
 // The answer of a size.
 use format::refusal::Refusal;
 
-#[derive(Drop)]
+#[derive(Clone, Copy)]
 pub enum Sized {
     Is(u32),
     Refused(Refusal),

@@ -22,7 +22,7 @@ use records::member::{MemberRead, member_at};
 use tables::row::row_at;
 
 // The largest end with that of a child: it is known, or the size of the member's type is wanted.
-#[derive(Drop)]
+#[derive(Clone, Copy)]
 pub enum Part {
     Ends(u32),
     Typed { offset: u32, of: Type },
@@ -31,7 +31,7 @@ pub enum Part {
 
 // Where a row's size goes on: at the beginning; an array at its attribute; a structure at a member's row, with the largest end before it. The row has 32 bits here,
 // which keeps a stage at 16 bytes.
-#[derive(Drop)]
+#[derive(Clone, Copy)]
 pub enum Stage {
     Begin,
     Element(usize),
@@ -39,7 +39,7 @@ pub enum Stage {
 }
 
 // What a stage comes to: the size; a type whose size is waited for, and the stage after it.
-#[derive(Drop)]
+#[derive(Clone, Copy)]
 pub enum Wait {
     Nothing(u32),
     Type { of: Type, stage: Stage },

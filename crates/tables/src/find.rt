@@ -7,7 +7,7 @@ ghost use Rattle.tables.specs.Inside.Find.{Between, FirstFrom};
 use crate::row::ROW_WIDTH;
 use lent::cells::cell;
 
-#[derive(Drop)]
+#[derive(Clone, Copy)]
 pub enum Found {
     At(usize),
     Nothing,

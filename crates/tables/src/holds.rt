@@ -25,7 +25,7 @@ fn attr_holds(s: &[u8], vendors: &[u16], e: Endian, attr: Attr) -> bool
 }
 
 // The n attributes from `first` on.
-fn run_held(s: &[u8], vendors: &[u16], e: Endian, attrs: &[u32], first: usize, n: usize) -> bool
+fn run_holds(s: &[u8], vendors: &[u16], e: Endian, attrs: &[u32], first: usize, n: usize) -> bool
     requires { first + n < 2 ^ 64 }
     ensures { result ≡ run_holds s.now vendors.now e attrs.now first n }
 {
@@ -84,7 +84,7 @@ fn row_holds(
     if total - run < count {
         return false;
     }
-    run_held(s, vendors, endian_of(row.flags), attrs, run, count)
+    run_holds(s, vendors, endian_of(row.flags), attrs, run, count)
 }
 
 // The table's n rows, whose runs must come to `total` attributes.

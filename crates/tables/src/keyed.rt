@@ -13,7 +13,7 @@ use format::refusal::{Reason, Refusal};
 use format::settings::Settings;
 
 // The row that has a key.
-#[derive(Drop)]
+#[derive(Clone, Copy)]
 pub enum Keyed {
     Row(usize),
     Refused(Refusal),

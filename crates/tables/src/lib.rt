@@ -2,6 +2,8 @@
 // one of rows and one of attributes, and their counts beside them. Read `row` and `store` (a row, an attribute), `unit` (which unit a row belongs to),
 // `holds` (what makes a table one that can be read), `find` (the row of a key), `tests` (those that every public call makes first), `keyed` (the row of a
 // key after them). What it means: specs/Row.antt, Unit.antt, Table.antt, Holds.antt, Find.antt, Tests.antt, Keyed.antt.
+#![tactic(auto)]
+
 pub mod find;
 pub mod holds;
 pub mod keyed;

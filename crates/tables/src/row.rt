@@ -7,7 +7,7 @@ use lent::cells::cell;
 use numbers::Endian;
 
 // An entry: its key (the place where it begins), its kind (a tag), its flags, its run of attributes, the key of its unit.
-#[derive(Drop)]
+#[derive(Clone, Copy)]
 pub struct Row {
     pub key: u32,
     pub kind: u32,
@@ -18,13 +18,13 @@ pub struct Row {
 }
 
 // An attribute: its number, and the place of its value (the byte after the number).
-#[derive(Drop)]
+#[derive(Clone, Copy)]
 pub struct Attr {
     pub number: u32,
     pub value: u32,
 }
 
-#[derive(Drop)]
+#[derive(Clone, Copy)]
 pub struct Counts {
     pub rows: usize,
     pub attrs: usize,
@@ -105,7 +105,7 @@ pub fn is_erased(flags: u32) -> bool
 }
 
 // The section's endianness and the row's own.
-pub fn ends_of_lem(e: Endian, rows: &[u32], i: usize) -> Endians
+pub fn ends_of(e: Endian, rows: &[u32], i: usize) -> Endians
     ensures { result ≡ ends_of e rows.now i }
 {
     let row = row_at(rows, i);

@@ -10,7 +10,7 @@ use format::limits::SECTION_LIMIT;
 use format::refusal::{Reason, Refusal};
 use format::settings::{Settings, settings_hold};
 
-#[derive(Drop)]
+#[derive(Clone, Copy)]
 pub enum Tested {
     Passed,
     Refused(Refusal),

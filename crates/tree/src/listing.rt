@@ -18,7 +18,7 @@ use numbers::Endian;
 use tables::row::{Counts, is_erased, row_at};
 use tables::tests::{Tested, test_table};
 
-#[derive(Drop)]
+#[derive(Clone, Copy)]
 pub enum Listing {
     Listed(usize),
     Refused(Refusal),

@@ -9,7 +9,7 @@ use Rattle.layout.proofs.all.put_row.Statement.{statement}
 use Rattle.layout.proofs.all.put_row.Tie as tie
 
 returns : tie.Need-returns
-returns c = puts-other _ _ _ _ _ _ _ c.before.before.row_at.ensures c.before.structure.ensures c.before.before.before.before.before.before.before.before.before.before.before.before.args.counts (not-true _ c.if1.true)
+returns c = puts-other _ _ _ _ _ _ _ c.before.before.row_at.ensures c.before.is_structure.ensures c.before.before.before.before.before.before.before.before.before.before.before.before.args.counts (not-true _ c.if1.true)
 
 mul-from : tie.Need-overflow-mul-from
 mul-from c = omega (arith, c.before.before.before.before.before.before.before.before.before.before.before.before.before.before.before.before.before.requires.0.counted.few_members, c.before.before.before.before.before.before.before.before.before.before.before.before.before.before.before.before.before.requires.0.counted.asked.asked.there, c.before.before.before.before.before.before.before.before.before.before.before.before.before.before.before.before.before.requires.0.counted.asked.asked.table.few)
@@ -28,25 +28,25 @@ read-layout-requires c κs = (c.before.before.before.before.before.before.before
 
 one-more-requires : tie.Need-one-more-requires
 unfolding said_layout_whole
-one-more-requires c κs = given-asked _ _ _ _ _ _ _ c.before.before.before.before.before.before.before.before.before.before.before.before.before.before.before.before.before.before.row_at.ensures c.before.before.before.before.before.before.before.before.before.before.before.before.before.before.before.before.before.structure.ensures (not-false _ c.before.before.before.before.before.before.before.before.before.before.before.before.before.before.before.before.if1.false) c.before.before.before.before.before.before.before.before.before.before.before.before.before.before.before.before.before.before.before.before.before.before.before.before.before.before.before.before.args.counts (case-said said_layout_whole c.before.before.before.before.before.before.before.before.before.read-layout.ensures.answer_is c.before.before.before.before.before.found.given.1) c.before.before.before.before.before.before.before.before.before.before.before.before.before.before.before.before.before.before.before.before.before.before.before.before.before.before.before.before.requires.0.counted
+one-more-requires c κs = given-asked _ _ _ _ _ _ _ c.before.before.before.before.before.before.before.before.before.before.before.before.before.before.before.before.before.before.row_at.ensures c.before.before.before.before.before.before.before.before.before.before.before.before.before.before.before.before.before.is_structure.ensures (not-false _ c.before.before.before.before.before.before.before.before.before.before.before.before.before.before.before.before.if1.false) c.before.before.before.before.before.before.before.before.before.before.before.before.before.before.before.before.before.before.before.before.before.before.before.before.before.before.before.before.args.counts (case-said said_layout_whole c.before.before.before.before.before.before.before.before.before.read-layout.ensures.answer_is c.before.before.before.before.before.found.given.1) c.before.before.before.before.before.before.before.before.before.before.before.before.before.before.before.before.before.before.before.before.before.before.before.before.before.before.before.before.requires.0.counted
 
 one-more-requires-2 : tie.Need-one-more-requires-2
 one-more-requires-2 c κs = refused-asked c.before.before.before.before.before.before.before.before.before.before.before.before.before.before.before.before.before.before.before.before.before.before.before.requires.0.counted
 
 returns-2 : tie.Need-returns-2
 unfolding said_layout_whole
-returns-2 c = puts-given _ _ _ _ _ _ _ c.before.before.before.before.before.before.before.before.before.before.before.before.before.before.before.before.before.before.before.row_at.ensures c.before.before.before.before.before.before.before.before.before.before.before.before.before.before.before.before.before.before.structure.ensures (not-false _ c.before.before.before.before.before.before.before.before.before.before.before.before.before.before.before.before.before.if1.false) c.before.before.before.before.before.before.before.before.before.before.before.before.before.before.before.before.before.before.before.before.before.before.before.before.before.before.before.before.before.args.counts (case-said said_layout_whole c.before.before.before.before.before.before.before.before.before.before.read-layout.ensures.answer_is c.before.before.before.before.before.before.found.given.1)
+returns-2 c = puts-given _ _ _ _ _ _ _ c.before.before.before.before.before.before.before.before.before.before.before.before.before.before.before.before.before.before.before.row_at.ensures c.before.before.before.before.before.before.before.before.before.before.before.before.before.before.before.before.before.before.is_structure.ensures (not-false _ c.before.before.before.before.before.before.before.before.before.before.before.before.before.before.before.before.before.if1.false) c.before.before.before.before.before.before.before.before.before.before.before.before.before.before.before.before.before.before.before.before.before.before.before.before.before.before.before.before.before.args.counts (case-said said_layout_whole c.before.before.before.before.before.before.before.before.before.before.read-layout.ensures.answer_is c.before.before.before.before.before.before.found.given.1)
     c.before.before.before.before.before.before.before.before.before.before.before.before.before.before.before.before.run_of.ensures c.before.before.before.before.before.before.before.before.before.before.before.before.before.before.before.last_name.ensures c.before.before.before.before.before.before.before.before.before.before.read-layout.ensures c.before.before.before.put-structure.ensures c.one_more.ensures
 
 returns-3 : tie.Need-returns-3
 unfolding said_sized said_layout_whole
-returns-3 c = absurd (layout-given c.before.before.before.before.before.before.before.before.before.before.before.before.before.before.before.before.before.before.before.before.before.before.before.requires.1.0 c.before.before.before.before.before.before.before.before.before.before.before.before.before.before.before.before.before.before.before.before.before.before.before.requires.0.counted.asked.asked.there c.before.before.before.before.before.before.before.before.before.before.before.before.before.row_at.ensures c.before.before.before.before.before.before.before.before.before.before.before.before.structure.ensures (not-false _ c.before.before.before.before.before.before.before.before.before.before.before.if1.false) (case-said said_sized c.before.before.before.before.before.before.before.before.noted-at.ensures c.before.before.before.before.before.before.enum_told.given.1)
+returns-3 c = absurd (layout-given c.before.before.before.before.before.before.before.before.before.before.before.before.before.before.before.before.before.before.before.before.before.before.before.requires.1.0 c.before.before.before.before.before.before.before.before.before.before.before.before.before.before.before.before.before.before.before.before.before.before.before.requires.0.counted.asked.asked.there c.before.before.before.before.before.before.before.before.before.before.before.before.before.row_at.ensures c.before.before.before.before.before.before.before.before.before.before.before.before.is_structure.ensures (not-false _ c.before.before.before.before.before.before.before.before.before.before.before.if1.false) (case-said said_sized c.before.before.before.before.before.before.before.before.noted-at.ensures c.before.before.before.before.before.before.enum_told.given.1)
     (case-said said_layout_whole c.before.before.before.before.read-layout.ensures.answer_is c.enum-told2.given.1))
 
 returns-4 : tie.Need-returns-4
 unfolding said_sized
-returns-4 c = puts-refused _ _ _ _ _ _ _ c.before.before.before.before.before.before.before.before.before.before.before.before.before.before.row_at.ensures c.before.before.before.before.before.before.before.before.before.before.before.before.before.structure.ensures (not-false _ c.before.before.before.before.before.before.before.before.before.before.before.before.if1.false) c.before.before.before.before.before.before.before.before.before.before.before.before.before.before.before.before.before.before.before.before.before.before.before.before.args.counts
-    (layout-refused c.before.before.before.before.before.before.before.before.before.before.before.before.before.before.before.before.before.before.before.before.before.before.before.before.requires.1.0 c.before.before.before.before.before.before.before.before.before.before.before.before.before.before.before.before.before.before.before.before.before.before.before.before.requires.0.counted.asked.asked.there c.before.before.before.before.before.before.before.before.before.before.before.before.before.before.row_at.ensures c.before.before.before.before.before.before.before.before.before.before.before.before.before.structure.ensures (not-false _ c.before.before.before.before.before.before.before.before.before.before.before.before.if1.false) (case-said said_sized c.before.before.before.before.before.before.before.before.before.noted-at.ensures c.before.before.before.before.before.before.before.why.given.1))
+returns-4 c = puts-refused _ _ _ _ _ _ _ c.before.before.before.before.before.before.before.before.before.before.before.before.before.before.row_at.ensures c.before.before.before.before.before.before.before.before.before.before.before.before.before.is_structure.ensures (not-false _ c.before.before.before.before.before.before.before.before.before.before.before.before.if1.false) c.before.before.before.before.before.before.before.before.before.before.before.before.before.before.before.before.before.before.before.before.before.before.before.before.args.counts
+    (layout-refused c.before.before.before.before.before.before.before.before.before.before.before.before.before.before.before.before.before.before.before.before.before.before.before.before.requires.1.0 c.before.before.before.before.before.before.before.before.before.before.before.before.before.before.before.before.before.before.before.before.before.before.before.before.requires.0.counted.asked.asked.there c.before.before.before.before.before.before.before.before.before.before.before.before.before.before.row_at.ensures c.before.before.before.before.before.before.before.before.before.before.before.before.before.is_structure.ensures (not-false _ c.before.before.before.before.before.before.before.before.before.before.before.before.if1.false) (case-said said_sized c.before.before.before.before.before.before.before.before.before.noted-at.ensures c.before.before.before.before.before.before.before.why.given.1))
     c.before.before.before.before.before.before.before.before.before.before.before.run_of.ensures c.before.before.before.before.before.before.before.before.before.before.last_name.ensures c.before.before.before.before.number_of_lem.ensures c.before.before.before.put-structure2.ensures c.one-more2.ensures
 
 pub put-row-spec : {M : Type 1} → statement M

@@ -4,7 +4,7 @@ use Rattle.layout.proofs.one.lay_structure.Statement.{statement}
 use Rattle.layout.proofs.one.lay_structure.Tie as tie
 
 kept-fault-requires : tie.Need-kept-fault-requires
-kept-fault-requires c κs = record { asked = c.before.before.before.before.before.before.before.requires.asked.asked; structure = c.before.before.before.before.before.before.before.requires.structure; kept_rows = c.before.before.before.before.before.before.before.requires.all_kept.parts.rows_kept }
+kept-fault-requires c κs = record { asked = c.before.before.before.before.before.before.before.requires.asked.asked; structure = c.before.before.before.before.before.before.before.requires.is_structure; kept_rows = c.before.before.before.before.before.before.before.requires.all_kept.parts.rows_kept }
 
 lay-children-requires : tie.Need-lay-children-requires
 lay-children-requires c κs = (clear-asked _ _ _ _ _ _ c.before.before.before.kept-fault.ensures c.before.enum_told.given.1 c.before.before.before.before.before.before.before.before.before.before.before.requires.asked, c.before.before.before.before.before.before.before.before.before.before.before.requires.all_kept)

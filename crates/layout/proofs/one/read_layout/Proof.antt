@@ -5,19 +5,19 @@ use Rattle.layout.proofs.one.read_layout.Statement.{statement}
 use Rattle.layout.proofs.one.read_layout.Tie as tie
 
 returns : tie.Need-returns
-returns c = whole-other _ _ _ _ _ _ _ c.before.before.before.row_at.ensures c.before.before.structure.ensures (not-true _ c.before.if1.true) c.refused.ensures
+returns c = whole-other _ _ _ _ _ _ _ c.before.before.before.row_at.ensures c.before.before.is_structure.ensures (not-true _ c.before.if1.true) c.refused.ensures
 
 lay-structure-requires : tie.Need-lay-structure-requires
-lay-structure-requires c κs = layout-asked _ _ _ _ _ _ c.before.before.before.before.before.before.before.before.before.before.before.before.before.before.requires.0 c.before.before.before.before.before.before.before.before.before.before.before.before.before.before.requires.1 c.before.before.before.before.before.before.row_at.ensures c.before.before.before.before.before.structure.ensures (not-false _ c.before.before.before.before.if1.false)
+lay-structure-requires c κs = layout-asked _ _ _ _ _ _ c.before.before.before.before.before.before.before.before.before.before.before.before.before.before.requires.0 c.before.before.before.before.before.before.before.before.before.before.before.before.before.before.requires.1 c.before.before.before.before.before.before.row_at.ensures c.before.before.before.before.before.is_structure.ensures (not-false _ c.before.before.before.before.if1.false)
 
 returns-2 : tie.Need-returns-2
 returns-2 c =
-    whole-laid _ _ _ _ _ _ _ c.before.before.before.before.before.before.before.before.before.before.before.before.before.row_at.ensures c.before.before.before.before.before.before.before.before.before.before.before.before.structure.ensures (not-false _ c.before.before.before.before.before.before.before.before.before.before.before.if1.false) c.before.before.before.before.before.before.before.before.before.before.run_of.ensures c.before.before.before.before.before.before.before.before.before.last_word.ensures
+    whole-laid _ _ _ _ _ _ _ c.before.before.before.before.before.before.before.before.before.before.before.before.before.row_at.ensures c.before.before.before.before.before.before.before.before.before.before.before.before.is_structure.ensures (not-false _ c.before.before.before.before.before.before.before.before.before.before.before.if1.false) c.before.before.before.before.before.before.before.before.before.before.run_of.ensures c.before.before.before.before.before.before.before.before.before.last_word.ensures
     c.before.before.before.before.before.before.before.before.is-bounded.ensures c.before.before.before.before.before.before.lay-structure.ensures c.before.before.count.given.1 c.size-or-largest.ensures
 
 returns-3 : tie.Need-returns-3
 returns-3 c =
-    whole-refused _ _ _ _ _ _ _ c.before.before.before.before.before.before.before.before.before.before.before.before.row_at.ensures c.before.before.before.before.before.before.before.before.before.before.before.structure.ensures (not-false _ c.before.before.before.before.before.before.before.before.before.before.if1.false) c.before.before.before.before.before.before.before.before.before.run_of.ensures c.before.before.before.before.before.before.before.before.last_word.ensures
+    whole-refused _ _ _ _ _ _ _ c.before.before.before.before.before.before.before.before.before.before.before.before.row_at.ensures c.before.before.before.before.before.before.before.before.before.before.before.is_structure.ensures (not-false _ c.before.before.before.before.before.before.before.before.before.before.if1.false) c.before.before.before.before.before.before.before.before.before.run_of.ensures c.before.before.before.before.before.before.before.before.last_word.ensures
     c.before.before.before.before.before.before.before.is-bounded.ensures c.before.before.before.before.before.lay-structure.ensures c.before.why.given.1
 
 pub read-layout-spec : {M : Type 1} → statement M

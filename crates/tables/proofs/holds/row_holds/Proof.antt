@@ -19,7 +19,7 @@ returns-4 : tie.Need-returns-4
 returns-4 c = row-past _ _ _ _ _ _ _ (omega arith)
 
 returns-5 : tie.Need-returns-5
-returns-5 c = c.run_held.ensures ∙ row-run _ _ _ _ _ _ _ (sym c.before.before.before.before.before.before.before.head-holds.ensures ∙ not-false _ c.before.before.before.before.before.before.if1.false) c.before.before.before.before.if2.false (omega arith) c.before.endian-of.ensures
+returns-5 c = c.run_holds.ensures ∙ row-run _ _ _ _ _ _ _ (sym c.before.before.before.before.before.before.before.head-holds.ensures ∙ not-false _ c.before.before.before.before.before.before.if1.false) c.before.before.before.before.if2.false (omega arith) c.before.endian-of.ensures
 
 pub row-holds-spec : {M : Type 1} → statement M
 row-holds-spec =

@@ -5,8 +5,8 @@ use borrow.Author.Tests.{not-true, not-false}
 use borrow.Author.Rules.{rules}
 use Prim.Native.Nat.{◌+◌, ◌-◌, ◌≤◌}
 use mathlib.Core.Path.{◌≡◌, sym, ◌∙◌}
-use Rattle.tables.proofs.holds.run_held.Statement.{statement}
-use Rattle.tables.proofs.holds.run_held.Tie as tie
+use Rattle.tables.proofs.holds.run_holds.Statement.{statement}
+use Rattle.tables.proofs.holds.run_holds.Tie as tie
 
 abbrev invariant-loop : tie.invariant-loop
 invariant-loop s vendors e attrs first n k₀ k = (k ≤ n) × (run_holds s vendors e attrs (first + k) (n - k) ≡ run_holds s vendors e attrs first n)
