@@ -104,12 +104,17 @@ VOCABULARY = ("AttributeKind", "TagKind", "FundType")
 TOKEN = re.compile(r"(\.?)([^\s(){}\[\].;,@\"«»|`]+)")
 
 
+# a name that antt reserves gets another
+RESERVED = {"module": "module_tag"}
+
+
 def vocabulary():
-    found = set()
+    """The capital constants of each module."""
+    found = {}
     for module in VOCABULARY:
         members = {}
         declared(f"crates/format/specs/{module}.antt", members)
-        found |= {n for n in members if re.match("[A-Z]", n)}
+        found[module] = {n for n in members if re.match("[A-Z]", n)}
     return found
 
 
@@ -117,14 +122,13 @@ def turned(path, text, table, constants):
     crate = path.split("/")[1] if path.startswith("crates/") else ""
     apart = {old: new for (crates, old), new in APART.items() if path.endswith(".antt") and (not crates or crate in crates.split())}
     walked = path.endswith("/Proof.antt")
-    own = path in {f"crates/format/specs/{m}.antt" for m in VOCABULARY}
+    own = [m for m in VOCABULARY if path == f"crates/format/specs/{m}.antt"]
+    here = constants[own[0]] if own else set()
+    constants = set().union(*constants.values())
     aliases = {m[2] or m[1] for m in re.finditer(r"(?m)use Rattle\.format\.specs\.(AttributeKind|TagKind|FundType)(?: as (\w+))?;?$", text)}
 
     def constant(name):
-        return snake(name) if name in constants else name
-
-    def bare(m):
-        return m[1] + re.sub(r"\w+", lambda n: constant(n[0]), m[2])
+        return RESERVED.get(snake(name), snake(name)) if name in constants else name
 
     imported = set()
     for m in re.finditer(r"use Rattle\.format\.specs\.(?:AttributeKind|TagKind|FundType)\.\{([^}]*)\}", text):
@@ -134,7 +138,7 @@ def turned(path, text, table, constants):
 
     def word(m):
         dot, name = m[1], m[2]
-        if not dot and (own or name in imported) and name in constants and not re.search(r"specs\.declared\.[\w.]*\.?\{?$", text[: m.start()].split("\n")[-1]):
+        if not dot and (name in here or name in imported) and not re.search(r"specs\.declared\.[\w.]*\.?\{?$", text[: m.start()].split("\n")[-1]):
             return constant(name)
         if name in apart and not (dot and (walked or "-" not in name and name not in ("run_holds", "row_words"))):
             return dot + apart[name]
@@ -162,7 +166,7 @@ def main(check):
     if check:
         for old, new in sorted(table.items()):
             print(f"{old}\t{new}")
-        print("constants:", " ".join(sorted(constants)))
+        print("constants:", " ".join(sorted(set().union(*constants.values()))))
         for name, kinds in sorted(found.items()):
             if any(k[0] for k in kinds) and re.match("[a-z]", name):
                 print(f"look: {name} is a fact in lower case")

@@ -82,8 +82,8 @@ inheritance = 0x001c
 abbrev pub inlined_subroutine : ℕ
 inlined_subroutine = 0x001d
 
-abbrev pub module : ℕ
-module = 0x001e
+abbrev pub module_tag : ℕ
+module_tag = 0x001e
 
 abbrev pub ptr_to_member_type : ℕ
 ptr_to_member_type = 0x001f
@@ -106,5 +106,5 @@ tags =
     padding ∷ array_type ∷ class_type ∷ entry_point ∷ enumeration_type ∷ formal_parameter ∷ global_subroutine ∷ global_variable ∷
     label ∷ lexical_block ∷ local_variable ∷ member ∷ pointer_type ∷ reference_type ∷ compile_unit ∷ string_type ∷
     structure_type ∷ subroutine ∷ subroutine_type ∷ typedef ∷ union_type ∷ unspecified_parameters ∷ variant ∷ common_block ∷
-    common_inclusion ∷ inheritance ∷ inlined_subroutine ∷ module ∷ ptr_to_member_type ∷ set_type ∷ subrange_type ∷ with_stmt ∷
+    common_inclusion ∷ inheritance ∷ inlined_subroutine ∷ module_tag ∷ ptr_to_member_type ∷ set_type ∷ subrange_type ∷ with_stmt ∷
     mw_overlay_branch ∷ []
