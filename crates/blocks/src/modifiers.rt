@@ -13,6 +13,7 @@ pub enum Modifiers {
     Refused(Refusal),
 }
 
+#[tactic(auto, unfolding(crate::specs::Modifiers::is_known))]
 fn is_known(m: Modifier) -> bool
     ensures { result ≡ is_known m }
 {
@@ -27,6 +28,7 @@ fn is_known(m: Modifier) -> bool
 }
 
 // Is what it modifies only pointed to?
+#[tactic(auto, unfolding(crate::specs::Modifiers::is_pointer))]
 fn is_pointer(m: Modifier) -> bool
     ensures { result ≡ is_pointer m }
 {

@@ -49,6 +49,7 @@ pub const SPECIFICATION: u16 = 0x02b2;
 
 // Bit n % 32 of word n / 32 is set where document 01 names n. A match compiles to a table that stands beside the code; a constant array would be made anew at
 // each use.
+#[tactic(auto, unfolding(crate::specs::Lookup::lookup, crate::specs::Inside::NamedWords::named_words))]
 fn named_word(k: u16) -> u32
     ensures { result ≡ lookup named_words 0x00000100 k }
 {

@@ -17,6 +17,7 @@ pub enum FormKind {
 }
 
 // The form of an attribute number: its low four bits.
+#[tactic(auto, unfolding(crate::specs::Lookup::lookup, crate::specs::FormKind::forms, crate::specs::FormKind::form_of))]
 pub fn form_of(attribute: u16) -> FormKind
     ensures { result ≡ form_of attribute }
 {
@@ -34,6 +35,7 @@ pub fn form_of(attribute: u16) -> FormKind
 }
 
 // The low four bits of a form.
+#[tactic(auto, unfolding(crate::specs::FormKind::form_number))]
 fn form_number(form: FormKind) -> u32
     ensures { result ≡ form_number form }
 {

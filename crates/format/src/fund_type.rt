@@ -67,6 +67,7 @@ pub enum FundType {
 }
 
 // The place of a fundamental type in the Rust's order, so of its size among the settings' sizes; 28 for any other number.
+#[tactic(auto, unfolding(crate::specs::Lookup::index_of, crate::specs::FundType::fund_types))]
 pub fn order_of(n: u16) -> usize
     ensures { result ≡ index_of n fund_types }
 {

@@ -18,6 +18,7 @@ pub enum LocationOp {
 }
 
 // The atom of a byte.
+#[tactic(auto, unfolding(crate::specs::Lookup::lookup, crate::specs::LocationOp::location_ops, crate::specs::LocationOp::location_op_of))]
 pub fn location_op(n: u8) -> LocationOp
     ensures { result ≡ location_op_of n }
 {

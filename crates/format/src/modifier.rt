@@ -14,6 +14,7 @@ pub enum Modifier {
 }
 
 // The Rust's `Modifier::parse_int`: the high bit is dropped.
+#[tactic(auto, unfolding(crate::specs::Lookup::lookup, crate::specs::Modifier::modifiers, crate::specs::Modifier::modifier_of))]
 pub fn parse_int(value: u8) -> Modifier
     ensures { result ≡ modifier_of value }
 {

@@ -33,6 +33,7 @@ pub struct Refusal {
 }
 
 // Document 01's number of a reason.
+#[tactic(auto, unfolding(crate::specs::Refusal::number_of))]
 pub fn number_of(reason: Reason) -> u32
     ensures { result ≡ number_of reason }
 {
@@ -60,6 +61,7 @@ pub fn number_of(reason: Reason) -> u32
 }
 
 // The reason of a number; of one that is none, the first.
+#[tactic(auto, unfolding(crate::specs::Lookup::lookup, crate::specs::Refusal::reasons, crate::specs::Refusal::reason_of))]
 pub fn reason_of(number: u32) -> Reason
     ensures { result ≡ reason_of number }
 {

@@ -17,6 +17,7 @@ pub enum SubscriptFormat {
 }
 
 // The format of a byte.
+#[tactic(auto, unfolding(crate::specs::Lookup::lookup, crate::specs::SubscriptFormat::subscript_formats, crate::specs::SubscriptFormat::subscript_format_of))]
 pub fn subscript_format(n: u8) -> SubscriptFormat
     ensures { result ≡ subscript_format_of n }
 {

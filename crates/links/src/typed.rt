@@ -206,6 +206,7 @@ fn as_widened(read: Read16) -> Value
 }
 
 // What the number at a spot is, by its form.
+#[tactic(auto, unfolding(crate::specs::Typed::said_value, crate::specs::Typed::word_at))]
 pub fn word_at(s: &[u8], spot: Spot, form: FormKind) -> Value
     ensures { said_value result ≡ gives (word_at form s.now spot) }
 {
@@ -373,6 +374,7 @@ fn as_place(lying: Lying) -> PartPlace
 }
 
 // Where the text or block at a spot lies, by its form.
+#[tactic(auto, unfolding(crate::specs::Typed::said_part_place, crate::specs::Typed::as_extent, crate::specs::Typed::lies_at))]
 fn part_spot(s: &[u8], spot: Spot, form: FormKind) -> PartPlace
     ensures { said_part_place result ≡ gives (as_extent (lies_at form s.now spot)) }
 {

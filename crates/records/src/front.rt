@@ -27,6 +27,7 @@ fn is_mwcc(producer: Producer) -> bool
 }
 
 // The kinds of rows that a record takes. MWCC writes variables as typedefs too.
+#[tactic(auto, unfolding(crate::specs::Front::kind_taken))]
 fn kind_taken(producer: Producer, which: Record, kind: u32) -> bool
     ensures { result ≡ kind_taken producer which kind }
 {

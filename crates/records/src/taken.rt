@@ -71,6 +71,7 @@ const PTR_TO_MEMBER_TAKES: [u16; 6] = [
 const OVERLAY_BRANCH_TAKES: [u16; 5] = [SIBLING, MEMBER, LOW_PC, HIGH_PC, NAME];
 
 // `process_structure_member_tag`. Members are most of what is read, so theirs is no list to go through.
+#[tactic(auto, unfolding(crate::specs::Taken::taken_by, format::specs::Lookup::is_on))]
 fn member_takes(number: u16) -> bool
     ensures { result ≡ is_on number (taken_by Record.Member) }
 {
@@ -116,6 +117,7 @@ fn plays(role: u16, number: u16) -> bool
 }
 
 // The vendor attributes that a record takes.
+#[tactic(auto, unfolding(crate::specs::Taken::role_taken))]
 fn role_taken(roles: Roles, which: Record, number: u16) -> bool
     ensures { result ≡ role_taken roles which number }
 {
@@ -140,6 +142,7 @@ pub(crate) fn takes(roles: Roles, which: Record, number: u16) -> bool
 }
 
 // Attributes that the record reads itself: the scan stops at them.
+#[tactic(auto, unfolding(crate::specs::Taken::special))]
 pub(crate) fn is_special(which: Record, number: u16) -> bool
     ensures { result ≡ special which number }
 {

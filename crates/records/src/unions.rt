@@ -50,6 +50,7 @@ pub enum UnionRead {
 }
 
 // Children that only define types.
+#[tactic(auto, unfolding(crate::specs::Unions::ignored, crate::specs::Unions::ignored_kinds, format::specs::Lookup::is_on))]
 fn is_ignored(kind: u32) -> bool
     ensures { result ≡ ignored kind }
 {

@@ -53,6 +53,7 @@ pub enum Prepared {
 }
 
 // How a row of this kind comes to its size.
+#[tactic(auto, unfolding(format::specs::Lookup::lookup, crate::specs::Size::shapes, crate::specs::Size::shape_of))]
 pub fn shape_of(kind: u32) -> Shape
     ensures { result ≡ shape_of kind }
 {
@@ -71,6 +72,7 @@ pub fn shape_of(kind: u32) -> Shape
 }
 
 // Is it a structure or a class?
+#[tactic(auto, unfolding(crate::specs::Size::is_structure))]
 pub fn is_structure(kind: u32) -> bool
     ensures { result ≡ is_structure (shape_of kind) }
 {

@@ -1,0 +1,11 @@
+use Rattle.attributes.specs.Text.{zero_from}
+use Prim.Native.Nat.{◌-◌}
+use mathlib.Core.Path.{◌≡◌}
+use lib.ListN.{length}
+use Rattle.attributes.proofs.text.zero_in_rest.Given as goal
+
+abbrev pub invariant-loop-i : goal.invariant-loop-i
+invariant-loop-i l = zero_from l.s l.i ≡ zero_from l.s l.from
+
+abbrev pub decreases-loop-i : goal.decreases-loop-i
+decreases-loop-i l = length l.s - l.i

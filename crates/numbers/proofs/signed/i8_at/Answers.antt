@@ -1,0 +1,20 @@
+use Rattle.numbers.proofs.Laws.Signed.{reads-signed}
+use Rattle.numbers.proofs.Laws.Value.{there-inside, one_byte, reads_short}
+use native.Mathlib.Omega.{arith}
+use Prim.Native.Nat.{◌+◌, ◌≤◌}
+use mathlib.Core.Path.{sym, ◌∙◌}
+use lib.ListN.{length}
+use Rattle.numbers.proofs.signed.i8_at.Goals as goal
+
+pub bounds-s-at : goal.bounds-s-at
+bounds-s-at c =     let h : c.args.at + 1 ≤ length c.args.s.now = there-inside _ _ _ (sym c.bytes_there.ensures ∙ c.if-bytes_there.true) in
+    omega arith
+
+pub signed_of-requires : goal.signed_of-requires
+signed_of-requires c = omega (arith, c.shared_slice_known-then-bytes_there-1.given c.args.at)
+
+pub returns-then-bytes_there : goal.returns-then-bytes_there
+returns-then-bytes_there c = reads-signed _ 1 _ _ (sym c.bytes_there.ensures ∙ c.if-bytes_there.true) (sym (one_byte _ _ _)) c.signed_of.ensures c.signed_of.type_inv
+
+pub returns-else-bytes_there : goal.returns-else-bytes_there
+returns-else-bytes_there c = reads_short _ _ _ _ _ _ (sym c.bytes_there.ensures ∙ c.if-bytes_there.false)

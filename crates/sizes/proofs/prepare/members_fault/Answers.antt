@@ -1,0 +1,42 @@
+use Rattle.sizes.proofs.Laws.Prepare.{members_on, members-refused, members-none}
+use Rattle.sizes.proofs.Laws.Walking.{walking-begins, walking-ends, walking-asked, walking-stops, walking-ending, walking-less, walking_on}
+use Rattle.links.proofs.Laws.EachChild.{ends_at}
+use Rattle.records.specs.Inside.Scan.{said_fault}
+use Prim.Native.Nat.{◌-◌}
+use mathlib.Core.Path.{◌∙◌}
+use Rattle.sizes.proofs.prepare.members_fault.Goals as goal
+
+pub kept_sibling-end-requires : goal.kept_sibling-end-requires
+kept_sibling-end-requires c = (c.requires.0.asked, c.requires.1.siblings)
+
+pub next_row-requires : goal.next_row-requires
+next_row-requires c = record { rising = c.requires.0.asked.table.rising; there = c.requires.0.asked.there }
+
+pub child_from-c-requires : goal.child_from-c-requires
+child_from-c-requires c = ends_at _ _ _ _ _ _ c.kept_sibling-end.ensures c.next_row.ensures c.requires.0.ending
+
+pub loop-c-init : goal.loop-c-init
+loop-c-init c = walking-begins _ _ _ _ _ _ _ c.kept_sibling-end.ensures c.next_row.ensures c.requires.0 c.child_from-c.ensures
+
+pub member_fault-requires : goal.member_fault-requires
+member_fault-requires c = (walking-asked c.loop-c.invariant c.loop-c-test.true, c.requires.1)
+
+pub kept_sibling-requires : goal.kept_sibling-requires
+kept_sibling-requires c = (walking-asked c.loop-c.invariant c.loop-c-test.true, c.requires.1.siblings)
+
+pub child_from-c-requires-in-Clear : goal.child_from-c-requires-in-Clear
+child_from-c-requires-in-Clear c = walking-ending c.loop-c.invariant c.loop-c-test.true c.kept_sibling.ensures
+
+pub loop-c-smaller : goal.loop-c-smaller
+loop-c-smaller c = walking-less c.loop-c.invariant c.loop-c-test.true c.kept_sibling.ensures c.child_from-c-in-Clear.ensures
+
+pub loop-c-preserved : goal.loop-c-preserved
+loop-c-preserved c = walking_on c.loop-c.invariant c.loop-c-test.true c.kept_sibling.ensures c.child_from-c-in-Clear.ensures (members_on _ _ _ _ _ _ c.member_fault.ensures c.in-Clear.is)
+
+pub returns-in-Refused : goal.returns-in-Refused
+unfolding said_fault
+returns-in-Refused c = walking-stops c.loop-c.invariant c.loop-c-test.true (members-refused _ _ _ _ _ _ c.member_fault.ensures c.in-Refused.is)
+
+pub returns : goal.returns
+unfolding said_fault
+returns c = members-none _ _ _ _ _ ∙ walking-ends c.loop-c.invariant c.loop-c-test.false

@@ -1,0 +1,16 @@
+use Rattle.tables.proofs.Laws.Find.{between-upper, between_lower, between-one}
+use native.Mathlib.Omega.{arith}
+use Prim.Native.Nat.{◌-◌}
+use Rattle.tables.proofs.find.first_between.Goals as goal
+
+pub loop-from-init : goal.loop-from-init
+loop-from-init c = c.requires.1
+
+pub loop-from-preserved-then-cell-key : goal.loop-from-preserved-then-cell-key
+loop-from-preserved-then-cell-key c = between-upper c.requires.0 c.loop-from.invariant _ (omega arith) (omega arith) c.cell.ensures c.if-cell-key.true
+
+pub loop-from-preserved : goal.loop-from-preserved
+loop-from-preserved c = between_lower c.requires.0 c.loop-from.invariant _ (omega arith) (omega arith) c.cell.ensures c.if-cell-key.false
+
+pub returns : goal.returns
+returns c = between-one c.loop-from.invariant c.loop-from-test.false
