@@ -10,6 +10,9 @@ pub overflow_add-result : goal.overflow_add-result
 overflow_add-result c =     let h : c.args.from + c.args.n ≤ length c.args.s.now = there-inside _ _ _ (sym c.bytes_there.ensures ∙ c.if-bytes_there.true) in
     omega arith
 
+pub slice_bounds-result-end : goal.slice_bounds-result-end
+slice_bounds-result-end c = there-inside _ _ _ (sym c.bytes_there.ensures ∙ c.if-bytes_there.true)
+
 pub returns-then-bytes_there : goal.returns-then-bytes_there
 returns-then-bytes_there c = part-there _ _ _ (sym c.bytes_there.ensures ∙ c.if-bytes_there.true)
 

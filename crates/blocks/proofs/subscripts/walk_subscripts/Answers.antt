@@ -11,6 +11,9 @@ overflow_add-dimensions c = search (rules, c.loop-rest.invariant.few, c.loop-res
 pub slice_bounds-rest-count : goal.slice_bounds-rest-count
 slice_bounds-rest-count c = dimension-inside c.loop-rest.invariant c.loop-rest-test.true c.next_subscript.ensures c.in-Dimension.is
 
+pub slice_bounds-rest-start : goal.slice_bounds-rest-start
+slice_bounds-rest-start c = dimension-inside c.loop-rest.invariant c.loop-rest-test.true c.next_subscript.ensures c.in-Dimension.is
+
 pub loop-rest-smaller-in-Dimension : goal.loop-rest-smaller-in-Dimension
 loop-rest-smaller-in-Dimension c = dimension-less c.loop-rest.invariant c.loop-rest-test.true c.next_subscript.ensures c.in-Dimension.is
 

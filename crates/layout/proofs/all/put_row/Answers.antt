@@ -18,6 +18,9 @@ offset_bounds-members-from c = omega (arith, c.requires.0.counted.few_members, c
 pub slice_bounds-read_layout-count : goal.slice_bounds-read_layout-count
 slice_bounds-read_layout-count c = c.requires.0.begins
 
+pub slice_bounds-read_layout-start : goal.slice_bounds-read_layout-start
+slice_bounds-read_layout-start c = c.requires.0.begins
+
 pub read_layout-requires : goal.read_layout-requires
 read_layout-requires c = (c.requires.0.counted.asked, c.requires.1.1)
 

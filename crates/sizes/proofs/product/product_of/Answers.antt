@@ -9,6 +9,9 @@ loop-rest-init c = begin _ _ _ _
 pub slice_bounds-rest-count : goal.slice_bounds-rest-count
 slice_bounds-rest-count c = dimension-inside c.loop-rest.invariant c.loop-rest-test.true c.next_subscript.ensures c.in-Dimension.is
 
+pub slice_bounds-rest-start : goal.slice_bounds-rest-start
+slice_bounds-rest-start c = dimension-inside c.loop-rest.invariant c.loop-rest-test.true c.next_subscript.ensures c.in-Dimension.is
+
 pub loop-rest-smaller-in-Is : goal.loop-rest-smaller-in-Is
 loop-rest-smaller-in-Is c = dimension-less c.loop-rest.invariant c.loop-rest-test.true c.next_subscript.ensures c.in-Dimension.is
 
