@@ -149,6 +149,7 @@ plain-in-units before (r ∷ rs) p = (p.0, plain-in-units (unit_of before r) rs 
 
 plain_row : (t : List ℕ) (i : ℕ) (rs : List Row) → Plain rs → rows_from t i (length rs) ≡ rs → (j : ℕ) → j < length rs → erased_row (row_at t (i + j)).flags ≡ false
 unfolding rows_from
+plain_row t i [] p q j h = elim h [ ]
 plain_row t i (r ∷ rs) p q zero h =
     let here : row_at t i ≡ r = cc in
     let place : i + 0 ≡ i = omega arith in

@@ -131,7 +131,7 @@ module _ (r : Source) (erased : Bool) (levels : ℕ) (m : Mode) (key : ℕ) (sma
     count : ℕ
     loop : Loop r.vendors r.global r.section e root stop (key + 6) 0 [] table at count high
 
-  turns : {root high : Bool} {e : Endian} {at : ℕ} → key + 6 ≤ length r.section → ReadUpTo r erased levels m key root e high at → Turns root e high at
+  turns : {root : Bool} {e : Endian} {high : Bool} {at : ℕ} → key + 6 ≤ length r.section → ReadUpTo r erased levels m key root e high at → Turns root e high at
   turns h none_yet = record { table = []; count = 0; loop = begin _ _ _ _ _ _ [] (record { small = small; here = h; few = omega arith }) }
   turns h (one_more before on p) =
       let t = turns h before in

@@ -21,7 +21,7 @@ use Rattle.entries.proofs.Laws.WantedExactly.{EntryAhead, entry-ahead}
 
 module _ (r : Source) (erased : Bool) (levels : ℕ) (m : Mode) (key : ℕ) where
   -- attributes begin behind the tag, and each that was read ends inside
-  read-place : {root high : Bool} {e : Endian} {at : ℕ} → key + 6 ≤ length r.section → ReadUpTo r erased levels m key root e high at
+  read-place : {root : Bool} {e : Endian} {high : Bool} {at : ℕ} → key + 6 ≤ length r.section → ReadUpTo r erased levels m key root e high at
       → (key + 6 ≤ at) × (at ≤ length r.section)
   read-place h none_yet = (omega arith, h)
   read-place {e = e} h (one_more {at = at} before on p) =

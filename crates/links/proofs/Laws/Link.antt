@@ -38,7 +38,7 @@ module _ (rows : List ℕ) (asking : Bool) (n j : ℕ) where
       let step : n - j ≡ suc (n - (j + 1)) = omega arith in
       let place : j + 1 ≡ suc j = omega arith in
       let test : erased_row (row_at rows j).flags ≡ true = ap (λ (r : Row). erased_row r.flags) (sym p) ∙ sym q ∙ e in
-      rw (step, t, test, place)
+      subst (λ (a : Bool). next_from rows a (j + 1) (n - (j + 1)) ≡ next_from rows a j (n - j)) (sym t) (rw (step, test, ← place))
 
   pub next-none : n ≤ j → j ≡ next_from rows asking j (n - j)
   unfolding next_from

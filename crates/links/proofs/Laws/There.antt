@@ -131,7 +131,7 @@ block-whole e w s at h =
     let bytes : there s (at + w) n ≡ true = fixed-there s (at + w) n fields.1 in
     record {
       extent = record { place = at + w; length = n };
-      is_extent = sym (parts.part_lies s (at + w) n bytes ∙ reads (λ k. part_lies s (at + w) k) lying.Cut e w s at fields.0 refl);
+      is_extent = sym (parts.part_lies_lem s (at + w) n bytes ∙ reads (λ k. part_lies s (at + w) k) lying.Cut e w s at fields.0 refl);
       so = record { begins = refl; many = refl; inside = there-inside s (at + w) n bytes };
     }
 
@@ -187,7 +187,7 @@ lies-inside Undefined s spot p = absurd (some-none (sym p))
 -- the part of a place and a length that lie inside is what stands there
 inside-stretch : (s : List ℕ) (x : Extent) → x.place + x.length ≤ length s → Stretch s x (part_at s x.place x.length)
 inside-stretch s x h =
-    subst (λ (l : Lying). Shown s l (part_at s x.place x.length)) (sym (parts.part_lies s x.place x.length (inside-there s x.place x.length h)))
+    subst (λ (l : Lying). Shown s l (part_at s x.place x.length)) (sym (parts.part_lies_lem s x.place x.length (inside-there s x.place x.length h)))
     (parts.part-shown s x.place x.length)
 
 -- ---- an attribute that a row has

@@ -9,7 +9,7 @@ use Rattle.blocks.proofs.subscript.high_bound.Goals as goal
 
 pub returns-in-Value : goal.returns-in-Value
 unfolding high_bound said_subscript said32 ◌>>=◌
-returns-in-Value c = goes_on said32 (number32 _ _ _ _ c.u32_at.ensures) c.in-Value.is _ (wrapped _ (search rules) c.wrapping_add_u32.ensures)
+returns-in-Value c = goes_on said32 (number32 _ _ _ _ c.u32_at.ensures) c.in-Value.is _ (wrapped _ (search rules) c.wrapping_add_u32.ensures.value)
 
 pub returns-in-Short : goal.returns-in-Short
 unfolding high_bound said_subscript said32 ◌>>=◌

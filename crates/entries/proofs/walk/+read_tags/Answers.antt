@@ -20,7 +20,7 @@ overflow_sub-levels t c = level_left _ _ _ _ _ _ _ _ c.loop-state.invariant c.lo
 
 pub read_tags-requires : goal.read_tags-requires
 read_tags-requires t c =     let left : 0 < c.args.levels = level_left _ _ _ _ _ _ _ _ c.loop-state.invariant c.loop-state-test.true c.read_entry.ensures c.in-Inside.is in
-    (omega (arith, c.MEASURE), (inside-ready _ _ _ _ _ _ _ _ c.loop-state.invariant c.loop-state-test.true c.read_entry.ensures c.in-Inside.is, inside-near _ _ _ _ _ _ _ _ c.loop-state.invariant c.loop-state-test.true c.read_entry.ensures c.in-Inside.is))
+    (omega (arith, c.decreases), (inside-ready _ _ _ _ _ _ _ _ c.loop-state.invariant c.loop-state-test.true c.read_entry.ensures c.in-Inside.is, inside-near _ _ _ _ _ _ _ _ c.loop-state.invariant c.loop-state-test.true c.read_entry.ensures c.in-Inside.is))
 
 pub loop-state-smaller : goal.loop-state-smaller
 loop-state-smaller t c = falls-inside _ _ _ _ _ _ _ _ c.loop-state.invariant c.loop-state-test.true c.read_entry.ensures c.in-Inside.is c.read_tags.ensures c.in-Walked.is

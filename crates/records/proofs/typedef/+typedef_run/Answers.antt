@@ -16,7 +16,7 @@ overflow_sub-levels t c = level_left _ _ _ _ _ _ _ _ c.loop-j.invariant c.pause_
 
 pub typedef_run-requires : goal.typedef_run-requires
 typedef_run-requires t c =     let more : 0 < c.args.levels = level_left _ _ _ _ _ _ _ _ c.loop-j.invariant c.pause_from.ensures c.in-At.is in
-    (omega (arith, c.MEASURE), row-asked _ _ _ _ _ _ _ _ c.loop-j.invariant c.pause_from.ensures c.in-At.is c.requires.table)
+    (omega (arith, c.decreases), row-asked _ _ _ _ _ _ _ _ c.loop-j.invariant c.pause_from.ensures c.in-At.is c.requires.table)
 
 pub overflow_add-j : goal.overflow_add-j
 overflow_add-j t c =     let less : c.in-At.at < c.run_of-run.result.count = place-there _ _ _ _ _ _ _ _ c.loop-j.invariant c.pause_from.ensures c.in-At.is in

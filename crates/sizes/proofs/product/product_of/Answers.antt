@@ -25,6 +25,9 @@ returns-in-Refused-times c = product-big c.loop-rest.invariant c.loop-rest-test.
 pub slice_bounds-rest-count-in-Element : goal.slice_bounds-rest-count-in-Element
 slice_bounds-rest-count-in-Element c = element-inside c.loop-rest.invariant c.loop-rest-test.true c.next_subscript.ensures c.in-Element.is
 
+pub slice_bounds-rest-start-in-Element : goal.slice_bounds-rest-start-in-Element
+slice_bounds-rest-start-in-Element c = element-inside c.loop-rest.invariant c.loop-rest-test.true c.next_subscript.ensures c.in-Element.is
+
 pub loop-rest-smaller : goal.loop-rest-smaller
 loop-rest-smaller c = element-less c.loop-rest.invariant c.loop-rest-test.true c.next_subscript.ensures c.in-Element.is
 

@@ -11,7 +11,7 @@ pub returns-then-levels-eq0 : goal.returns-then-levels-eq0
 returns-then-levels-eq0 t c = entry-deep _ _ _ _ _ _ _ _ c.find_row.ensures c.in-At.is c.if-levels-eq0.true c.refused.ensures
 
 pub staged_size-requires : goal.staged_size-requires
-staged_size-requires t c = (omega (arith, c.MEASURE, c.if-levels-eq0.false), found-asked c.requires _ c.find_row.ensures c.in-At.is)
+staged_size-requires t c = (omega (arith, c.decreases, c.if-levels-eq0.false), found-asked c.requires _ c.find_row.ensures c.in-At.is)
 
 pub returns-else-levels-eq0 : goal.returns-else-levels-eq0
 returns-else-levels-eq0 t c = entry_row _ _ _ _ _ _ _ _ c.find_row.ensures c.in-At.is c.if-levels-eq0.false c.staged_size.ensures
@@ -29,7 +29,7 @@ pub returns-in-Nothing : goal.returns-in-Nothing
 returns-in-Nothing t c = waiting-size _ _ _ _ _ _ _ c.loop-wait.invariant c.in-Nothing.is
 
 pub type_size-requires : goal.type_size-requires
-type_size-requires t c = (omega (arith, c.MEASURE), record { table = c.requires.asked.table; short = c.requires.short })
+type_size-requires t c = (omega (arith, c.decreases), record { table = c.requires.asked.table; short = c.requires.short })
 
 pub next_stage-wait-requires-in-Is : goal.next_stage-wait-requires-in-Is
 next_stage-wait-requires-in-Is t c = c.loop-wait.invariant.staged c.in-Type.is
@@ -51,7 +51,7 @@ unfolding type_size
 returns-then-of t c = type-pointer _ _ _ c.if-of.true
 
 pub entry_size-requires : goal.entry_size-requires
-entry_size-requires t c = (omega (arith, c.MEASURE), c.requires)
+entry_size-requires t c = (omega (arith, c.decreases), c.requires)
 
 pub returns-in-Fundamental : goal.returns-in-Fundamental
 unfolding type_size
