@@ -220,9 +220,9 @@ unfolding written_dies
 from-behind {e = e} {s} {rows} {attrs} {n} {i} {at = at} {next = next} [] more f p q =
     let row : i + 0 ≡ i = omega arith in let place : at + 0 ≡ at = omega arith in
     subst (λ (k : ℕ). From e s rows attrs n k next more) (sym row ∙ p) (subst (λ (k : ℕ). From e s rows attrs n i k more) (sym place ∙ q) f)
-from-behind {numbers} {at = at} (d ∷ dies) more f p q =
+from-behind {numbers} {i = i} {at = at} (d ∷ dies) more f p q =
     let long = dies-length d dies in
-    from-behind dies more (from_next f) (omega arith) (omega arith)
+    from-behind {i = suc i} dies more (from_next f) (omega arith) (omega arith)
 
 -- ---- where references lead
 

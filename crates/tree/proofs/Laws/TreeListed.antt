@@ -84,6 +84,7 @@ none_first p n h = let all : first_from p 0 n ≡ n = (first-none p n).1 h in le
 pub places-depth : (n : ℕ) (reach : ℕ → ℕ) (i k j : ℕ) → j < k
     → (get_or (places_from n reach i k) (j * place_width) 0 ≡ depth n reach (i + j)) × (get_or (places_from n reach i k) (j * place_width + 1) 0 ≡ parent n reach (i + j))
 unfolding places_from
+places-depth n reach i zero j h = elim h [ ]
 places-depth n reach i (suc k) zero h =
     let place : i + 0 ≡ i = omega arith in
     (ap (λ (x : ℕ). depth n reach x) (sym place), ap (λ (x : ℕ). parent n reach x) (sym place))

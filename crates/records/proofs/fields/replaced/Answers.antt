@@ -6,7 +6,7 @@ use Rattle.records.proofs.fields.replaced.Goals as goal
 
 pub returns-in-Is : goal.returns-in-Is
 unfolding said_typed placed
-returns-in-Is c = placed-told said_typed _ c.type_inv.given.1 refl
+returns-in-Is c = placed-told said_typed _ c.in-Is.is refl
 
 pub returns-in-Refused : goal.returns-in-Refused
 unfolding said_typed placed

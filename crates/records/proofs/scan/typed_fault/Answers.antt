@@ -12,4 +12,4 @@ returns-in-Is c = fault-told said_typed _ c.in-Is.is refl
 
 pub returns-in-Refused : goal.returns-in-Refused
 unfolding fault_of said_typed said_fault placed ◌>>◌
-returns-in-Refused c = fault-told said_typed _ c.type_inv.given.1 (ap refusal c.placed.ensures)
+returns-in-Refused c = fault-told said_typed _ c.in-Refused.is (ap refusal c.placed.ensures)

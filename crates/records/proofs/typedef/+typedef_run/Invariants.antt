@@ -9,4 +9,4 @@ abbrev pub invariant-loop-j : goal.invariant-loop-j
 invariant-loop-j l = Loop l.settings l.s l.rows l.attrs l.n l.levels l.i l.run l.filling l.j
 
 abbrev pub decreases-loop-j : goal.decreases-loop-j
-decreases-loop-j l = l.run .count - l.j
+decreases-loop-j l = l.run.count - l.j
