@@ -1,5 +1,6 @@
 use Rattle.sizes.proofs.Laws.Stage.{begun-size, begun-element, begun-from, begun-ends, begun-refused}
 use Rattle.sizes.proofs.Laws.Kept.{none_kept}
+use mathlib.Core.List.{[]}
 use Rattle.sizes.proofs.stage.begun.Goals as goal
 
 pub prepare_row-requires : goal.prepare_row-requires
