@@ -20,57 +20,71 @@ mod tally;
 mod unions;
 mod values;
 
-use libc::STDIN_FILENO;
 use numbers::prefix::starts_with;
+use std::env::FillError;
+use std::fs::File;
+use std::io::{Input, Read};
+use std::rt::{Env, Files};
+use std::str;
 use tally::{report, text};
 
 fn is_stdin(name: &[u8]) -> bool {
     starts_with(name, b"-") & (name.len() == 1)
 }
 
-// Negative where it cannot be opened.
-fn opened(name: &[u8]) -> i32 {
-    if is_stdin(name) {
-        STDIN_FILENO
-    } else {
-        os::open_read(name)
-    }
+// Nothing where it cannot be opened, as where its name is not UTF-8.
+fn opened<R: Files>(rt: &R, name: &[u8]) -> Option<R::File> {
+    let path = str::from_utf8(name).ok()?;
+    File::open(rt, path).ok()
+}
+
+// The cases that can be read from an input.
+fn run_input<I: Read>(rt: &impl Print, input: &mut I, packet: &mut [u8; 1048576]) {
+    let mut t = [0u64; 128];
+    stream::run(rt, input, packet, &mut t);
+    report(rt, &t);
 }
 
 // The cases of one file.
-fn run_file(name: &[u8], packet: &mut [u8; 1048576]) {
-    let fd = opened(name);
-    text(name);
-    text(b"\n");
-    if fd < 0 {
-        text(b"bad case file: it cannot be opened\n");
+fn run_file<R: Files + Input + Print>(rt: &R, name: &[u8], packet: &mut [u8; 1048576]) {
+    text(rt, name);
+    text(rt, b"\n");
+    if is_stdin(name) {
+        run_input(rt, &mut rt.reader(), packet);
         return;
     }
-    let mut t = [0u64; 128];
-    stream::run(fd, packet, &mut t);
-    report(&t);
-    if fd != STDIN_FILENO {
-        libc::close(fd);
+    match opened(rt, name) {
+        Some(mut file) => run_input(rt, &mut file, packet),
+        None => text(rt, b"bad case file: it cannot be opened\n"),
     }
 }
 
-fn run_argument(i: usize, packet: &mut [u8; 1048576]) {
-    let mut name = io::buffer();
-    let length = os::arg(i, &mut name);
-    run_file(&name[..length], packet);
+// Answers whether there is such an argument. A name that is longer than the system opens is told as an empty one.
+fn run_argument<R: Env + Files + Input + Print>(
+    rt: &R,
+    i: usize,
+    packet: &mut [u8; 1048576],
+) -> bool {
+    let mut name = [0u8; 4096];
+    match rt.arg(i, &mut name) {
+        Ok(length) => run_file(rt, &name[..length], packet),
+        Err(FillError::TooLong) => run_file(rt, b"", packet),
+        Err(FillError::NotPresent) => return false,
+    }
+    true
 }
 
-fn run_arguments(n: usize, packet: &mut [u8; 1048576]) {
-    let mut i: usize = 1;
-    while i < n {
-        run_argument(i, packet);
-        i += 1;
+fn run_arguments<R: Env + Files + Input + Print>(rt: &R, packet: &mut [u8; 1048576]) {
+    for i in 1..usize::MAX {
+        if !run_argument(rt, i, packet) {
+            return;
+        }
     }
 }
 
-fn main() {
-    document::run();
-    refusals::run();
+fn main(rt: HostRuntime) {
+    document::run(&rt);
+    refusals::run(&rt);
     let mut packet = [0u8; 1048576];
-    run_arguments(os::arg_count(), &mut packet);
+    run_arguments(&rt, &mut packet);
 }

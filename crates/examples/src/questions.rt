@@ -89,6 +89,7 @@ fn by_key(
 
 // Where the next question is; or the end of what can be read.
 fn judged(
+    rt: &impl Print,
     packet: &[u8],
     at: usize,
     t: &mut [u64; 128],
@@ -96,7 +97,7 @@ fn judged(
     body: &[u8],
     c: Cursor,
 ) -> usize {
-    if judge(t, at, kind, body, c) {
+    if judge(rt, t, at, kind, body, c) {
         end_at(packet, at)
     } else {
         STOP
@@ -104,6 +105,7 @@ fn judged(
 }
 
 fn ask_row(
+    rt: &impl Print,
     packet: &[u8],
     at: usize,
     t: &mut [u64; 128],
@@ -114,17 +116,18 @@ fn ask_row(
     counts: Counts,
 ) -> usize {
     if end_at(packet, at) <= at {
-        fault(t, at, b"a question is longer than its packet");
+        fault(rt, t, at, b"a question is longer than its packet");
         return STOP;
     }
     let kind = word_of(packet, at);
     let body = body_at(packet, at);
     let c = by_key(body, kind, s, settings, rows, attrs, counts);
-    judged(packet, at, t, kind, body, c)
+    judged(rt, packet, at, t, kind, body, c)
 }
 
 // The questions by key from a place on.
 fn ask_rows(
+    rt: &impl Print,
     packet: &[u8],
     from: usize,
     t: &mut [u64; 128],
@@ -139,7 +142,7 @@ fn ask_rows(
         if !is_by_key(word_of(packet, at)) {
             return at;
         }
-        let next = ask_row(packet, at, t, s, settings, rows, attrs, counts);
+        let next = ask_row(rt, packet, at, t, s, settings, rows, attrs, counts);
         if next <= at {
             return STOP;
         }
@@ -150,6 +153,7 @@ fn ask_rows(
 
 // A section that was read: its rows, then the questions about it.
 fn section_read(
+    rt: &impl Print,
     packet: &[u8],
     at: usize,
     t: &mut [u64; 128],
@@ -163,11 +167,11 @@ fn section_read(
     let body = body_at(packet, at);
     let e = settings.endian;
     let d = table(body, given(body, c), s, e, rows, attrs, counts);
-    let next = judged(packet, at, t, 1, body, d);
+    let next = judged(rt, packet, at, t, 1, body, d);
     if next <= at {
         return STOP;
     }
-    ask_rows(packet, next, t, s, settings, rows, attrs, counts)
+    ask_rows(rt, packet, next, t, s, settings, rows, attrs, counts)
 }
 
 // Ours is 8, for which a case has the word 2 and the counts that are needed.
@@ -178,6 +182,7 @@ fn over_limits(body: &[u8], c: Cursor, needed: Counts) -> Cursor {
 
 // With tables of the largest size.
 fn large_section(
+    rt: &impl Print,
     packet: &[u8],
     at: usize,
     t: &mut [u64; 128],
@@ -190,18 +195,29 @@ fn large_section(
     let mut attrs = [0u32; ATTRIBUTE_LIMIT * ATTR_WIDTH];
     match read_debug_section(s, settings, &MW_VENDORS, &SIZES, &mut rows, &mut attrs) {
         Section::Read(counts) => {
-            section_read(packet, at, t, c, s, settings, &rows, &attrs, counts)
+            section_read(rt, packet, at, t, c, s, settings, &rows, &attrs, counts)
         }
-        Section::Refused(why) => { judged(packet, at, t, 1, body, refused_section(body, c, why)) }
+        Section::Refused(why) => {
+            judged(rt, packet, at, t, 1, body, refused_section(body, c, why))
+        }
         Section::Unread { why, byte } => {
-            judged(packet, at, t, 1, body, unread_section(body, c, why, byte))
+            judged(
+                rt,
+                packet,
+                at,
+                t,
+                1,
+                body,
+                unread_section(body, c, why, byte),
+            )
         }
-        Section::Room(needed) => judged(packet, at, t, 1, body, over_limits(body, c, needed)),
+        Section::Room(needed) => judged(rt, packet, at, t, 1, body, over_limits(body, c, needed)),
     }
 }
 
 // With small tables first.
 fn small_section(
+    rt: &impl Print,
     packet: &[u8],
     at: usize,
     t: &mut [u64; 128],
@@ -214,36 +230,47 @@ fn small_section(
     let mut attrs = [0u32; 256 * ATTR_WIDTH];
     match read_debug_section(s, settings, &MW_VENDORS, &SIZES, &mut rows, &mut attrs) {
         Section::Read(counts) => {
-            section_read(packet, at, t, c, s, settings, &rows, &attrs, counts)
+            section_read(rt, packet, at, t, c, s, settings, &rows, &attrs, counts)
         }
-        Section::Refused(why) => { judged(packet, at, t, 1, body, refused_section(body, c, why)) }
+        Section::Refused(why) => {
+            judged(rt, packet, at, t, 1, body, refused_section(body, c, why))
+        }
         Section::Unread { why, byte } => {
-            judged(packet, at, t, 1, body, unread_section(body, c, why, byte))
+            judged(
+                rt,
+                packet,
+                at,
+                t,
+                1,
+                body,
+                unread_section(body, c, why, byte),
+            )
         }
-        Section::Room(_) => large_section(packet, at, t, c, s, settings),
+        Section::Room(_) => large_section(rt, packet, at, t, c, s, settings),
     }
 }
 
 // Its settings and its bytes, then the answer.
-fn ask_section(packet: &[u8], at: usize, t: &mut [u64; 128]) -> usize {
+fn ask_section(rt: &impl Print, packet: &[u8], at: usize, t: &mut [u64; 128]) -> usize {
     let body = body_at(packet, at);
     let settings = settings_by(word_of(body, 0));
     let length = word_of(body, 4) as usize;
     let s = part(body, 8, length);
     let c = start(wrapping_add_usize(8, length));
-    small_section(packet, at, t, c, s, settings)
+    small_section(rt, packet, at, t, c, s, settings)
 }
 
 // A question that needs no section.
-fn ask_alone(packet: &[u8], at: usize, t: &mut [u64; 128], kind: u32) -> usize {
+fn ask_alone(rt: &impl Print, packet: &[u8], at: usize, t: &mut [u64; 128], kind: u32) -> usize {
     let body = body_at(packet, at);
     match kind {
-        20 | 21 | 22 | 23 | 25 | 26 => judged(packet, at, t, kind, body, block(body, kind)),
-        24 => judged(packet, at, t, kind, body, attribute_type(body)),
-        27 => judged(packet, at, t, kind, body, fund_type(body)),
-        28 => judged(packet, at, t, kind, body, modifier(body)),
+        20 | 21 | 22 | 23 | 25 | 26 => judged(rt, packet, at, t, kind, body, block(body, kind)),
+        24 => judged(rt, packet, at, t, kind, body, attribute_type(body)),
+        27 => judged(rt, packet, at, t, kind, body, fund_type(body)),
+        28 => judged(rt, packet, at, t, kind, body, modifier(body)),
         _ => {
             fault(
+                rt,
                 t,
                 at,
                 b"no such question, or one by key without a section before it",
@@ -254,24 +281,24 @@ fn ask_alone(packet: &[u8], at: usize, t: &mut [u64; 128], kind: u32) -> usize {
 }
 
 // The question at a place, with those by key that follow a section.
-fn ask(packet: &[u8], at: usize, t: &mut [u64; 128]) -> usize {
+fn ask(rt: &impl Print, packet: &[u8], at: usize, t: &mut [u64; 128]) -> usize {
     if end_at(packet, at) <= at {
-        fault(t, at, b"a question is longer than its packet");
+        fault(rt, t, at, b"a question is longer than its packet");
         return STOP;
     }
     let kind = word_of(packet, at);
     if kind == 1 {
-        ask_section(packet, at, t)
+        ask_section(rt, packet, at, t)
     } else {
-        ask_alone(packet, at, t, kind)
+        ask_alone(rt, packet, at, t, kind)
     }
 }
 
 // All questions of a packet.
-pub fn ask_all(packet: &[u8], t: &mut [u64; 128]) {
+pub fn ask_all(rt: &impl Print, packet: &[u8], t: &mut [u64; 128]) {
     let mut at: usize = 0;
     while at < packet.len() {
-        let next = ask(packet, at, t);
+        let next = ask(rt, packet, at, t);
         if next <= at {
             return;
         }

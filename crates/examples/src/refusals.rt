@@ -1,7 +1,7 @@
 // Refusals that the comparison with the Rust does not show: it never ends there, or needs no room; and document 02's examples of K5, a member's children. What is
 // answered is printed, as of document 01's examples.
 use crate::settings::{SIZES, settings_by};
-use crate::tally::text;
+use crate::tally::{decimal, text};
 use entries::section::{Section, read_debug_section};
 use format::presets::MW_VENDORS;
 use format::refusal::{Refusal, number_of};
@@ -14,23 +14,23 @@ use sizes::size::size_of_key;
 use sizes::sized::Sized;
 use tables::row::{Counts, ROW_WIDTH};
 
-fn answered() {
-    text(b": an answer\n");
+fn answered(rt: &impl Print) {
+    text(rt, b": an answer\n");
 }
 
-fn refused(why: Refusal) {
+fn refused(rt: &impl Print, why: Refusal) {
     let reason = why.reason;
-    text(b": refused ");
-    io::print_decimal(1, number_of(reason) as u64);
-    text(b" at ");
-    io::print_decimal(1, why.place);
-    text(b"\n");
+    text(rt, b": refused ");
+    decimal(rt, number_of(reason) as u64);
+    text(rt, b" at ");
+    decimal(rt, why.place);
+    text(rt, b"\n");
 }
 
-fn no_room(needed: usize) {
-    text(b": refused 8, needs ");
-    io::print_decimal(1, needed as u64);
-    text(b"\n");
+fn no_room(rt: &impl Print, needed: usize) {
+    text(rt, b": refused 8, needs ");
+    decimal(rt, needed as u64);
+    text(rt, b"\n");
 }
 
 // A section's rows and attributes; an unread one has none.
@@ -41,12 +41,12 @@ fn read(s: &[u8], rows: &mut [u32], attrs: &mut [u32]) -> Counts {
     }
 }
 
-fn typedef_of_itself() {
+fn typedef_of_itself(rt: &impl Print) {
     let s = b"\x00\x00\x00\x0c\x00\x16\x02\xb2\x00\x00\x00\x00";
     let mut rows = [0u32; ROW_WIDTH];
     let mut attrs = [0u32; 2];
     let counts = read(s, &mut rows, &mut attrs);
-    text(b"typedef that specifies itself");
+    text(rt, b"typedef that specifies itself");
     match process_typedef_tag(
         s,
         settings_by(0),
@@ -57,17 +57,17 @@ fn typedef_of_itself() {
         counts,
         0,
     ) {
-        TypedefRead::Is(_) => answered(),
-        TypedefRead::Refused(why) => refused(why),
+        TypedefRead::Is(_) => answered(rt),
+        TypedefRead::Refused(why) => refused(rt, why),
     }
 }
 
-fn array_of_itself() {
+fn array_of_itself(rt: &impl Print) {
     let s = b"\x00\x00\x00\x11\x00\x01\x00\xa3\x00\x07\x08\x00\x72\x00\x00\x00\x00";
     let mut rows = [0u32; ROW_WIDTH];
     let mut attrs = [0u32; 2];
     let counts = read(s, &mut rows, &mut attrs);
-    text(b"size of an array of itself");
+    text(rt, b"size of an array of itself");
     match size_of_key(
         s,
         settings_by(0),
@@ -78,13 +78,13 @@ fn array_of_itself() {
         counts,
         0,
     ) {
-        Sized::Is(_) => answered(),
-        Sized::Refused(why) => refused(why),
+        Sized::Is(_) => answered(rt),
+        Sized::Refused(why) => refused(rt, why),
     }
 }
 
 // The member at 0, and what stands behind it up to its sibling.
-fn member(s: &[u8]) {
+fn member(rt: &impl Print, s: &[u8]) {
     let mut rows = [0u32; 3 * ROW_WIDTH];
     let mut attrs = [0u32; 12];
     let counts = read(s, &mut rows, &mut attrs);
@@ -98,40 +98,44 @@ fn member(s: &[u8]) {
         counts,
         0,
     ) {
-        MemberRead::Is(_) => answered(),
-        MemberRead::Refused(why) => refused(why),
+        MemberRead::Is(_) => answered(rt),
+        MemberRead::Refused(why) => refused(rt, why),
     }
 }
 
 // Behind each member, up to its sibling: a member; a member that is its own sibling; that behind a null entry; two null entries.
-fn member_with_children() {
-    text(b"member with a child");
+fn member_with_children(rt: &impl Print) {
+    text(rt, b"member with a child");
     member(
+        rt,
         b"\x00\x00\x00\x1a\x00\x0d\x00\x12\x00\x00\x00\x24\x00\x55\x00\x07\x00\x23\x00\x06\x04\x00\x00\x00\x00\x07\x00\x00\x00\x0a\x00\x0d\x00\x55\x00\x07",
     );
-    text(b"member with a child that the walk comes back to");
+    text(rt, b"member with a child that the walk comes back to");
     member(
+        rt,
         b"\x00\x00\x00\x1a\x00\x0d\x00\x12\x00\x00\x00\x26\x00\x55\x00\x07\x00\x23\x00\x06\x04\x00\x00\x00\x00\x07\x00\x00\x00\x0c\x00\x0d\x00\x12\x00\x00\x00\x1a",
     );
-    text(b"the same behind a null entry");
+    text(rt, b"the same behind a null entry");
     member(
+        rt,
         b"\x00\x00\x00\x1a\x00\x0d\x00\x12\x00\x00\x00\x2a\x00\x55\x00\x07\x00\x23\x00\x06\x04\x00\x00\x00\x00\x07\x00\x00\x00\x04\x00\x00\x00\x0c\x00\x0d\x00\x12\x00\x00\x00\x1a",
     );
-    text(b"member with null entries");
+    text(rt, b"member with null entries");
     member(
+        rt,
         b"\x00\x00\x00\x1a\x00\x0d\x00\x12\x00\x00\x00\x22\x00\x55\x00\x07\x00\x23\x00\x06\x04\x00\x00\x00\x00\x07\x00\x00\x00\x04\x00\x00\x00\x04",
     );
 }
 
 // A union of four bytes with one member.
-fn union_with_no_room() {
+fn union_with_no_room(rt: &impl Print) {
     let s =
         b"\x00\x00\x00\x12\x00\x17\x00\x12\x00\x00\x00\x26\x00\xb6\x00\x00\x00\x04\x00\x00\x00\x14\x00\x0d\x00\x55\x00\x07\x00\x23\x00\x06\x04\x00\x00\x00\x00\x07";
     let mut rows = [0u32; 2 * ROW_WIDTH];
     let mut attrs = [0u32; 8];
     let counts = read(s, &mut rows, &mut attrs);
     let mut room = [0u64; 0];
-    text(b"union with no room");
+    text(rt, b"union with no room");
     match process_union_tag(
         s,
         settings_by(0),
@@ -143,14 +147,14 @@ fn union_with_no_room() {
         0,
         &mut room,
     ) {
-        UnionRead::Is(_) => answered(),
-        UnionRead::Refused(why) => refused(why),
-        UnionRead::Room(needed) => no_room(needed),
+        UnionRead::Is(_) => answered(rt),
+        UnionRead::Refused(why) => refused(rt, why),
+        UnionRead::Room(needed) => no_room(rt, needed),
     }
 }
 
 // An enumeration of four bytes with one member, 1, named A.
-fn enumeration_with_no_room() {
+fn enumeration_with_no_room(rt: &impl Print) {
     let s =
         b"\x00\x00\x00\x18\x00\x04\x00\xb6\x00\x00\x00\x04\x00\xf4\x00\x00\x00\x06\x00\x00\x00\x01\x41\x00";
     let mut rows = [0u32; ROW_WIDTH];
@@ -158,7 +162,7 @@ fn enumeration_with_no_room() {
     let counts = read(s, &mut rows, &mut attrs);
     let mut values = [0i32; 0];
     let mut names = [0u64; 0];
-    text(b"enumeration with no room");
+    text(rt, b"enumeration with no room");
     match process_enumeration_tag(
         s,
         settings_by(0),
@@ -171,21 +175,21 @@ fn enumeration_with_no_room() {
         &mut values,
         &mut names,
     ) {
-        EnumerationRead::Is(_) => answered(),
-        EnumerationRead::Refused(why) => refused(why),
-        EnumerationRead::Room(needed) => no_room(needed),
+        EnumerationRead::Is(_) => answered(rt),
+        EnumerationRead::Refused(why) => refused(rt, why),
+        EnumerationRead::Room(needed) => no_room(rt, needed),
     }
 }
 
 // A structure with one member.
-fn layout_with_no_room() {
+fn layout_with_no_room(rt: &impl Print) {
     let s =
         b"\x00\x00\x00\x0c\x00\x13\x00\x12\x00\x00\x00\x20\x00\x00\x00\x14\x00\x0d\x00\x55\x00\x07\x00\x23\x00\x06\x04\x00\x00\x00\x00\x07";
     let mut rows = [0u32; 2 * ROW_WIDTH];
     let mut attrs = [0u32; 6];
     let counts = read(s, &mut rows, &mut attrs);
     let mut room = [0u64; 0];
-    text(b"layout with no room");
+    text(rt, b"layout with no room");
     match layout_of_key(
         s,
         settings_by(0),
@@ -197,18 +201,18 @@ fn layout_with_no_room() {
         0,
         &mut room,
     ) {
-        LayoutRead::Is(_) => answered(),
-        LayoutRead::Refused(why) => refused(why),
-        LayoutRead::Room(needed) => no_room(needed),
+        LayoutRead::Is(_) => answered(rt),
+        LayoutRead::Refused(why) => refused(rt, why),
+        LayoutRead::Room(needed) => no_room(rt, needed),
     }
 }
 
 // All of them.
-pub fn run() {
-    typedef_of_itself();
-    array_of_itself();
-    member_with_children();
-    union_with_no_room();
-    enumeration_with_no_room();
-    layout_with_no_room();
+pub fn run(rt: &impl Print) {
+    typedef_of_itself(rt);
+    array_of_itself(rt);
+    member_with_children(rt);
+    union_with_no_room(rt);
+    enumeration_with_no_room(rt);
+    layout_with_no_room(rt);
 }

@@ -1,6 +1,5 @@
 // What was compared, counted by question, and every difference on a line of its own.
 use crate::cursor::{Cursor, DIFFERS, PASSED, SAME, whole, word_of};
-use libc::STDOUT_FILENO;
 use std::num::wrapping_add_u64;
 
 // The tally has four numbers for each kind of question: given, refused, different, not comparable. Those of kind 0, which is none, are the packets and the
@@ -13,12 +12,18 @@ const DIFFERENT: usize = 2;
 
 const UNCOMPARED: usize = 3;
 
-pub fn text(words: &[u8]) {
-    io::write_all(STDOUT_FILENO, words);
+// A write that fails is not told.
+pub fn text(rt: &impl Print, words: &[u8]) {
+    let _ = rt.write_all(words);
 }
 
-pub fn decimal(n: u64) {
-    io::print_decimal(STDOUT_FILENO, n);
+pub fn decimal(rt: &impl Print, n: u64) {
+    let _ = rt.print(n);
+}
+
+// In so many digits at least, with zeros in front.
+pub fn hex(rt: &impl Print, n: u64, width: usize) {
+    let _ = print!(rt; "{n:0width$x}");
 }
 
 fn slot(t: &[u64; 128], i: usize) -> u64 {
@@ -53,64 +58,64 @@ pub fn faults(t: &[u64; 128]) -> u64 {
     slot(t, 1)
 }
 
-fn title(kind: u32) {
+fn title(rt: &impl Print, kind: u32) {
     match kind {
-        1 => text(b"section"),
-        2 => text(b"child walk"),
-        3 => text(b"member"),
-        4 => text(b"union"),
-        5 => text(b"enumeration"),
-        6 => text(b"typedef"),
-        7 => text(b"variable"),
-        8 => text(b"label"),
-        9 => text(b"pointer to member"),
-        10 => text(b"overlay branch"),
-        11 => text(b"size"),
-        12 => text(b"next row"),
-        13 => text(b"sibling"),
-        14 => text(b"attribute"),
-        15 => text(b"type attribute"),
-        16 => text(b"layout"),
-        20 => text(b"offset"),
-        21 => text(b"address"),
-        22 => text(b"variable location"),
-        23 => text(b"modifiers"),
-        24 => text(b"type"),
-        25 => text(b"subscripts"),
-        26 => text(b"producer"),
-        27 => text(b"fundamental type"),
-        28 => text(b"modifier"),
-        _ => text(b"no question"),
+        1 => text(rt, b"section"),
+        2 => text(rt, b"child walk"),
+        3 => text(rt, b"member"),
+        4 => text(rt, b"union"),
+        5 => text(rt, b"enumeration"),
+        6 => text(rt, b"typedef"),
+        7 => text(rt, b"variable"),
+        8 => text(rt, b"label"),
+        9 => text(rt, b"pointer to member"),
+        10 => text(rt, b"overlay branch"),
+        11 => text(rt, b"size"),
+        12 => text(rt, b"next row"),
+        13 => text(rt, b"sibling"),
+        14 => text(rt, b"attribute"),
+        15 => text(rt, b"type attribute"),
+        16 => text(rt, b"layout"),
+        20 => text(rt, b"offset"),
+        21 => text(rt, b"address"),
+        22 => text(rt, b"variable location"),
+        23 => text(rt, b"modifiers"),
+        24 => text(rt, b"type"),
+        25 => text(rt, b"subscripts"),
+        26 => text(rt, b"producer"),
+        27 => text(rt, b"fundamental type"),
+        28 => text(rt, b"modifier"),
+        _ => text(rt, b"no question"),
     }
 }
 
 // Where a question stands.
-fn tell_place(t: &[u64; 128], at: usize) {
-    text(b"packet ");
-    decimal(packets(t));
-    text(b", byte ");
-    decimal(at as u64);
-    text(b": ");
+fn tell_place(rt: &impl Print, t: &[u64; 128], at: usize) {
+    text(rt, b"packet ");
+    decimal(rt, packets(t));
+    text(rt, b", byte ");
+    decimal(rt, at as u64);
+    text(rt, b": ");
 }
 
 // A fault of the file: it says nothing about our answers.
-pub fn fault(t: &mut [u64; 128], at: usize, what: &[u8]) {
-    text(b"bad case file, ");
-    tell_place(t, at);
-    text(what);
-    text(b"\n");
+pub fn fault(rt: &impl Print, t: &mut [u64; 128], at: usize, what: &[u8]) {
+    text(rt, b"bad case file, ");
+    tell_place(rt, t, at);
+    text(rt, what);
+    text(rt, b"\n");
     add(t, 1);
 }
 
-fn difference(t: &mut [u64; 128], at: usize, kind: u32, body: &[u8], c: Cursor) {
-    text(b"difference, ");
-    tell_place(t, at);
-    title(kind);
-    text(b" ");
-    io::print_hex(STDOUT_FILENO, word_of(body, 0) as u64, 8);
-    text(b", at byte ");
-    decimal(c.at as u64);
-    text(b" of its body\n");
+fn difference(rt: &impl Print, t: &mut [u64; 128], at: usize, kind: u32, body: &[u8], c: Cursor) {
+    text(rt, b"difference, ");
+    tell_place(rt, t, at);
+    title(rt, kind);
+    text(rt, b" ");
+    hex(rt, word_of(body, 0) as u64, 8);
+    text(rt, b", at byte ");
+    decimal(rt, c.at as u64);
+    text(rt, b" of its body\n");
     add(t, place(kind, DIFFERENT));
 }
 
@@ -123,14 +128,21 @@ fn agreed(t: &mut [u64; 128], kind: u32, refused: bool) {
 }
 
 // Counts a question whose words were compared up to c. Answers false where its form is wrong.
-pub fn judge(t: &mut [u64; 128], at: usize, kind: u32, body: &[u8], c: Cursor) -> bool {
+pub fn judge(
+    rt: &impl Print,
+    t: &mut [u64; 128],
+    at: usize,
+    kind: u32,
+    body: &[u8],
+    c: Cursor,
+) -> bool {
     let d = whole(body, c);
     if d.verdict == SAME {
         agreed(t, kind, d.refused);
         return true;
     }
     if d.verdict == DIFFERS {
-        difference(t, at, kind, body, d);
+        difference(rt, t, at, kind, body, d);
         return true;
     }
     if d.verdict == PASSED {
@@ -138,6 +150,7 @@ pub fn judge(t: &mut [u64; 128], at: usize, kind: u32, body: &[u8], c: Cursor) -
         return true;
     }
     fault(
+        rt,
         t,
         at,
         b"the words of a question end too early or go on too long",
@@ -146,39 +159,39 @@ pub fn judge(t: &mut [u64; 128], at: usize, kind: u32, body: &[u8], c: Cursor) -
 }
 
 // A number with what it counts, if it is not 0.
-fn told(n: u64, what: &[u8]) {
+fn told(rt: &impl Print, n: u64, what: &[u8]) {
     if n > 0 {
-        text(b", ");
-        decimal(n);
-        text(what);
+        text(rt, b", ");
+        decimal(rt, n);
+        text(rt, what);
     }
 }
 
 // The line of a kind of question, if there was one.
-fn report_kind(t: &[u64; 128], kind: u32) {
+fn report_kind(rt: &impl Print, t: &[u64; 128], kind: u32) {
     let given = slot(t, place(kind, GIVEN));
     let refused = slot(t, place(kind, REFUSED));
     let different = slot(t, place(kind, DIFFERENT));
     let uncompared = slot(t, place(kind, UNCOMPARED));
     if (given > 0) | ((refused > 0) | ((different > 0) | (uncompared > 0))) {
-        text(b"  ");
-        title(kind);
-        text(b": ");
-        decimal(given);
-        text(b" given, ");
-        decimal(refused);
-        text(b" refused");
-        told(different, b" different");
-        told(uncompared, b" not comparable");
-        text(b"\n");
+        text(rt, b"  ");
+        title(rt, kind);
+        text(rt, b": ");
+        decimal(rt, given);
+        text(rt, b" given, ");
+        decimal(rt, refused);
+        text(rt, b" refused");
+        told(rt, different, b" different");
+        told(rt, uncompared, b" not comparable");
+        text(rt, b"\n");
     }
 }
 
-fn report_kinds(t: &[u64; 128]) -> u64 {
+fn report_kinds(rt: &impl Print, t: &[u64; 128]) -> u64 {
     let mut different: u64 = 0;
     let mut kind: u32 = 1;
     while kind < 32 {
-        report_kind(t, kind);
+        report_kind(rt, t, kind);
         different = wrapping_add_u64(different, slot(t, place(kind, DIFFERENT)));
         kind += 1;
     }
@@ -186,15 +199,15 @@ fn report_kinds(t: &[u64; 128]) -> u64 {
 }
 
 // All of it.
-pub fn report(t: &[u64; 128]) {
-    let different = report_kinds(t);
+pub fn report(rt: &impl Print, t: &[u64; 128]) {
+    let different = report_kinds(rt, t);
     if different > 0 {
-        text(b"  differences: ");
-        decimal(different);
-        text(b"\n");
+        text(rt, b"  differences: ");
+        decimal(rt, different);
+        text(rt, b"\n");
     } else if faults(t) > 0 {
-        text(b"  no verdict: the case file is bad\n");
+        text(rt, b"  no verdict: the case file is bad\n");
     } else {
-        text(b"  differences: none\n");
+        text(rt, b"  differences: none\n");
     }
 }

@@ -32,125 +32,162 @@ use tables::row::{Counts, Row, row_at};
 use tables::unit::NO_UNIT;
 
 // 'refused N at KEY'
-fn put_refused(buffer: &mut [u8], used: usize, number: u64, place: u64) -> usize {
-    let at = put_text(buffer, used, b"refused ");
-    let at = put_decimal(buffer, at, number);
-    let at = put_text(buffer, at, b" at ");
-    put_hex(buffer, at, place, 8)
+fn put_refused(rt: &impl Print, buffer: &mut [u8], used: usize, number: u64, place: u64) -> usize {
+    let at = put_text(rt, buffer, used, b"refused ");
+    let at = put_decimal(rt, buffer, at, number);
+    let at = put_text(rt, buffer, at, b" at ");
+    put_hex(rt, buffer, at, place, 8)
 }
 
 // The same as a line.
-fn put_refusal(buffer: &mut [u8], used: usize, number: u64, place: u64) -> usize {
-    let at = put_refused(buffer, used, number, place);
-    put_text(buffer, at, b"\n")
+fn put_refusal(rt: &impl Print, buffer: &mut [u8], used: usize, number: u64, place: u64) -> usize {
+    let at = put_refused(rt, buffer, used, number, place);
+    put_text(rt, buffer, at, b"\n")
 }
 
 // A section that is refused: that line alone.
-fn report_refusal(why: Refusal) {
+fn report_refusal(rt: &impl Print, why: Refusal) {
     let mut buffer = [0u8; 64];
     let reason = why.reason;
-    let used = put_refusal(&mut buffer, 0, number_of(reason) as u64, why.place);
-    flush(&buffer, used);
+    let used = put_refusal(rt, &mut buffer, 0, number_of(reason) as u64, why.place);
+    flush(rt, &buffer, used);
 }
 
 // The same with the first byte of the field: a hex viewer finds it there.
-fn report_unread(why: Refusal, byte: u64) {
+fn report_unread(rt: &impl Print, why: Refusal, byte: u64) {
     let mut buffer = [0u8; 64];
     let reason = why.reason;
-    let at = put_refused(&mut buffer, 0, number_of(reason) as u64, why.place);
-    let at = put_text(&mut buffer, at, b" byte ");
-    let at = put_hex(&mut buffer, at, byte, 8);
-    let used = put_text(&mut buffer, at, b"\n");
-    flush(&buffer, used);
+    let at = put_refused(rt, &mut buffer, 0, number_of(reason) as u64, why.place);
+    let at = put_text(rt, &mut buffer, at, b" byte ");
+    let at = put_hex(rt, &mut buffer, at, byte, 8);
+    let used = put_text(rt, &mut buffer, at, b"\n");
+    flush(rt, &buffer, used);
 }
 
 // ' WORD NEEDED of ALLOWED'
-fn put_need(buffer: &mut [u8], used: usize, word: &[u8], needed: u64, allowed: u64) -> usize {
-    let at = put_text(buffer, used, b" ");
-    let at = put_text(buffer, at, word);
-    let at = put_text(buffer, at, b" ");
-    let at = put_decimal(buffer, at, needed);
-    let at = put_text(buffer, at, b" of ");
-    put_decimal(buffer, at, allowed)
+fn put_need(
+    rt: &impl Print,
+    buffer: &mut [u8],
+    used: usize,
+    word: &[u8],
+    needed: u64,
+    allowed: u64,
+) -> usize {
+    let at = put_text(rt, buffer, used, b" ");
+    let at = put_text(rt, buffer, at, word);
+    let at = put_text(rt, buffer, at, b" ");
+    let at = put_decimal(rt, buffer, at, needed);
+    let at = put_text(rt, buffer, at, b" of ");
+    put_decimal(rt, buffer, at, allowed)
 }
 
 // Refusal 8, and on a line of its own what is needed, each of so many that are allowed.
-fn report_room(first: &[u8], needed: u64, allowed: u64, second: &[u8], more: u64, most: u64) {
+fn report_room(
+    rt: &impl Print,
+    first: &[u8],
+    needed: u64,
+    allowed: u64,
+    second: &[u8],
+    more: u64,
+    most: u64,
+) {
     let mut buffer = [0u8; 256];
     let reason = Reason::Room;
-    let at = put_refusal(&mut buffer, 0, number_of(reason) as u64, 0);
-    let at = put_text(&mut buffer, at, b"  needed");
-    let at = put_need(&mut buffer, at, first, needed, allowed);
-    let at = put_need(&mut buffer, at, second, more, most);
-    let used = put_text(&mut buffer, at, b"\n");
-    flush(&buffer, used);
+    let at = put_refusal(rt, &mut buffer, 0, number_of(reason) as u64, 0);
+    let at = put_text(rt, &mut buffer, at, b"  needed");
+    let at = put_need(rt, &mut buffer, at, first, needed, allowed);
+    let at = put_need(rt, &mut buffer, at, second, more, most);
+    let used = put_text(rt, &mut buffer, at, b"\n");
+    flush(rt, &buffer, used);
 }
 
 // An input that is longer than the program's room.
-pub fn report_long() {
+pub fn report_long(rt: &impl Print) {
     let mut buffer = [0u8; 128];
     let reason = Reason::Room;
-    let at = put_refusal(&mut buffer, 0, number_of(reason) as u64, 0);
-    let used = put_text(&mut buffer, at, b"  needed more than 1048576 bytes\n");
-    flush(&buffer, used);
+    let at = put_refusal(rt, &mut buffer, 0, number_of(reason) as u64, 0);
+    let used = put_text(rt, &mut buffer, at, b"  needed more than 1048576 bytes\n");
+    flush(rt, &buffer, used);
 }
 
 // A row that has a layout is a class or a structure.
-fn put_kind(buffer: &mut [u8], used: usize, kind: u32) -> usize {
+fn put_kind(rt: &impl Print, buffer: &mut [u8], used: usize, kind: u32) -> usize {
     if kind == CLASS_TYPE as u32 {
-        put_text(buffer, used, b" class")
+        put_text(rt, buffer, used, b" class")
     } else {
-        put_text(buffer, used, b" structure")
+        put_text(rt, buffer, used, b" structure")
     }
 }
 
 // 'KEY structure NAME' or 'KEY class NAME'
-fn put_head(buffer: &mut [u8], used: usize, key: u32, kind: u32, name: &[u8]) -> usize {
-    let at = put_hex(buffer, used, key as u64, 8);
-    let at = put_kind(buffer, at, kind);
-    let at = put_name(buffer, at, name);
-    put_text(buffer, at, b"\n")
+fn put_head(
+    rt: &impl Print,
+    buffer: &mut [u8],
+    used: usize,
+    key: u32,
+    kind: u32,
+    name: &[u8],
+) -> usize {
+    let at = put_hex(rt, buffer, used, key as u64, 8);
+    let at = put_kind(rt, buffer, at, kind);
+    let at = put_name(rt, buffer, at, name);
+    put_text(rt, buffer, at, b"\n")
 }
 
 // A word and two numbers.
-fn put_place(buffer: &mut [u8], used: usize, text: &[u8], offset: u64, bytes: u64) -> usize {
-    let at = put_text(buffer, used, text);
-    let at = put_decimal(buffer, at, offset);
-    let at = put_text(buffer, at, b" ");
-    put_decimal(buffer, at, bytes)
+fn put_place(
+    rt: &impl Print,
+    buffer: &mut [u8],
+    used: usize,
+    text: &[u8],
+    offset: u64,
+    bytes: u64,
+) -> usize {
+    let at = put_text(rt, buffer, used, text);
+    let at = put_decimal(rt, buffer, at, offset);
+    let at = put_text(rt, buffer, at, b" ");
+    put_decimal(rt, buffer, at, bytes)
 }
 
 // A line for a hole or padding, none where there is none.
-fn put_gap(buffer: &mut [u8], used: usize, text: &[u8], gap: Gap) -> usize {
+fn put_gap(rt: &impl Print, buffer: &mut [u8], used: usize, text: &[u8], gap: Gap) -> usize {
     match gap {
         Gap::Is { at, bytes } => {
-            let end = put_place(buffer, used, text, at, bytes);
-            put_text(buffer, end, b"\n")
+            let end = put_place(rt, buffer, used, text, at, bytes);
+            put_text(rt, buffer, end, b"\n")
         }
         Gap::Nothing => used,
     }
 }
 
 // 'member OFFSET SIZE NAME'
-fn put_member(s: &[u8], member: Placed, buffer: &mut [u8], used: usize) -> usize {
+fn put_member(rt: &impl Print, s: &[u8], member: Placed, buffer: &mut [u8], used: usize) -> usize {
     let name = part(s, member.name_place as usize, member.name_length as usize);
     let end = put_place(
+        rt,
         buffer,
         used,
         b"  member ",
         member.offset as u64,
         member.size as u64,
     );
-    let end = put_name(buffer, end, name);
-    put_text(buffer, end, b"\n")
+    let end = put_name(rt, buffer, end, name);
+    put_text(rt, buffer, end, b"\n")
 }
 
 // The line of a stretch without members, by what it is called.
-fn put_stretch(buffer: &mut [u8], used: usize, others: bool, last: bool, gap: Gap) -> usize {
+fn put_stretch(
+    rt: &impl Print,
+    buffer: &mut [u8],
+    used: usize,
+    others: bool,
+    last: bool,
+    gap: Gap,
+) -> usize {
     match stretch_of(others, last) {
-        Stretch::Hole => put_gap(buffer, used, b"  hole ", gap),
-        Stretch::Padding => put_gap(buffer, used, b"  padding ", gap),
-        Stretch::Bare => put_gap(buffer, used, b"  no member ", gap),
+        Stretch::Hole => put_gap(rt, buffer, used, b"  hole ", gap),
+        Stretch::Padding => put_gap(rt, buffer, used, b"  padding ", gap),
+        Stretch::Bare => put_gap(rt, buffer, used, b"  no member ", gap),
     }
 }
 
@@ -162,17 +199,25 @@ struct Shown {
 }
 
 // A member, and the stretch before it.
-fn show_member(s: &[u8], member: Placed, others: bool, buffer: &mut [u8], shown: Shown) -> Shown {
+fn show_member(
+    rt: &impl Print,
+    s: &[u8],
+    member: Placed,
+    others: bool,
+    buffer: &mut [u8],
+    shown: Shown,
+) -> Shown {
     let gap = gap_between(shown.reached, member.offset);
-    let used = put_stretch(buffer, shown.used, others, false, gap);
+    let used = put_stretch(rt, buffer, shown.used, others, false, gap);
     Shown {
-        used: put_member(s, member, buffer, used),
+        used: put_member(rt, s, member, buffer, used),
         reached: reach_with(shown.reached, member.offset, member.size),
     }
 }
 
 // Those of one structure: `count` members from number `first` on.
 fn show_members(
+    rt: &impl Print,
     s: &[u8],
     members: &[u64],
     first: u32,
@@ -185,7 +230,7 @@ fn show_members(
     let mut k: u32 = 0;
     while k < count {
         let member = placed_at(members, first, k);
-        shown = show_member(s, member, others, buffer, shown);
+        shown = show_member(rt, s, member, others, buffer, shown);
         k += 1;
     }
     shown
@@ -200,31 +245,38 @@ struct Around {
 }
 
 // A size that the compiler says, or the largest member end, which the compiler does not say.
-fn put_size_word(buffer: &mut [u8], used: usize, sized: bool) -> usize {
+fn put_size_word(rt: &impl Print, buffer: &mut [u8], used: usize, sized: bool) -> usize {
     if sized {
-        put_text(buffer, used, b"  size ")
+        put_text(rt, buffer, used, b"  size ")
     } else {
-        put_text(buffer, used, b"  largest end ")
+        put_text(rt, buffer, used, b"  largest end ")
     }
 }
 
-fn put_size(buffer: &mut [u8], used: usize, sized: bool, size: u32) -> usize {
-    let end = put_size_word(buffer, used, sized);
-    let end = put_decimal(buffer, end, size as u64);
-    put_text(buffer, end, b"\n")
+fn put_size(rt: &impl Print, buffer: &mut [u8], used: usize, sized: bool, size: u32) -> usize {
+    let end = put_size_word(rt, buffer, used, sized);
+    let end = put_decimal(rt, buffer, end, size as u64);
+    put_text(rt, buffer, end, b"\n")
 }
 
 // The same, or that there is only a declaration.
-fn put_measure(buffer: &mut [u8], used: usize, around: Around, size: u32) -> usize {
+fn put_measure(
+    rt: &impl Print,
+    buffer: &mut [u8],
+    used: usize,
+    around: Around,
+    size: u32,
+) -> usize {
     if around.sized | around.children {
-        put_size(buffer, used, around.sized, size)
+        put_size(rt, buffer, used, around.sized, size)
     } else {
-        put_text(buffer, used, b"  declared only\n")
+        put_text(rt, buffer, used, b"  declared only\n")
     }
 }
 
 // The size, the members with their holes, the padding.
 fn put_layout(
+    rt: &impl Print,
     s: &[u8],
     structure: Structure,
     around: Around,
@@ -232,9 +284,10 @@ fn put_layout(
     buffer: &mut [u8],
     used: usize,
 ) -> usize {
-    let end = put_measure(buffer, used, around, structure.size);
+    let end = put_measure(rt, buffer, used, around, structure.size);
     let others = around.others;
     let shown = show_members(
+        rt,
         s,
         members,
         structure.first,
@@ -244,7 +297,7 @@ fn put_layout(
         end,
     );
     let gap = gap_between(shown.reached, structure.size);
-    put_stretch(buffer, shown.used, others, true, gap)
+    put_stretch(rt, buffer, shown.used, others, true, gap)
 }
 
 // May a child of this row's kind take bytes?
@@ -361,19 +414,20 @@ fn unit_named(
 }
 
 // 'unit KEY NAME', or 'unit -' for none.
-fn put_unit(s: &[u8], unit: Unit, buffer: &mut [u8], used: usize) -> usize {
-    let end = put_text(buffer, used, b"  unit ");
+fn put_unit(rt: &impl Print, s: &[u8], unit: Unit, buffer: &mut [u8], used: usize) -> usize {
+    let end = put_text(rt, buffer, used, b"  unit ");
     if unit.key == NO_UNIT {
-        return put_text(buffer, end, b"-\n");
+        return put_text(rt, buffer, end, b"-\n");
     }
-    let end = put_hex(buffer, end, unit.key as u64, 8);
+    let end = put_hex(rt, buffer, end, unit.key as u64, 8);
     let name = unit.name;
-    let end = put_name(buffer, end, part(s, name.place, name.length));
-    put_text(buffer, end, b"\n")
+    let end = put_name(rt, buffer, end, part(s, name.place, name.length));
+    put_text(rt, buffer, end, b"\n")
 }
 
 // Its head and its unit.
 fn put_title(
+    rt: &impl Print,
     s: &[u8],
     row: Row,
     structure: Structure,
@@ -386,12 +440,13 @@ fn put_title(
         structure.name_place as usize,
         structure.name_length as usize,
     );
-    let end = put_head(buffer, used, row.key, row.kind, name);
-    put_unit(s, unit, buffer, end)
+    let end = put_head(rt, buffer, used, row.key, row.kind, name);
+    put_unit(rt, s, unit, buffer, end)
 }
 
 // Its layout, or why it has none.
 fn put_structure(
+    rt: &impl Print,
     s: &[u8],
     preset: Preset,
     rows: &[u32],
@@ -406,10 +461,10 @@ fn put_structure(
 ) -> usize {
     if structure.number == 0 {
         let around = look_around(s, preset, rows, attrs, counts, key, room);
-        return put_layout(s, structure, around, members, buffer, used);
+        return put_layout(rt, s, structure, around, members, buffer, used);
     }
-    let end = put_text(buffer, used, b"  ");
-    put_refusal(buffer, end, structure.number as u64, structure.place)
+    let end = put_text(rt, buffer, used, b"  ");
+    put_refusal(rt, buffer, end, structure.number as u64, structure.place)
 }
 
 // How many bytes of the buffer are used, and the unit that was told last.
@@ -421,6 +476,7 @@ struct Told {
 
 // A structure, in its unit.
 fn tell_structure(
+    rt: &impl Print,
     s: &[u8],
     preset: Preset,
     rows: &[u32],
@@ -434,15 +490,16 @@ fn tell_structure(
 ) -> Told {
     let row = row_at(rows, structure.row as usize);
     let unit = unit_named(s, preset, rows, attrs, counts, row.unit, told.unit);
-    let end = put_title(s, row, structure, unit, buffer, told.used);
+    let end = put_title(rt, s, row, structure, unit, buffer, told.used);
     let used = put_structure(
-        s, preset, rows, attrs, counts, row.key, structure, members, room, buffer, end,
+        rt, s, preset, rows, attrs, counts, row.key, structure, members, room, buffer, end,
     );
     Told { used, unit }
 }
 
 // One buffer for all of them, which is written out where it is full and at the end.
 fn report_structures(
+    rt: &impl Print,
     s: &[u8],
     preset: Preset,
     rows: &[u32],
@@ -462,6 +519,7 @@ fn report_structures(
     while k < n {
         let structure = structure_at(structures, k);
         told = tell_structure(
+            rt,
             s,
             preset,
             rows,
@@ -475,11 +533,18 @@ fn report_structures(
         );
         k += 1;
     }
-    flush(&buffer, told.used);
+    flush(rt, &buffer, told.used);
 }
 
 // Tables that were read.
-fn report_layouts(s: &[u8], preset: Preset, rows: &[u32], attrs: &[u32], counts: Counts) {
+fn report_layouts(
+    rt: &impl Print,
+    s: &[u8],
+    preset: Preset,
+    rows: &[u32],
+    attrs: &[u32],
+    counts: Counts,
+) {
     let mut structures = structure_room();
     let mut members = member_room();
     let vendors = mw_vendors();
@@ -500,10 +565,11 @@ fn report_layouts(s: &[u8], preset: Preset, rows: &[u32], attrs: &[u32], counts:
         AllLayouts::Are(found) => {
             // There are no more structures than rows.
             let n = (found.structures % 4294967296) as u32;
-            report_structures(s, preset, rows, attrs, counts, &structures, &members, n)
+            report_structures(rt, s, preset, rows, attrs, counts, &structures, &members, n)
         }
-        AllLayouts::Refused(why) => report_refusal(why),
+        AllLayouts::Refused(why) => report_refusal(rt, why),
         AllLayouts::Room(found) => report_room(
+            rt,
             b"structures",
             found.structures as u64,
             (structures.len() / STRUCTURE_WIDTH) as u64,
@@ -524,7 +590,7 @@ fn part_of(vendors: &[u16], n: usize) -> &[u16] {
 }
 
 // A section that is not too long.
-pub fn report(s: &[u8], preset: Preset) {
+pub fn report(rt: &impl Print, s: &[u8], preset: Preset) {
     let mut rows = row_room();
     let mut attrs = attribute_room();
     let vendors = mw_vendors();
@@ -539,10 +605,11 @@ pub fn report(s: &[u8], preset: Preset) {
         &mut rows,
         &mut attrs,
     ) {
-        Section::Read(counts) => report_layouts(s, preset, &rows, &attrs, counts),
-        Section::Refused(why) => report_refusal(why),
-        Section::Unread { why, byte } => report_unread(why, byte),
+        Section::Read(counts) => report_layouts(rt, s, preset, &rows, &attrs, counts),
+        Section::Refused(why) => report_refusal(rt, why),
+        Section::Unread { why, byte } => report_unread(rt, why, byte),
         Section::Room(found) => report_room(
+            rt,
             b"entries",
             found.rows as u64,
             ENTRY_LIMIT as u64,
