@@ -1,0 +1,11 @@
+use Rattle.std.proofs.Common.{◌-◌}
+use Rattle.examples.proofs.values.attributes.Goals as goal
+
+pub loop-k-init : goal.loop-k-init
+loop-k-init c = tt
+
+pub loop-k-preserved : goal.loop-k-preserved
+loop-k-preserved c = tt
+
+pub returns : goal.returns
+returns c = tt
