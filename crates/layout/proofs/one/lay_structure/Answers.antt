@@ -2,7 +2,7 @@ use Rattle.layout.proofs.Laws.Layout.{clear-asked, structure-laid, structure-fau
 use Rattle.layout.proofs.one.lay_structure.Goals as goal
 
 pub kept_fault-requires : goal.kept_fault-requires
-kept_fault-requires c = record { asked = c.requires.asked.asked; structure = c.requires.is_structure; kept_rows = c.requires.all_kept.parts.rows_kept }
+kept_fault-requires c = record { asked = c.requires.asked.asked; structure = c.requires.structure; kept_rows = c.requires.all_kept.parts.rows_kept }
 
 pub lay_children-requires : goal.lay_children-requires
 lay_children-requires c = (clear-asked _ _ _ _ _ _ c.kept_fault.ensures c.in-Clear.is c.requires.asked, c.requires.all_kept)

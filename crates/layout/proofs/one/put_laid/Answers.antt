@@ -3,7 +3,7 @@ use borrow.Author.Rules.{rules}
 use Rattle.layout.proofs.one.put_laid.Goals as goal
 
 pub overflow_add-at-then-k-room-2 : goal.overflow_add-at-then-k-room-2
-overflow_add-at-then-k-room-2 c = search (rules, c.?well-formed.1.1.1)
+overflow_add-at-then-k-room-2 c = search (rules, c.well_formed.1.1.1)
 
 pub returns-then-k-room : goal.returns-then-k-room
 returns-then-k-room c = laid-put _ _ _ _ _ _ _ c.args.room.now _ c.run_of.ensures c.last_name-name.ensures c.put_word.ensures c.put_word-then-k-room.ensures c.name_place.ensures c.put_word-then-k-room-2.ensures c.name_length.ensures c.put_word-then-k-room-3.ensures
