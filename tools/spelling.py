@@ -162,7 +162,7 @@ def main(check):
     table |= FACTS
     # what only patterns and binders name
     table |= {"isErased": "is_erased", "lentAttrs": "lent_attrs", "partPlace": "part_place"}
-    table |= {"rowTable": "row_table", "attrTable": "attr_table", "structureRoom": "structure_room", "memberRoom": "member_room"}
+    table |= {"rowTable": "rows_now", "attrTable": "attrs_now", "structureRoom": "structures_now", "memberRoom": "members_now"}
     if check:
         for old, new in sorted(table.items()):
             print(f"{old}\t{new}")

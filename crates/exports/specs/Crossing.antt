@@ -107,10 +107,10 @@ pub record SaysThree (told : Told) (number place first second third : ℕ) : Typ
 
 -- what is handed back says what reading answered, from results that held this before; the lent tables hold what its outcome has
 pub record SectionCrosses (held : Results) (o : Outcomes (Said Counts) ℕ ℕ) (number place rows attrs byte : ℕ)
-    (row_table attr_table : List ℕ) : Type 0 where
+    (rows_now attrs_now : List ℕ) : Type 0 where
   pub says : SaysThree (counts_told held o.answer) number place rows attrs byte
-  pub row_table : row_table ≡ o.first
-  pub attr_table : attr_table ≡ o.second
+  pub row_table : rows_now ≡ o.first
+  pub attr_table : attrs_now ≡ o.second
 
 -- the same of the tree listing
 pub record TreeCrosses (held : Results) (o : Outcome (Said ℕ) ℕ) (number place rows : ℕ) (room : List ℕ) : Type 0 where
@@ -124,7 +124,7 @@ pub record LayoutCrosses (held : Results) (o : Outcome (Said Layout) ℕ) (numbe
 
 -- the same of all layouts, with both lent rooms
 pub record LayoutsCross (held : Results) (o : Outcomes (Said LayoutCounts) ℕ ℕ) (number place structures members : ℕ)
-    (structure_room member_room : List ℕ) : Type 0 where
+    (structures_now members_now : List ℕ) : Type 0 where
   pub says : SaysTwo (layouts_told held o.answer) number place structures members
-  pub structure_room : structure_room ≡ o.first
-  pub member_room : member_room ≡ o.second
+  pub structure_room : structures_now ≡ o.first
+  pub member_room : members_now ≡ o.second
