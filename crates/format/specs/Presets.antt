@@ -1,9 +1,6 @@
 -- What a section of the Rust's kind is read with: the vendor numbers and roles that complete its attribute numbers, and its sizes.
-use Rattle.std.specs.Prelude.{ℕ, Bool, false, List, [], ◌∷◌}
-use Rattle.numbers.specs.declared.Endian.{Endian}
+use Rattle.std.specs.Prelude.{ℕ, List, [], ◌∷◌}
 use Rattle.format.specs.declared.settings.Roles.{Roles}
-use Rattle.format.specs.declared.settings.Producer.{Producer}
-use Rattle.format.specs.declared.settings.Settings.{Settings}
 
 -- the 47 numbers that the Rust's `AttributeKind` has beside document 01's, but for two that have no form (docs/DIFFERENCES.md)
 abbrev pub mw_vendors : List ℕ

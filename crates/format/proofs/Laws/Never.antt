@@ -2,7 +2,7 @@
 use Prim.Native.Nat.{ℕ}
 use mathlib.Core.Path.{◌≡◌, ap}
 use mathlib.Core.Bool.{Bool, true, false}
-use mathlib.Core.List.{List, []}
+use mathlib.Core.List.{List}
 use Rattle.lent.specs.Outcome.{Outcome, Outcomes}
 use Rattle.format.specs.Said.{Said, gives, refuses, refuse, must, ◌>>=◌, ◌>>◌, placed, in_room, in_rooms, fills_room, fills_rooms, Never}
 use Rattle.format.specs.declared.refusal.Reason.{Reason}

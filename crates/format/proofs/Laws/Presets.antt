@@ -10,7 +10,6 @@ use Rattle.format.specs.FundType.{fund_types}
 use Rattle.format.specs.Settings.{vendor_number, vendors_hold, role_holds, role_form, roles_differ, roles_hold, settings_hold}
 use Rattle.format.specs.Presets.{mw_vendors, mw_roles, no_roles, rust_sizes}
 use Rattle.format.specs.declared.settings.Producer.{Producer}
-use Rattle.format.specs.declared.settings.Settings.{Settings}
 
 -- with the vendor list and its roles, whatever the endianness, the flag, the producer and the size of the five
 pub mw-holds : (e : Endian) (erased : Bool) (p : Producer) (other : ℕ)

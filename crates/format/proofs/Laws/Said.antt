@@ -4,11 +4,11 @@ use Prim.Native.Nat.{ℕ}
 use mathlib.Core.Path.{◌≡◌, refl, sym, ap, ◌∙◌, subst}
 use native.Mathlib.Omega.{arith}
 use mathlib.Core.Bool.{Bool, true, false, cond}
-use mathlib.Core.List.{List, []}
+use mathlib.Core.List.{List}
 use lib.Seq.{sets}
 use Rattle.lent.specs.Outcome.{Outcome, outcome, Given, Outcomes, BothGiven}
 use Rattle.format.specs.Refusal.{number_of, reason_of}
-use Rattle.format.specs.Said.{Said, gives, refuses, refuse, refusal, wanting, must, ◌>>=◌, ◌>>◌, placed, in_room, in_rooms, fills_room, fills_rooms}
+use Rattle.format.specs.Said.{Said, gives, refuses, refuse, wanting, must, ◌>>=◌, ◌>>◌, placed, in_room, in_rooms, fills_room, fills_rooms}
 use Rattle.format.specs.declared.refusal.Refusal.{Refusal}
 use Rattle.format.specs.declared.refusal.Reason.{Reason}
 use Rattle.format.proofs.Laws.Refusal.{reason-of-number}

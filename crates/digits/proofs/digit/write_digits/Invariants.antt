@@ -1,6 +1,5 @@
 use lib.Seq.{sets}
 use Rattle.digits.specs.Digits.{digits}
-use Prim.Native.Nat.{◌-◌}
 use mathlib.Core.Path.{◌≡◌}
 use lib.ListN.{length}
 use Rattle.digits.proofs.digit.write_digits.Given as goal

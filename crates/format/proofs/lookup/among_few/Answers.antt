@@ -1,5 +1,4 @@
 use Rattle.format.proofs.Laws.Lookup.{scan-next, scan-end}
-use Prim.Native.Nat.{◌-◌}
 use mathlib.Core.Path.{refl}
 use Rattle.format.proofs.lookup.among_few.Goals as goal
 

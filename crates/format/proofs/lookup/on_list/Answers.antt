@@ -1,6 +1,5 @@
 use Rattle.format.proofs.Laws.Sixteen.{sought-first, sought-next, sought-end}
 use native.Mathlib.Omega.{arith}
-use Prim.Native.Nat.{◌-◌}
 use Rattle.format.proofs.lookup.on_list.Goals as goal
 
 pub returns-then-list-lt16 : goal.returns-then-list-lt16

@@ -1,7 +1,6 @@
 use borrow.Author.Tests.{not-true, not-false}
 use Rattle.format.proofs.Laws.Settings.{vendors-low, vendors-bad, vendors-next, vendors-end}
 use native.Mathlib.Omega.{arith}
-use Prim.Native.Nat.{◌-◌}
 use mathlib.Core.Path.{refl, sym, ◌∙◌}
 use Rattle.format.proofs.settings.vendors_hold.Goals as goal
 

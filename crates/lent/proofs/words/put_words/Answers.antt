@@ -1,5 +1,4 @@
 use Rattle.lent.proofs.Laws.Stores.{storing-begins, storing-on, storing-ends}
-use Prim.Native.Nat.{◌-◌}
 use Rattle.lent.proofs.words.put_words.Goals as goal
 
 pub loop-i-init : goal.loop-i-init

@@ -1,6 +1,5 @@
 use Rattle.numbers.proofs.Laws.Prefix.{too_few, unequal, equal, all-equal}
 use native.Mathlib.Omega.{arith}
-use Prim.Native.Nat.{◌-◌}
 use mathlib.Core.Path.{refl, sym, ◌∙◌}
 use Rattle.numbers.proofs.prefix.starts_with.Goals as goal
 

@@ -7,7 +7,7 @@ use lib.ListN.{length}
 use Rattle.numbers.proofs.signed.i8_at.Goals as goal
 
 pub bounds-s-at : goal.bounds-s-at
-bounds-s-at c =     let h : c.args.at + 1 ≤ length c.args.s.now = there-inside _ _ _ (sym c.bytes_there.ensures ∙ c.if-bytes_there.true) in
+bounds-s-at c = let h : c.args.at + 1 ≤ length c.args.s.now = there-inside _ _ _ (sym c.bytes_there.ensures ∙ c.if-bytes_there.true) in
     omega arith
 
 pub signed_of-requires : goal.signed_of-requires

@@ -6,7 +6,7 @@ use lib.ListN.{length}
 use Rattle.numbers.proofs.unsigned.u8_at.Goals as goal
 
 pub bounds-s-at : goal.bounds-s-at
-bounds-s-at c =     let h : c.args.at + 1 ≤ length c.args.s.now = there-inside _ _ _ (sym c.bytes_there.ensures ∙ c.if-bytes_there.true) in
+bounds-s-at c = let h : c.args.at + 1 ≤ length c.args.s.now = there-inside _ _ _ (sym c.bytes_there.ensures ∙ c.if-bytes_there.true) in
     omega arith
 
 pub returns-then-bytes_there : goal.returns-then-bytes_there
