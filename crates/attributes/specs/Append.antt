@@ -1,5 +1,5 @@
 -- Places raised by so many bytes that were put in front.
-use Rattle.std.specs.Prelude.{ℕ, ◌+◌, ◌-◌}
+use Rattle.std.specs.Prelude.{ℕ, ◌+◌}
 use Rattle.attributes.specs.declared.value.End.{End}
 use Rattle.attributes.specs.declared.value.End.TheVariants.{At, Short}
 use Rattle.attributes.specs.declared.read.Attribute.{Attribute}

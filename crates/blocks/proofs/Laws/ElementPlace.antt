@@ -1,12 +1,11 @@
 -- The modifiers of an element type stand in the block at the place that its answer names: they are those of the subscript that says it.
-use Rattle.std.proofs.Common.{◌≡◌, ℕ, zero, suc, ◌+◌, ◌≤◌, true, false, eqb, List, length, take, drop, sym, refl, ap, ◌∙◌, subst, add_assoc, arith, length-drop, drop-drop}
+use Rattle.std.proofs.Common.{◌≡◌, ℕ, zero, suc, ◌+◌, ◌≤◌, true, false, eqb, List, length, take, drop, sym, refl, ap, ◌∙◌, subst, arith, length-drop, drop-drop}
 use Rattle.numbers.proofs.Laws.Written.{inside-there}
 use Rattle.numbers.specs.declared.Endian.{Endian}
 use Rattle.format.specs.Said.{Said, gives, refuses, ◌>>=◌}
 use Rattle.format.proofs.Laws.Said.{Of}
 use Rattle.attributes.specs.Parts.{part_at}
-use Rattle.blocks.specs.Types.{ModifiersInside}
-use Rattle.blocks.specs.Subscript.{Part, dimension, element, next_subscript, UsesInside}
+use Rattle.blocks.specs.Subscript.{Part, dimension, element, next_subscript}
 use Rattle.blocks.specs.Subscripts.{dimension_words, Dimensions, element_or, at_end, before, raised, step, subscripts_from, whole_block, SaidWhere}
 use Rattle.blocks.specs.declared.types.Type.{«Type»}
 use Rattle.blocks.specs.declared.subscripts.Element.{Element}

@@ -7,7 +7,7 @@ use Rattle.numbers.specs.declared.Endian.{Endian}
 use Rattle.format.specs.AttributeKind as attribute
 use Rattle.format.specs.FundType.{parse_int}
 use Rattle.format.specs.SubscriptFormat.{subscript_format_of}
-use Rattle.format.specs.Said.{Said, gives, refuse, ◌>>=◌, ◌>>◌, Never}
+use Rattle.format.specs.Said.{Said, gives, refuse, ◌>>=◌, Never}
 use Rattle.format.proofs.Laws.Never.{never-gives, never-refuse, never-must, never-then, never-past}
 use Rattle.format.specs.declared.refusal.Reason.TheVariants as reason
 use Rattle.format.specs.declared.fund_type.FundType.{FundType}

@@ -1,5 +1,5 @@
 -- A row's own words, which the code tests before its attributes.
-use Rattle.std.specs.Prelude.{ℕ, ◌-◌, Bool, ◌&&◌, List, length, leb, ltb}
+use Rattle.std.specs.Prelude.{ℕ, Bool, ◌&&◌, List, length, leb, ltb}
 use Rattle.format.specs.Lookup.{is_on}
 use Rattle.format.specs.TagKind.{tags}
 use Rattle.tables.specs.declared.row.Row.{Row}

@@ -7,7 +7,7 @@ use lib.ListN.{length}
 use Rattle.attributes.proofs.decode.part.Goals as goal
 
 pub overflow_add-result : goal.overflow_add-result
-overflow_add-result c =     let h : c.args.from + c.args.n ≤ length c.args.s.now = there-inside _ _ _ (sym c.bytes_there.ensures ∙ c.if-bytes_there.true) in
+overflow_add-result c = let h : c.args.from + c.args.n ≤ length c.args.s.now = there-inside _ _ _ (sym c.bytes_there.ensures ∙ c.if-bytes_there.true) in
     omega arith
 
 pub slice_bounds-result-end : goal.slice_bounds-result-end

@@ -1,7 +1,6 @@
 use Rattle.attributes.proofs.Laws.Eight.{zero-among, zero-past}
 use Rattle.attributes.proofs.Laws.Text.{zero-end}
 use native.Mathlib.Omega.{arith}
-use Prim.Native.Nat.{◌-◌}
 use mathlib.Core.Path.{refl, sym, ◌∙◌}
 use Rattle.attributes.proofs.text.zero_from.Goals as goal
 

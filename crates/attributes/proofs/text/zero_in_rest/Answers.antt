@@ -1,5 +1,4 @@
 use Rattle.attributes.proofs.Laws.Text.{zero-here, zero-next, zero-end}
-use Prim.Native.Nat.{◌-◌}
 use mathlib.Core.Path.{refl, sym, ◌∙◌}
 use Rattle.attributes.proofs.text.zero_in_rest.Goals as goal
 

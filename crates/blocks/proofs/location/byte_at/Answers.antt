@@ -1,5 +1,4 @@
 use Rattle.blocks.proofs.Laws.Location.{byte-none}
-use Rattle.std.proofs.Common.{◌-◌}
 use Rattle.blocks.proofs.location.byte_at.Goals as goal
 
 pub returns-else-at-block : goal.returns-else-at-block

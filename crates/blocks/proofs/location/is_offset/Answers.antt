@@ -1,5 +1,4 @@
 use Rattle.blocks.proofs.Laws.Location.{offset_made}
-use Rattle.std.proofs.Common.{◌-◌}
 use Rattle.blocks.proofs.location.is_offset.Goals as goal
 
 pub returns : goal.returns

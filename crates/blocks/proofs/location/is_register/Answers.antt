@@ -1,5 +1,4 @@
 use Rattle.blocks.proofs.Laws.Location.{register-made}
-use Rattle.std.proofs.Common.{◌-◌}
 use Rattle.blocks.proofs.location.is_register.Goals as goal
 
 pub returns : goal.returns

@@ -1,5 +1,4 @@
 use Rattle.blocks.proofs.Laws.Location.{register-plus-made}
-use Rattle.std.proofs.Common.{◌-◌}
 use Rattle.blocks.proofs.location.is_register_plus.Goals as goal
 
 pub returns : goal.returns

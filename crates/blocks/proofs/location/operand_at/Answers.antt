@@ -1,5 +1,4 @@
 use Rattle.blocks.proofs.Laws.Location.{operand-there, operand-none}
-use Rattle.std.proofs.Common.{◌-◌}
 use Rattle.blocks.proofs.location.operand_at.Goals as goal
 
 pub returns-in-Value : goal.returns-in-Value

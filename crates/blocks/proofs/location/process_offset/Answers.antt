@@ -1,5 +1,5 @@
 use Rattle.format.specs.Said.{refusal}
-use Rattle.std.proofs.Common.{◌-◌, ap}
+use Rattle.std.proofs.Common.{ap}
 use Rattle.blocks.specs.Location.{said_located}
 use Rattle.blocks.proofs.Laws.Location.{operand-taken, operand-refused}
 use Rattle.blocks.proofs.location.process_offset.Goals as goal

@@ -1,5 +1,5 @@
 use Rattle.format.specs.Said.{refusal}
-use Rattle.std.proofs.Common.{◌-◌, ap}
+use Rattle.std.proofs.Common.{ap}
 use Rattle.blocks.specs.Location.{said_variable_location}
 use Rattle.blocks.proofs.Laws.Location.{in-register, at_address_lem, at-register-plus, nowhere}
 use Rattle.blocks.proofs.location.process_variable_location.Goals as goal

@@ -1,5 +1,5 @@
 use Rattle.blocks.specs.Modifiers.{is_pointer}
-use Rattle.std.proofs.Common.{◌-◌, sym, ap}
+use Rattle.std.proofs.Common.{sym, ap}
 use Rattle.blocks.proofs.modifiers.is_pointer.Goals as goal
 
 pub returns-in-Const : goal.returns-in-Const

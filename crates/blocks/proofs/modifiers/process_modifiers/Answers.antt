@@ -2,7 +2,7 @@ use Rattle.format.specs.Said.{refusal}
 use borrow.Author.Tests.{not-true, not-false}
 use Rattle.blocks.proofs.Laws.Modifiers.{begin, unknown, again, done}
 use Rattle.blocks.specs.Modifiers.{said_modifiers}
-use Rattle.std.proofs.Common.{◌-◌, ap, ◌∙◌}
+use Rattle.std.proofs.Common.{ap, ◌∙◌}
 use Rattle.blocks.proofs.modifiers.process_modifiers.Goals as goal
 
 pub loop-i-init : goal.loop-i-init

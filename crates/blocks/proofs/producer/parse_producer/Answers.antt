@@ -1,5 +1,4 @@
 use Rattle.blocks.proofs.Laws.Producer.{by-mwcc, by-gcc, by-other}
-use Rattle.std.proofs.Common.{◌-◌}
 use Rattle.blocks.proofs.producer.parse_producer.Goals as goal
 
 pub returns-then-starts_with : goal.returns-then-starts_with

@@ -1,6 +1,5 @@
 use Rattle.tables.proofs.Laws.Find.{between-all, between-upper, between_lower, row_near}
 use native.Mathlib.Omega.{arith}
-use Prim.Native.Nat.{◌-◌}
 use Rattle.tables.proofs.find.find_row_near.Goals as goal
 
 pub returns-then-there-key : goal.returns-then-there-key

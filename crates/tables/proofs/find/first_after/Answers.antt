@@ -1,6 +1,5 @@
 use Rattle.tables.proofs.Laws.Find.{between-upper, between_lower}
 use native.Mathlib.Omega.{arith}
-use Prim.Native.Nat.{◌-◌}
 use Rattle.tables.proofs.find.first_after.Goals as goal
 
 pub loop-step-init : goal.loop-step-init

@@ -1,6 +1,5 @@
 use Rattle.tables.proofs.Laws.Find.{between-upper, between_lower, between-one}
 use native.Mathlib.Omega.{arith}
-use Prim.Native.Nat.{◌-◌}
 use Rattle.tables.proofs.find.first_between.Goals as goal
 
 pub loop-from-init : goal.loop-from-init

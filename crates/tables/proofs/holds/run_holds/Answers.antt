@@ -2,7 +2,6 @@ use Rattle.tables.proofs.Laws.Holds.{run-bad, run-next, run_end}
 use native.Mathlib.Nat.{add-zero, sub-zero}
 use borrow.Author.Tests.{not-true, not-false}
 use borrow.Author.Rules.{rules}
-use Prim.Native.Nat.{◌-◌}
 use mathlib.Core.Path.{sym, ◌∙◌}
 use Rattle.tables.proofs.holds.run_holds.Goals as goal
 

@@ -1,7 +1,6 @@
 use Rattle.tables.proofs.Laws.Unit.{put-length, put_next, put-end, units-stored}
 use native.Mathlib.Nat.{sub-zero}
 use borrow.Author.Rules.{rules}
-use Prim.Native.Nat.{◌-◌}
 use mathlib.Core.Path.{refl, ◌∙◌}
 use Rattle.tables.proofs.unit.put_units.Goals as goal
 

@@ -1,7 +1,6 @@
 use Rattle.tables.proofs.Laws.Unit.{units-bad, units-next, units-end}
 use native.Mathlib.Nat.{sub-zero}
 use borrow.Author.Rules.{rules}
-use Prim.Native.Nat.{◌-◌}
 use mathlib.Core.Path.{◌∙◌}
 use Rattle.tables.proofs.unit.units_hold.Goals as goal
 
