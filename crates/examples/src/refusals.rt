@@ -1,5 +1,4 @@
-// Refusals that the comparison with the Rust does not show: it never ends there, or needs no room; and document 02's examples of K5, a member's children. What is
-// answered is printed, as of document 01's examples.
+// Refusals that the comparison with the Rust does not show: it never ends there, or needs no room. What is answered is printed, as of document 01's examples.
 use crate::settings::{SIZES, settings_by};
 use crate::tally::{decimal, text};
 use entries::section::{Section, read_debug_section};
@@ -7,7 +6,6 @@ use format::presets::MW_VENDORS;
 use format::refusal::{Refusal, number_of};
 use layout::one::{LayoutRead, layout_of_key};
 use records::enumeration::{EnumerationRead, process_enumeration_tag};
-use records::member::{MemberRead, process_structure_member_tag};
 use records::typedef::{TypedefRead, process_typedef_tag};
 use records::unions::{UnionRead, process_union_tag};
 use sizes::size::size_of_key;
@@ -81,50 +79,6 @@ fn array_of_itself(rt: &impl Print) {
         Sized::Is(_) => answered(rt),
         Sized::Refused(why) => refused(rt, why),
     }
-}
-
-// The member at 0, and what stands behind it up to its sibling.
-fn member(rt: &impl Print, s: &[u8]) {
-    let mut rows = [0u32; 3 * ROW_WIDTH];
-    let mut attrs = [0u32; 12];
-    let counts = read(s, &mut rows, &mut attrs);
-    match process_structure_member_tag(
-        s,
-        settings_by(0),
-        &MW_VENDORS,
-        &SIZES,
-        &rows,
-        &attrs,
-        counts,
-        0,
-    ) {
-        MemberRead::Is(_) => answered(rt),
-        MemberRead::Refused(why) => refused(rt, why),
-    }
-}
-
-// Behind each member, up to its sibling: a member; a member that is its own sibling; that behind a null entry; two null entries.
-fn member_with_children(rt: &impl Print) {
-    text(rt, b"member with a child");
-    member(
-        rt,
-        b"\x00\x00\x00\x1a\x00\x0d\x00\x12\x00\x00\x00\x24\x00\x55\x00\x07\x00\x23\x00\x06\x04\x00\x00\x00\x00\x07\x00\x00\x00\x0a\x00\x0d\x00\x55\x00\x07",
-    );
-    text(rt, b"member with a child that the walk comes back to");
-    member(
-        rt,
-        b"\x00\x00\x00\x1a\x00\x0d\x00\x12\x00\x00\x00\x26\x00\x55\x00\x07\x00\x23\x00\x06\x04\x00\x00\x00\x00\x07\x00\x00\x00\x0c\x00\x0d\x00\x12\x00\x00\x00\x1a",
-    );
-    text(rt, b"the same behind a null entry");
-    member(
-        rt,
-        b"\x00\x00\x00\x1a\x00\x0d\x00\x12\x00\x00\x00\x2a\x00\x55\x00\x07\x00\x23\x00\x06\x04\x00\x00\x00\x00\x07\x00\x00\x00\x04\x00\x00\x00\x0c\x00\x0d\x00\x12\x00\x00\x00\x1a",
-    );
-    text(rt, b"member with null entries");
-    member(
-        rt,
-        b"\x00\x00\x00\x1a\x00\x0d\x00\x12\x00\x00\x00\x22\x00\x55\x00\x07\x00\x23\x00\x06\x04\x00\x00\x00\x00\x07\x00\x00\x00\x04\x00\x00\x00\x04",
-    );
 }
 
 // A union of four bytes with one member.
@@ -211,7 +165,6 @@ fn layout_with_no_room(rt: &impl Print) {
 pub fn run(rt: &impl Print) {
     typedef_of_itself(rt);
     array_of_itself(rt);
-    member_with_children(rt);
     union_with_no_room(rt);
     enumeration_with_no_room(rt);
     layout_with_no_room(rt);

@@ -1,5 +1,5 @@
 -- What the two rooms of all layouts hold.
-use Rattle.std.specs.Prelude.{ℕ, ◌-◌, ◌*◌, ◌≡◌, List, length}
+use Rattle.std.specs.Prelude.{ℕ, ◌*◌, ◌≡◌, List, length}
 use Rattle.lent.specs.Filled.{Filled}
 use Rattle.layout.specs.Layout.{laid_width}
 use Rattle.layout.specs.All.{Structure, structure_width, structure_words, all_member_words, member_count, counts_of}

@@ -1,5 +1,5 @@
 -- Members that end inside a size.
-use Rattle.std.specs.Prelude.{ℕ, ◌+◌, ◌-◌, ◌≤◌, List, [], ◌∷◌}
+use Rattle.std.specs.Prelude.{ℕ, ◌+◌, ◌≤◌, List, [], ◌∷◌}
 use Rattle.layout.specs.Layout.{Laid}
 
 -- every member ends at or before `size`

@@ -1,5 +1,5 @@
 -- What the room of a layout holds.
-use Rattle.std.specs.Prelude.{ℕ, ◌-◌, ◌*◌, ◌<◌, ◌≡◌, List, length}
+use Rattle.std.specs.Prelude.{ℕ, ◌*◌, ◌<◌, ◌≡◌, List, length}
 use Rattle.lent.specs.Filled.{Filled}
 use Rattle.format.specs.Said.{gives}
 use Rattle.tables.specs.Row.{row_at}

@@ -98,7 +98,14 @@ fn gather(
 }
 
 // The same into no room: it counts.
-fn count_children(s: &[u8], e: Endian, rows: &[u32], attrs: &[u32], n: usize, i: usize) -> Gathered
+pub fn count_children(
+    s: &[u8],
+    e: Endian,
+    rows: &[u32],
+    attrs: &[u32],
+    n: usize,
+    i: usize,
+) -> Gathered
     requires { Asked rows.now n i }
     ensures { result ≡ (gathered_into rows.now 0 [] (child_walk (lent_rows e s.now rows.now attrs.now n) i)).answer }
 {

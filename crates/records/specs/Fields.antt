@@ -2,7 +2,7 @@
 use Rattle.std.specs.Prelude.{ℕ, zero, suc, ◌+◌, ◌-◌, Bool, cond, ◌||◌, List, eqb}
 use Rattle.format.specs.FormKind.{form_of}
 use Rattle.format.specs.AttributeKind as attribute
-use Rattle.format.specs.Said.{Said, gives, refuses, refuse, refusal, ◌>>=◌, placed}
+use Rattle.format.specs.Said.{Said, gives, refuses, refuse, ◌>>=◌, placed}
 use Rattle.format.specs.declared.refusal.Reason.TheVariants as reason
 use Rattle.attributes.specs.Text.{zero_from}
 use Rattle.attributes.specs.Parts.{block_at}

@@ -6,6 +6,7 @@ ghost use Rattle.records.specs.Inside.Enumeration.{AskedShort};
 ghost use Rattle.sizes.specs.Size.{said_sized, fundamental_size, row_size, entry_size, type_size, size_of_key, size_of_type};
 ghost use Rattle.sizes.specs.Inside.Size.{TableReady, grown, array_product};
 
+pub use crate::many::{member_added, row_size};
 use crate::prepare::subscript_block;
 use crate::product::product_of;
 use crate::sized::Sized;

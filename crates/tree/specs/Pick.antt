@@ -1,5 +1,5 @@
 -- Numbers that pass a test: how many, the nearest, the first, all.
-use Rattle.std.specs.Prelude.{ℕ, zero, suc, Bool, cond, List, [], ◌∷◌, ltb}
+use Rattle.std.specs.Prelude.{ℕ, zero, suc, Bool, cond, ltb}
 
 -- how many of the numbers below k pass
 unfoldable pub count_below : (ℕ → Bool) → ℕ → ℕ

@@ -18,7 +18,6 @@ use Rattle.format.specs.declared.settings.Settings.{Settings}
 use Rattle.format.specs.declared.refusal.Reason.{Reason}
 use Rattle.format.specs.declared.refusal.Reason.TheVariants as reason
 use Rattle.format.specs.declared.refusal.Refusal.{Refusal}
-use Rattle.tables.specs.Table.{lent_rows}
 use Rattle.lent.proofs.Laws.Stores.{sets_over}
 use Rattle.tables.specs.Row.{row_width, attr_width, rows_words, attrs_words, rows_from}
 use Rattle.tables.specs.Unit.{no_unit, with_units}

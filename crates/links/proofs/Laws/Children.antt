@@ -102,7 +102,7 @@ pub record Walking (rows : List ℕ) (n : ℕ) (next : ℕ → ℕ) (end from : 
 pub walking-begins : (rows : List ℕ) (n : ℕ) (next : ℕ → ℕ) (end from : ℕ) (room : List ℕ) → Walking rows n next end from room room from 0 0
 walking-begins rows n next end from room = record { in_time = omega arith; counted = omega arith; same_room = refl; left = rw sub-zero }
 
-abbrev IsEndless : Gathered → Type 0
+abbrev pub IsEndless : Gathered → Type 0
 IsEndless (Count k) = ⊥
 IsEndless Endless = Unit
 
@@ -190,7 +190,7 @@ module _ (e : Endian) (s rows attrs : List ℕ) (n i : ℕ) where
       subst (λ (x : ℕ). Gathers (gathered_into rows 0 room (walk_from n (λ c. sibling_row (lent_rows e s rows attrs n) c) x n (next_row rows n i))) r room') p
       (subst (λ (x : ℕ). Gathers (gathered_into rows 0 room (walk_from n (λ c. sibling_row (lent_rows e s rows attrs n) c) end n x)) r room') q g)
 
-abbrev IsCount : ℕ → Gathered → Type 0
+abbrev pub IsCount : ℕ → Gathered → Type 0
 IsCount k (Count m) = k ≡ m
 IsCount k Endless = ⊥
 

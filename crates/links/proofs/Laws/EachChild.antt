@@ -1,5 +1,5 @@
 -- What follows from `EachChild`: a walk that ends also ends from each row that it meets, so that its children can be taken one at a time.
-use Prim.Native.Nat.{ℕ, zero, suc, ◌≤◌, ◌<◌}
+use Prim.Native.Nat.{ℕ, zero, suc, ◌+◌, ◌≤◌, ◌<◌}
 use native.Mathlib.Nat.{le_refl, le_trans, lt_of_not-le}
 use native.Mathlib.Decide.{dec_le}
 use native.Mathlib.Omega.{arith}
@@ -16,10 +16,13 @@ use Rattle.tables.specs.Row.{row_at}
 use Rattle.tables.specs.declared.row.Row.{Row}
 use Rattle.links.specs.Walk.{Walk, ends, endless, meets, stops, walk_from}
 use Rattle.links.specs.Links.{next_row, sibling_row, child_walk, null_row, non_null}
-use Rattle.links.specs.Inside.Links.{AtRow}
-use Rattle.links.proofs.Laws.Children.{at-end, past-last, goes, stopped, unended, met}
+use Rattle.links.specs.Inside.Links.{AtRow, RowsHold}
+use Rattle.links.specs.Inside.Children.{gathered_into}
+use Rattle.links.proofs.Laws.Children.{at-end, past-last, goes, stopped, unended, met, IsEndless, IsCount}
 use Rattle.links.proofs.Laws.Endless.{on_below}
 use Rattle.links.specs.Inside.EachChild.{rows_met, is_ending, walk_on, children_from, children_at, Ends, first_or}
+use Rattle.links.specs.declared.children.Gathered.{Gathered}
+use Rattle.links.specs.declared.children.Gathered.TheVariants.{Count, Endless}
 
 -- what follows from both answers of a test
 by-test : {P : Type 0} (b : Bool) → (b ≡ true → P) → (b ≡ false → P) → P
@@ -217,7 +220,25 @@ module _ (e : Endian) (s rows attrs : List ℕ) (n end : ℕ) where
           let same : rest c' ≡ rest (after c) = ap rest q in
           omega arith
 
--- ---- the children of a row
+-- ---- what counting tells
+
+counted-by : (rows : List ℕ) (w : Walk) {told : Gathered} → told ≡ (gathered_into rows 0 [] w).answer → {k : ℕ} → told ≡ Count k
+    → (is_ending w ≡ true) × (k ≡ length (non_null rows (rows_met w)))
+unfolding gathered_into is_ending rows_met
+counted-by rows (ends cs) p {k} q =
+    let many : k ≡ 0 + length (non_null rows cs) = subst (IsCount k) (sym q ∙ p) refl in
+    (refl, omega arith)
+counted-by rows endless p {k} q = absurd (subst (IsCount k) (sym q ∙ p) refl)
+
+endless-by : (rows : List ℕ) (w : Walk) {told : Gathered} → told ≡ (gathered_into rows 0 [] w).answer → told ≡ Endless → w ≡ endless
+unfolding gathered_into
+endless-by rows (ends cs) p q = absurd (subst IsEndless (sym q ∙ p) tt)
+endless-by rows endless p q = refl
+
+ending-walk : (w : Walk) → is_ending w ≡ true → w ≡ ends (rows_met w)
+unfolding is_ending rows_met
+ending-walk (ends cs) h = refl
+ending-walk endless h = absurd (true≢false (sym h))
 
 module _ (e : Endian) (s rows attrs : List ℕ) (n i : ℕ) where
   module _ {end c : ℕ} (p : end ≡ sibling_row (lent_rows e s rows attrs n) i) (q : c ≡ next_row rows n i) where
@@ -232,6 +253,21 @@ module _ (e : Endian) (s rows attrs : List ℕ) (n i : ℕ) where
   pub walk-children : {cs : List ℕ} → child_walk (lent_rows e s rows attrs n) i ≡ ends cs → children_at e s rows attrs n i ≡ non_null rows cs
   unfolding children_at children_from walk_on child_walk rows_met
   walk-children p = ap (λ (w : Walk). non_null rows (rows_met w)) p
+
+  module _ {told : Gathered} (is : told ≡ (gathered_into rows 0 [] (child_walk (lent_rows e s rows attrs n) i)).answer) where
+    pub counted-ends : {k : ℕ} → RowsHold rows n → told ≡ Count k → Ends e s rows attrs n (sibling_row (lent_rows e s rows attrs n) i) (next_row rows n i)
+    unfolding walk_on child_walk
+    counted-ends table p = record { table = table; ending = (counted-by rows _ is p).0 }
+
+    pub counted-children : {k : ℕ} → told ≡ Count k → k ≡ length (children_at e s rows attrs n i)
+    unfolding children_at children_from walk_on child_walk
+    counted-children p = (counted-by rows _ is p).1
+
+    pub counted-walk : {k : ℕ} → told ≡ Count k → child_walk (lent_rows e s rows attrs n) i ≡ ends (rows_met (child_walk (lent_rows e s rows attrs n) i))
+    counted-walk p = ending-walk (child_walk (lent_rows e s rows attrs n) i) (counted-by rows _ is p).0
+
+    pub endless-walk : told ≡ Endless → child_walk (lent_rows e s rows attrs n) i ≡ endless
+    endless-walk p = endless-by rows _ is p
 
 -- ---- how many children there are at most
 

@@ -3,19 +3,18 @@ use Prim.Native.Nat.{ℕ}
 use native.Mathlib.Omega.{arith}
 use mathlib.Core.Path.{◌≡◌, refl, sym, ap, ◌∙◌}
 use mathlib.Core.Logic.{◌↔◌}
-use mathlib.Core.Bool.{Bool, true, false, cond, ◌||◌}
+use mathlib.Core.Bool.{Bool, true, false, ◌||◌}
 use mathlib.Core.List.{List, [], ◌∷◌}
 use lib.ListN.{length}
-use lib.Dec.{leb, eqb}
+use lib.Dec.{leb}
 use borrow.Author.Tests.{eqb-false, ne_eqb, lt-leb}
-use Rattle.lent.specs.Outcome.{Outcome}
 use Rattle.format.specs.Refusal.{number_of}
 use Rattle.format.specs.Said.{Said, gives, refuses, refuse, ◌>>=◌, in_room, fills_room}
 use Rattle.format.specs.declared.refusal.Reason.TheVariants as reason
 use Rattle.tables.specs.Table.{Table, Rows, table_rows}
 use Rattle.tables.specs.Keyed.{row_of}
-use Rattle.links.specs.Walk.{Walk, ends, endless, stops, walk_from, walked}
-use Rattle.links.specs.Links.{next_row, sibling_row, child_walk, non_null}
+use Rattle.links.specs.Walk.{Walk, ends, endless, stops, walked}
+use Rattle.links.specs.Links.{next_row, sibling_row, child_walk}
 use Rattle.links.specs.Children.{children_met, child_rows_of, children_of_key}
 use Rattle.links.specs.Endless.{NeverEnds}
 use Rattle.links.proofs.Laws.Endless.{on_below, endless-never, never-endless}

@@ -1,5 +1,5 @@
 -- A row of a table that was tested, as functions inside ask for it.
-use Rattle.std.specs.Prelude.{ℕ, ◌-◌, ◌≤◌, ◌<◌, List}
+use Rattle.std.specs.Prelude.{ℕ, ◌≤◌, ◌<◌, List}
 use Rattle.format.specs.Limits.{entry_limit}
 use Rattle.tables.specs.Inside.Find.{Rising}
 

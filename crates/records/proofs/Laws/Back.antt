@@ -1,5 +1,4 @@
 -- What an answer says leads back to it.
-use Prim.Native.Nat.{ℕ}
 use mathlib.Core.Path.{◌≡◌, refl, ap}
 use mathlib.Core.List.{[], ◌∷◌}
 use Rattle.format.specs.Said.{Said, gives, refuses}

@@ -20,13 +20,13 @@ use Rattle.tables.specs.declared.find.Found.{Found}
 use Rattle.tables.specs.declared.find.Found.TheVariants as found
 use Rattle.links.specs.Typed.{word_at}
 use Rattle.links.specs.Maybe.{Maybe}
-use Rattle.records.specs.Inside.Fields.{word_said, said_needed}
+use Rattle.records.specs.Inside.Fields.{word_said}
 use Rattle.records.proofs.Laws.Taken.{by-case, test-passed, test-failed}
 use Rattle.records.specs.Scan.{attribute_at}
 use Rattle.format.specs.Said.{Said, gives, refusal, ◌>>=◌, placed}
 use Rattle.format.proofs.Laws.Said.{goes_on}
 use Rattle.blocks.specs.declared.types.Type.{«Type»}
-use Rattle.records.specs.Fields.{is_sought, last_from, last_of, text_of, name_by, name_of, attribute_needed, type_by, type_of, location_block, offset_field, as_address, address_by, address_field, as_word, word_in, word_by, word_of, word_needed, name_needed, visibility_by, visibility_in, visibility_of}
+use Rattle.records.specs.Fields.{is_sought, last_from, last_of, text_of, name_by, name_of, attribute_needed, type_by, type_of, location_block, offset_field, as_address, address_by, address_field, word_in, word_by, word_of, word_needed, name_needed, visibility_by, visibility_in, visibility_of}
 use Rattle.records.specs.declared.scan.Run.{Run}
 use Rattle.records.specs.declared.scan.Attribute.{Attribute}
 use Rattle.records.specs.declared.fields.Sought.{Sought}
@@ -36,7 +36,6 @@ use Rattle.records.specs.declared.fields.Name.{Name}
 use Rattle.records.specs.declared.fields.Name.TheVariants as name
 use Rattle.records.specs.declared.fields.Word.{Word}
 use Rattle.records.specs.declared.fields.Word.TheVariants as word
-use Rattle.records.specs.declared.fields.Needed.{Needed}
 use Rattle.records.specs.declared.fields.Visibility.{Visibility}
 use Rattle.records.specs.declared.fields.Visibility.TheVariants as visibility
 

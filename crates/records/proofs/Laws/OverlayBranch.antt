@@ -3,7 +3,7 @@ use Prim.Native.Nat.{ℕ}
 use mathlib.Core.Path.{◌≡◌}
 use mathlib.Core.List.{List}
 use Rattle.format.specs.AttributeKind as attribute
-use Rattle.format.specs.Said.{Said, gives}
+use Rattle.format.specs.Said.{gives}
 use Rattle.records.specs.Fields.{word_of}
 use Rattle.records.specs.OverlayBranch.{said_overlay_branch_read}
 use Rattle.records.specs.declared.scan.Run.{Run}

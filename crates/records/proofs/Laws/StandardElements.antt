@@ -10,7 +10,7 @@ use lib.Dec.{ltb}
 use lib.IntN.{ℤ}
 use borrow.Author.Tests.{lt-ltb, ltb-true}
 use Rattle.numbers.proofs.Laws.Tests.{cond-all}
-use Rattle.numbers.specs.Value.{value_of, there, read_at, signed_of}
+use Rattle.numbers.specs.Value.{value_of, read_at, signed_of}
 use Rattle.numbers.proofs.Laws.Value.{there-inside, read_all}
 use Rattle.numbers.specs.Written.{bytes_of, Bytes}
 use Rattle.numbers.proofs.Laws.Written.{bytes-length, number-answers, number_small, number-written}

@@ -9,7 +9,7 @@ use Rattle.numbers.specs.declared.Endian.{Endian}
 use Rattle.format.specs.AttributeKind as attribute
 use Rattle.format.specs.TagKind as tag
 use Rattle.format.specs.Limits.{depth_limit}
-use Rattle.format.specs.Said.{Said, gives, ◌>>=◌, ◌>>◌, placed, Never}
+use Rattle.format.specs.Said.{Said, gives, ◌>>=◌, placed, Never}
 use Rattle.format.proofs.Laws.Never.{never-gives, never-refuse, never-must, never-then, never-past, never_placed}
 use Rattle.format.specs.declared.settings.Settings.{Settings}
 use Rattle.format.specs.declared.refusal.Reason.TheVariants as reason

@@ -57,7 +57,7 @@ use Rattle.sizes.proofs.Laws.Prepare.{AllRead, fault-members, prepared-size}
 use Rattle.sizes.proofs.Laws.Ends.{ends-members}
 use Rattle.sizes.specs.Size.{said_sized, size_limit, shape_of, needed_at, subscripts_at, subscript_fault, member_rows_from, member_rows_by, members_of, size_or, type_size_by, kind_size, fundamental_size, product_of, subscript_block, larger, with_end, ends_from, row_size, entry_size, type_size}
 use Rattle.sizes.specs.Inside.Noted.{noted_at}
-use Rattle.sizes.specs.Inside.Size.{TableReady, EndsShort, Extent, said_added, with_size, grown, member_added, child_end, ends_over, array_product, noted_found, entry_size_from}
+use Rattle.sizes.specs.Inside.Size.{TableReady, EndsShort, Extent, said_added, with_size, grown, member_added, child_end, ends_over, array_product, noted_found, entry_size_from, type_size_from}
 use Rattle.sizes.specs.declared.prepare.Shape.{Shape}
 use Rattle.sizes.specs.declared.prepare.Shape.TheVariants as shape
 use Rattle.sizes.specs.declared.prepare.Prepared.{Prepared}
@@ -264,6 +264,15 @@ module _ (settings : Settings) (sizes s rows attrs : List ℕ) (n : ℕ) where
       entry_row z q =
           let one : suc (levels - 1) ≡ levels = omega (arith, z) in
           q ∙ sym (entry_more (levels - 1) key (sym is ∙ p)) ∙ ap (λ (l : ℕ). entry_size settings sizes (lent_rows settings.endian s rows attrs n) l key) one
+
+  -- no sizes are noted
+  pub entry-plain : (levels key : ℕ) → entry_size_from settings sizes s rows attrs n [] levels key ≡ entry_size settings sizes (lent_rows settings.endian s rows attrs n) levels key
+  unfolding entry_size_from
+  entry-plain levels key = refl
+
+  pub type-plain : (levels : ℕ) (t : «Type») → type_size_from settings sizes s rows attrs n [] levels t ≡ type_size settings sizes (lent_rows settings.endian s rows attrs n) levels t
+  unfolding type_size_from type_size entry_size_from
+  type-plain levels t = refl
 
   -- with sizes that may be noted
   module _ (noted : List ℕ) (levels key : ℕ) where

@@ -4,12 +4,12 @@ use native.Mathlib.Nat.{le_refl}
 use native.Mathlib.Decide.{ℕ_discrete, dec_le}
 use native.Mathlib.Omega.{arith}
 use mathlib.Core.Path.{◌≡◌, refl, sym, ap, subst, ◌∙◌}
-use mathlib.Core.Logic.{◌⊎◌, inl, inr, ◌↔◌, ⊎_elim}
+use mathlib.Core.Logic.{inl, inr, ⊎_elim}
 use mathlib.Core.Bool.{Bool, true, false, not, cond, ◌&&◌, true≢false}
 use mathlib.Core.List.{List, [], ◌∷◌}
 use lib.ListN.{length}
 use lib.Dec.{leb, ltb, eqb}
-use borrow.Author.Tests.{lt-ltb, le-leb, ltb-true, leb-true, ltb-false, eq-eqb, ne_eqb, eqb-true}
+use borrow.Author.Tests.{lt-ltb, le-leb, ltb-true, leb-true, eq-eqb, ne_eqb, eqb-true}
 use Rattle.entries.proofs.Laws.KnownRun.{by-test}
 use Rattle.numbers.proofs.Laws.Tests.{cond-all}
 use Rattle.numbers.specs.declared.Endian.{Endian}
@@ -22,7 +22,7 @@ use Rattle.tables.specs.declared.find.Found.TheVariants.{At, Nothing}
 use Rattle.links.specs.Links.{null_row}
 use Rattle.links.specs.declared.lookup.Reference.{Reference}
 use Rattle.links.specs.declared.lookup.Reference.TheVariants as reference
-use Rattle.tree.specs.Pick.{count_below, nearest_below}
+use Rattle.tree.specs.Pick.{count_below}
 use Rattle.tree.proofs.Laws.Pick.{all_from}
 use Rattle.tree.specs.Reach.{later_row, reach_by, reach_end}
 use Rattle.tree.specs.Nest.{lies, depth, parent}

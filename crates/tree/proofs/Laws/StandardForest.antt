@@ -23,8 +23,7 @@ use Rattle.tables.specs.Table.{Table, table}
 use Rattle.tables.specs.declared.row.Row.{Row}
 use Rattle.tables.specs.declared.row.Attr.{Attr}
 use Rattle.tables.specs.declared.row.Counts.{Counts}
-use Rattle.entries.specs.Source.{source, mode}
-use Rattle.entries.specs.Walk.{Entries, entries, read_tags}
+use Rattle.entries.specs.Walk.{Entries, entries}
 use Rattle.entries.specs.Section.{said_section, whole_walk, read_debug_section}
 use Rattle.entries.specs.Filled.{TableFilled}
 use Rattle.entries.specs.Standard.{taken, attrs_of, rows_of, Call, Dies, WrittenLent}

@@ -10,7 +10,7 @@ use lib.Seq.{sets}
 use lib.Dec.{leb, ltb}
 use borrow.Author.Tests.{le-leb, lt-leb}
 use Rattle.tables.specs.Table.{table, lent_rows}
-use Rattle.lent.specs.Outcome.{Outcome, outcome, Given}
+use Rattle.lent.specs.Outcome.{Given}
 use Rattle.format.specs.Limits.{depth_limit}
 use Rattle.format.specs.Said.{Said, gives, refusal, wanting, must, ◌>>◌, in_room, fills_room}
 use Rattle.format.proofs.Laws.Said.{goes_in}

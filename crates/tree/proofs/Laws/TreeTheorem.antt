@@ -1,12 +1,12 @@
 -- The tree theorem (demand 3) of the public calls, over their own contracts: take a table that `read_debug_section` filled with erased entries left out,
 -- and list and walk it with the section and settings it was read with. What is said there is `TreeTheorem` of specs/Demand.
-use Prim.Native.Nat.{ℕ, ◌+◌, ◌*◌, ◌≤◌, ◌<◌}
+use Prim.Native.Nat.{ℕ, ◌+◌, ◌*◌, ◌<◌}
 use native.Mathlib.Omega.{arith}
-use mathlib.Core.Path.{◌≡◌, refl, sym, ap, subst, ◌∙◌}
-use mathlib.Core.Logic.{◌⊎◌, inl, inr, ◌↔◌, ⊎_elim}
+use mathlib.Core.Path.{◌≡◌, sym, ap, subst, ◌∙◌}
+use mathlib.Core.Logic.{inl, inr, ⊎_elim}
 use mathlib.Core.Bool.{false}
 use mathlib.Core.List.{List}
-use lib.ListN.{length, get_or, drop}
+use lib.ListN.{length, get_or}
 use lib.Seq.{sets, length-sets}
 use borrow.Fn.Kinds.{Dens, res_t, ended_of}
 use denote.Triple.Clauses.{AtExit}
@@ -17,8 +17,7 @@ use Rattle.lent.proofs.Laws.Filled.{sets-filled}
 use Rattle.format.specs.Said.{Said, gives}
 use Rattle.format.specs.declared.settings.Settings.{Settings}
 use Rattle.format.proofs.Laws.Said.{room-gave, fill-gave}
-use Rattle.tables.specs.Table.{Table, table, Rows, table_rows}
-use Rattle.tables.specs.Row.{row_at}
+use Rattle.tables.specs.Table.{Table, table, table_rows}
 use Rattle.tables.specs.declared.row.Counts.{Counts}
 use Rattle.entries.specs.Section.{said_section, read_debug_section}
 use Rattle.entries.proofs.section.read_debug_section as read
@@ -27,7 +26,7 @@ use Rattle.links.proofs.children.children as walk
 use Rattle.tree.proofs.Laws.Reach.{reach_in}
 use Rattle.tree.specs.Nest.{depth, parent}
 use Rattle.tree.specs.Tree.{said_listing, places_from, listing_of, tree_tests, list_tree}
-use Rattle.tree.specs.Demand.{key_of, Lies, Overlap, Depth, Parent, IsTree, Listable, Listed, Walked, Called, TreeTheorem}
+use Rattle.tree.specs.Demand.{key_of, Depth, Parent, IsTree, Listable, Called, TreeTheorem}
 use Rattle.tree.proofs.Laws.Ends.{Good, NoneCross, children_in}
 use Rattle.tree.proofs.Laws.Ends as ends
 use Rattle.tree.proofs.Laws.Demanded.{reach-is, reach-named, lies-then, lies-when, depth_is, depth-one, parent_is, children-are}

@@ -14,7 +14,7 @@ overflow_add-result c = omega (arith, c.requires.ready.rows_few, c.requires.here
 
 pub returns-in-Ran : goal.returns-in-Ran
 unfolding attributes
-returns-in-Ran c =     body-read _ c.args.from c.requires c.args.shape _ c.read_run.ensures c.in-Ran.is c.kind_of.ensures c.flags_of.ensures
+returns-in-Ran c = body-read _ c.args.from c.requires c.args.shape _ c.read_run.ensures c.in-Ran.is c.kind_of.ensures c.flags_of.ensures
     c.put_row.ensures
 
 pub returns-in-Unread : goal.returns-in-Unread

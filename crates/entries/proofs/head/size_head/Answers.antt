@@ -11,7 +11,7 @@ pub returns-then-size-lt8 : goal.returns-then-size-lt8
 returns-then-size-lt8 c = size-null _ _ _ _ _ c.requires c.if-size-lt8.true c.null_end.ensures
 
 pub returns-in-Value : goal.returns-in-Value
-returns-in-Value c =     let said = says16 _ _ _ _ (sym c.u16_at.ensures ∙ c.in-Value.is) in
+returns-in-Value c = let said = says16 _ _ _ _ (sym c.u16_at.ensures ∙ c.in-Value.is) in
     let here : c.args.at + 4 + 2 ≤ length c.args.s.now = says-inside said in
     size-tag _ _ _ _ _ c.requires _ c.if-size-lt8.false c.ranges.size.fits (omega arith) c.tag_head.ensures (goes_on _ _ said)
 

@@ -1,5 +1,4 @@
 use Rattle.entries.proofs.Laws.Run.{begin, again, done, ends, short, unknown, value-small, falls}
-use Prim.Native.Nat.{◌-◌}
 use mathlib.Core.Path.{sym, ◌∙◌}
 use Rattle.entries.proofs.run.read_run.Goals as goal
 
@@ -16,14 +15,14 @@ pub loop-place-smaller : goal.loop-place-smaller
 loop-place-smaller c = falls _ _ _ _ _ _ c.loop-place.invariant c.loop-place-test.true (sym c.read_attribute.ensures ∙ c.in-Read.is)
 
 pub loop-place-preserved : goal.loop-place-preserved
-loop-place-preserved c =     again _ _ _ _ _ _ c.loop-place.invariant c.loop-place-test.true (sym c.run_ends.ensures ∙ c.if-run_ends.false)
+loop-place-preserved c = again _ _ _ _ _ _ c.loop-place.invariant c.loop-place-test.true (sym c.run_ends.ensures ∙ c.if-run_ends.false)
     (sym c.read_attribute.ensures ∙ c.in-Read.is) c.put_attr.ensures
 
 pub returns-in-Short : goal.returns-in-Short
-returns-in-Short c =     short _ _ _ _ _ _ c.loop-place.invariant c.loop-place-test.true (sym c.run_ends.ensures ∙ c.if-run_ends.false) (sym c.read_attribute.ensures ∙ c.in-Short.is)
+returns-in-Short c = short _ _ _ _ _ _ c.loop-place.invariant c.loop-place-test.true (sym c.run_ends.ensures ∙ c.if-run_ends.false) (sym c.read_attribute.ensures ∙ c.in-Short.is)
 
 pub returns-in-Unknown : goal.returns-in-Unknown
-returns-in-Unknown c =     unknown _ _ _ _ _ _ c.loop-place.invariant c.loop-place-test.true (sym c.run_ends.ensures ∙ c.if-run_ends.false) (sym c.read_attribute.ensures ∙ c.in-Unknown.is)
+returns-in-Unknown c = unknown _ _ _ _ _ _ c.loop-place.invariant c.loop-place-test.true (sym c.run_ends.ensures ∙ c.if-run_ends.false) (sym c.read_attribute.ensures ∙ c.in-Unknown.is)
 
 pub returns : goal.returns
 returns c = done _ _ _ _ _ _ c.loop-place.invariant c.loop-place-test.false

@@ -7,11 +7,11 @@ pub read_whole-requires : goal.read_whole-requires
 read_whole-requires c = countable-short _ _ _ _ (countable _ _ _ _ c.count_debug_section.ensures c.in-Counted.is)
 
 pub put_units-requires : goal.put_units-requires
-put_units-requires c =     units-fit _ _ _ _ _ _ (countable _ _ _ _ c.count_debug_section.ensures c.in-Counted.is) (sym c.fits_tables.ensures ∙ c.if-fits_tables.true) c.read_whole.ensures
+put_units-requires c = units-fit _ _ _ _ _ _ (countable _ _ _ _ c.count_debug_section.ensures c.in-Counted.is) (sym c.fits_tables.ensures ∙ c.if-fits_tables.true) c.read_whole.ensures
 
 pub returns-then-fits_tables : goal.returns-then-fits_tables
 unfolding said_section
-returns-then-fits_tables c =     read_done _ _ _ _ _ _ (countable _ _ _ _ c.count_debug_section.ensures c.in-Counted.is) (sym c.fits_tables.ensures ∙ c.if-fits_tables.true) c.read_whole.ensures c.put_units.ensures
+returns-then-fits_tables c = read_done _ _ _ _ _ _ (countable _ _ _ _ c.count_debug_section.ensures c.in-Counted.is) (sym c.fits_tables.ensures ∙ c.if-fits_tables.true) c.read_whole.ensures c.put_units.ensures
 
 pub returns-else-fits_tables : goal.returns-else-fits_tables
 unfolding said_section

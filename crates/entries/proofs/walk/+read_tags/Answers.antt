@@ -1,6 +1,6 @@
 use Rattle.entries.proofs.Laws.Walk.{begin, done, again, falls as forward, nested-here, unread-here, inside-ready, inside-near, level_left, again-inside, falls-inside, nested-inside, unread-inside}
 use native.Mathlib.Omega.{arith}
-use Prim.Native.Nat.{◌-◌, ◌<◌}
+use Prim.Native.Nat.{◌<◌}
 use Rattle.entries.proofs.walk.+read_tags.Goals as goal
 
 pub loop-state-init : goal.loop-state-init
@@ -19,7 +19,7 @@ pub overflow_sub-levels : goal.overflow_sub-levels
 overflow_sub-levels t c = level_left _ _ _ _ _ _ _ _ c.loop-state.invariant c.loop-state-test.true c.read_entry.ensures c.in-Inside.is
 
 pub read_tags-requires : goal.read_tags-requires
-read_tags-requires t c =     let left : 0 < c.args.levels = level_left _ _ _ _ _ _ _ _ c.loop-state.invariant c.loop-state-test.true c.read_entry.ensures c.in-Inside.is in
+read_tags-requires t c = let left : 0 < c.args.levels = level_left _ _ _ _ _ _ _ _ c.loop-state.invariant c.loop-state-test.true c.read_entry.ensures c.in-Inside.is in
     (omega (arith, c.decreases), (inside-ready _ _ _ _ _ _ _ _ c.loop-state.invariant c.loop-state-test.true c.read_entry.ensures c.in-Inside.is, inside-near _ _ _ _ _ _ _ _ c.loop-state.invariant c.loop-state-test.true c.read_entry.ensures c.in-Inside.is))
 
 pub loop-state-smaller : goal.loop-state-smaller

@@ -1,4 +1,3 @@
-use Rattle.std.proofs.Common.{◌-◌}
 use Rattle.examples.proofs.values.attributes.Goals as goal
 
 pub loop-k-init : goal.loop-k-init

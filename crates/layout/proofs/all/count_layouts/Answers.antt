@@ -1,5 +1,4 @@
 use Rattle.layout.proofs.Laws.All.{counting-begins, counting-asked, counting-on, counting-ends, told_none, told_more, told-all}
-use Prim.Native.Nat.{◌-◌}
 use mathlib.Core.Path.{refl, ◌∙◌}
 use Rattle.layout.proofs.all.count_layouts.Goals as goal
 

@@ -1,5 +1,4 @@
 use Rattle.layout.proofs.Laws.All.{putting-begins, putting-asked, putting-on, putting-ends}
-use Prim.Native.Nat.{◌-◌}
 use Rattle.layout.proofs.all.put_layouts.Goals as goal
 
 pub loop-i-init : goal.loop-i-init

@@ -1,5 +1,4 @@
 use Rattle.layout.proofs.Laws.Keep.{faulting-begins, faulting-on, faulting-ends}
-use Prim.Native.Nat.{◌-◌}
 use mathlib.Core.Path.{refl, ◌∙◌}
 use Rattle.layout.proofs.keep.keep_faults.Goals as goal
 

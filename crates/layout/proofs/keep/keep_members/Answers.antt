@@ -1,5 +1,4 @@
 use Rattle.layout.proofs.Laws.Keep.{keeping-begins, keeping-on, keeping-ends}
-use Prim.Native.Nat.{◌-◌}
 use mathlib.Core.Path.{refl, ◌∙◌}
 use Rattle.layout.proofs.keep.keep_members.Goals as goal
 

@@ -1,6 +1,5 @@
 use Rattle.layout.proofs.Laws.Levels.{noted-kept, levelling-begins, levelling-on, levelling-settled, levelling-all, levelling-ends}
 use borrow.Author.Rules.{rules}
-use Prim.Native.Nat.{◌-◌}
 use mathlib.Core.Path.{refl}
 use Rattle.layout.proofs.levels.fill_noted.Goals as goal
 

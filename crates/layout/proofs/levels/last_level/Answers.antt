@@ -4,7 +4,6 @@ use Rattle.tables.specs.declared.row.Row.{Row}
 use Rattle.format.specs.Said.{refusal}
 use Rattle.layout.specs.Inside.Levels.{last_level}
 use Rattle.layout.proofs.Laws.Levels.{filled_none, filled_more, filled-all}
-use Prim.Native.Nat.{◌-◌}
 use mathlib.Core.Path.{refl, ap, ◌∙◌}
 use Rattle.layout.proofs.levels.last_level.Goals as goal
 

@@ -1,5 +1,4 @@
 use Rattle.layout.proofs.Laws.Levels.{level-none, level-row, level-whole}
-use Prim.Native.Nat.{◌-◌}
 use mathlib.Core.Path.{refl, ◌∙◌}
 use Rattle.layout.proofs.levels.next_level.Goals as goal
 

@@ -9,9 +9,9 @@ pub lay_structure-requires : goal.lay_structure-requires
 lay_structure-requires c = layout-asked _ _ _ _ _ _ c.requires.0 c.requires.1 c.row_at-row.ensures c.is_structure.ensures (not-false _ c.if-not-is_structure.false-raw)
 
 pub returns-in-Is : goal.returns-in-Is
-returns-in-Is c =     whole-laid _ _ _ _ _ _ _ c.row_at-row.ensures c.is_structure.ensures (not-false _ c.if-not-is_structure.false-raw) c.run_of.ensures c.last_word-own.ensures
+returns-in-Is c = whole-laid _ _ _ _ _ _ _ c.row_at-row.ensures c.is_structure.ensures (not-false _ c.if-not-is_structure.false-raw) c.run_of.ensures c.last_word-own.ensures
     c.is_bounded.ensures c.lay_structure.ensures c.in-Is.is c.size_or_largest.ensures
 
 pub returns-in-Refused : goal.returns-in-Refused
-returns-in-Refused c =     whole-refused _ _ _ _ _ _ _ c.row_at-row.ensures c.is_structure.ensures (not-false _ c.if-not-is_structure.false-raw) c.run_of.ensures c.last_word-own.ensures
+returns-in-Refused c = whole-refused _ _ _ _ _ _ _ c.row_at-row.ensures c.is_structure.ensures (not-false _ c.if-not-is_structure.false-raw) c.run_of.ensures c.last_word-own.ensures
     c.is_bounded.ensures c.lay_structure.ensures c.in-Refused.is

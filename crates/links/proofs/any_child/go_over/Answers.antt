@@ -1,6 +1,5 @@
 use Rattle.links.proofs.Laws.AnyChild.{over-begins, over-end, over-past, over-never, over-on}
 use Rattle.links.specs.Inside.EachChild.{walk_on}
-use Prim.Native.Nat.{◌-◌}
 use Rattle.links.proofs.any_child.go_over.Goals as goal
 
 pub loop-c-init : goal.loop-c-init

@@ -1,5 +1,4 @@
 use Rattle.links.proofs.Laws.Children.{small-turn, walking-begins, gathered-end, gathered-past, gathered-never, walking_on}
-use Prim.Native.Nat.{◌-◌}
 use Rattle.links.proofs.children.walk.Goals as goal
 
 pub loop-c-init : goal.loop-c-init

@@ -1,7 +1,6 @@
 use Rattle.links.proofs.Laws.Link.{next-asked, next_here, next-passed, next-none}
 use borrow.Author.Tests.{not-true, not-false}
 use borrow.Author.Rules.{rules}
-use Prim.Native.Nat.{◌-◌}
 use mathlib.Core.Path.{refl, ◌∙◌}
 use Rattle.links.proofs.link.next_from.Goals as goal
 

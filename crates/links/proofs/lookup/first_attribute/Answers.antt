@@ -1,7 +1,6 @@
 use Rattle.links.proofs.Laws.Attribute.{attr-wanted, attr-unwanted, attr-none}
 use native.Mathlib.Nat.{add-zero, sub-zero}
 use borrow.Author.Rules.{rules}
-use Prim.Native.Nat.{◌-◌}
 use mathlib.Core.Path.{◌∙◌}
 use Rattle.links.proofs.lookup.first_attribute.Goals as goal
 

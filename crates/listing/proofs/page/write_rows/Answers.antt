@@ -1,7 +1,6 @@
 use Rattle.listing.proofs.Laws.Page.{rows-begin, rows-again, rows-done}
 use borrow.Author.Rules.{rules}
 use native.Mathlib.Omega.{arith}
-use Prim.Native.Nat.{◌-◌}
 use Rattle.listing.proofs.page.write_rows.Goals as goal
 
 pub loop-i-init : goal.loop-i-init

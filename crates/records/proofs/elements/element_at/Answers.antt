@@ -2,7 +2,6 @@ use mir.Syntax.{w32}
 use mir.Val.{to_z, of_z}
 use Rattle.records.proofs.Laws.Elements.{element-name, element-value, element-short}
 use borrow.Author.Rules.{rules}
-use Prim.Native.Nat.{◌-◌}
 use mathlib.Core.Path.{◌≡◌}
 use Rattle.records.proofs.elements.element_at.Goals as goal
 

@@ -2,7 +2,6 @@ use Rattle.records.proofs.Laws.Elements.{width-other}
 use Rattle.records.specs.declared.fields.Word.TheVariants as word
 use Rattle.records.specs.Elements.{list_width}
 use Rattle.records.proofs.Laws.Taken.{by-case}
-use Prim.Native.Nat.{◌-◌}
 use mathlib.Core.Path.{refl, ap, ◌∙◌}
 use Rattle.records.proofs.elements.list_width.Goals as goal
 

@@ -1,5 +1,4 @@
 use Rattle.records.proofs.Laws.Elements.{name-there, name-missing}
-use Prim.Native.Nat.{◌-◌}
 use Rattle.records.proofs.elements.name_from.Goals as goal
 
 pub returns-then-zero-block : goal.returns-then-zero-block

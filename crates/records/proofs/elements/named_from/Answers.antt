@@ -3,7 +3,6 @@ use mir.Val.{to_z, of_z}
 use Rattle.attributes.proofs.Laws.Text.{zero-after}
 use Rattle.records.proofs.Laws.Elements.{named-there, named-missing}
 use borrow.Author.Rules.{rules}
-use Prim.Native.Nat.{◌-◌}
 use mathlib.Core.Path.{◌≡◌}
 use Rattle.records.proofs.elements.named_from.Goals as goal
 

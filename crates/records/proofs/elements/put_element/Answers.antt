@@ -3,7 +3,6 @@ use Rattle.records.proofs.Laws.Elements.{put_both, put-value-alone}
 use mir.Syntax.{w32}
 use mir.Val.{to_z, of_z}
 use borrow.Author.Rules.{rules}
-use Prim.Native.Nat.{◌-◌}
 use mathlib.Core.Path.{◌≡◌}
 use Rattle.records.proofs.elements.put_element.Goals as goal
 

@@ -3,7 +3,6 @@ use mir.Val.{to_z, of_z}
 use Rattle.records.proofs.Laws.Elements.{loop-begin, loop-done, loop-missing, name-less, name-again, element-less, element_place, element-count, element-again}
 use borrow.Author.Rules.{rules}
 use native.Mathlib.Omega.{arith}
-use Prim.Native.Nat.{◌-◌}
 use mathlib.Core.Path.{◌≡◌}
 use Rattle.records.proofs.elements.read_list.Goals as goal
 

@@ -1,5 +1,4 @@
 use Rattle.records.proofs.Laws.Elements.{slot-back, slot-none, slot_same}
-use Prim.Native.Nat.{◌-◌}
 use Rattle.records.proofs.elements.slot_of.Goals as goal
 
 pub returns-then-k-slots : goal.returns-then-k-slots

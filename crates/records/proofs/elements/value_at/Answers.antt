@@ -1,5 +1,4 @@
 use Rattle.records.proofs.Laws.Elements.{value-one, value-two, value-four}
-use Prim.Native.Nat.{◌-◌}
 use Rattle.records.proofs.elements.value_at.Goals as goal
 
 pub returns-then-width-eq1 : goal.returns-then-width-eq1

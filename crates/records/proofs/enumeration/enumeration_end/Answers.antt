@@ -4,7 +4,6 @@ use Rattle.format.proofs.Laws.Said.{goes-past}
 use Rattle.records.specs.Inside.Scan.{said_fault}
 use Rattle.records.specs.Inside.Enumeration.{said_enumeration_whole, enumeration_end}
 use Rattle.records.proofs.Laws.Enumeration.{end-clear}
-use Prim.Native.Nat.{◌-◌}
 use Rattle.records.proofs.enumeration.enumeration_end.Goals as goal
 
 pub returns-in-Clear : goal.returns-in-Clear

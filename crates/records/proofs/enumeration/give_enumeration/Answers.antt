@@ -4,7 +4,6 @@ use Rattle.format.proofs.Laws.Said.{goes-in-both}
 use Rattle.records.specs.Enumeration.{said_enumeration_read, enumeration_into}
 use Rattle.records.specs.Inside.Enumeration.{said_enumeration_whole}
 use Rattle.records.proofs.Laws.Enumeration.{given-members, given-room}
-use Prim.Native.Nat.{◌-◌}
 use Rattle.records.proofs.enumeration.give_enumeration.Goals as goal
 
 pub returns-then-found-values : goal.returns-then-found-values

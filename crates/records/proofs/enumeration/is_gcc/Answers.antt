@@ -1,6 +1,5 @@
 use Rattle.records.specs.Enumeration.{is_gcc}
 use Rattle.records.proofs.Laws.Taken.{by-case}
-use Prim.Native.Nat.{◌-◌}
 use mathlib.Core.Path.{refl}
 use Rattle.records.proofs.enumeration.is_gcc.Goals as goal
 

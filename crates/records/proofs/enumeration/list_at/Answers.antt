@@ -2,7 +2,6 @@ use mir.Syntax.{w32}
 use mir.Val.{Fits}
 use Rattle.records.proofs.Laws.Enumeration.{list-is, list-addable, list-clear, list-refused}
 use borrow.Author.Rules.{rules}
-use Prim.Native.Nat.{◌-◌}
 use Rattle.records.proofs.enumeration.list_at.Goals as goal
 
 pub read_list-requires : goal.read_list-requires

@@ -1,5 +1,4 @@
 use Rattle.records.proofs.Laws.Enumeration.{step-last, step-countable, step-list, step-list-refused, step-refused}
-use Prim.Native.Nat.{◌-◌}
 use Rattle.records.proofs.enumeration.list_step.Goals as goal
 
 pub returns-then-at-run : goal.returns-then-at-run

@@ -4,7 +4,6 @@ use Rattle.format.proofs.Laws.Said.{goes-in-both}
 use Rattle.tables.specs.Inside.Keyed.{said_keyed}
 use Rattle.records.specs.Enumeration.{said_enumeration_read, process_enumeration_tag}
 use Rattle.records.proofs.Laws.Enumeration.{tag-asked}
-use Prim.Native.Nat.{◌-◌}
 use Rattle.records.proofs.enumeration.process_enumeration_tag.Goals as goal
 
 pub give_enumeration-requires : goal.give_enumeration-requires

@@ -1,5 +1,4 @@
 use Rattle.records.proofs.Laws.Enumeration.{whole-counted, whole-unread, whole-kind}
-use Prim.Native.Nat.{◌-◌}
 use Rattle.records.proofs.enumeration.read_enumeration.Goals as goal
 
 pub returns-in-Count : goal.returns-in-Count

@@ -1,5 +1,4 @@
 use Rattle.records.proofs.Laws.Enumeration.{lists-begin, lists-stepping, lists-less, lists-again, lists-refused, lists-done}
-use Prim.Native.Nat.{◌-◌}
 use Rattle.records.proofs.enumeration.read_lists.Goals as goal
 
 pub loop-j-init : goal.loop-j-init

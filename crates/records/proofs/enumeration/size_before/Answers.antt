@@ -1,5 +1,4 @@
 use Rattle.records.proofs.Laws.Enumeration.{size-before}
-use Prim.Native.Nat.{◌-◌}
 use Rattle.records.proofs.enumeration.size_before.Goals as goal
 
 pub returns : goal.returns

@@ -1,5 +1,4 @@
 use Rattle.records.proofs.Laws.Fields.{type-last}
-use Prim.Native.Nat.{◌-◌}
 use Rattle.records.proofs.fields.last_type.Goals as goal
 
 pub returns : goal.returns

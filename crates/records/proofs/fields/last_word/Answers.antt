@@ -1,5 +1,4 @@
 use Rattle.records.proofs.Laws.Fields.{word-last}
-use Prim.Native.Nat.{◌-◌}
 use Rattle.records.proofs.fields.last_word.Goals as goal
 
 pub returns : goal.returns

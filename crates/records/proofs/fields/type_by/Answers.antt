@@ -1,6 +1,5 @@
 use Rattle.blocks.specs.Types.{said_typed}
 use Rattle.records.proofs.Laws.Fields.{type-there, type-none}
-use Prim.Native.Nat.{◌-◌}
 use Rattle.records.proofs.fields.type_by.Goals as goal
 
 pub returns-in-At : goal.returns-in-At

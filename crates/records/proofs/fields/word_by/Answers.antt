@@ -1,5 +1,4 @@
 use Rattle.records.proofs.Laws.Fields.{word-there, word_none}
-use Prim.Native.Nat.{◌-◌}
 use Rattle.records.proofs.fields.word_by.Goals as goal
 
 pub returns-in-At : goal.returns-in-At

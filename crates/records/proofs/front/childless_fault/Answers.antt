@@ -1,6 +1,5 @@
 use Rattle.records.specs.Inside.Scan.{said_fault}
 use Rattle.records.proofs.Laws.Front.{childless, has-children, endless-children}
-use Prim.Native.Nat.{◌-◌}
 use Rattle.records.proofs.front.childless_fault.Goals as goal
 
 pub returns-then-met : goal.returns-then-met

@@ -1,6 +1,5 @@
 use Rattle.records.specs.Inside.Scan.{said_fault}
 use Rattle.records.proofs.Laws.Front.{head_clear, head-refused}
-use Prim.Native.Nat.{◌-◌}
 use Rattle.records.proofs.front.head_fault.Goals as goal
 
 pub returns-in-Clear : goal.returns-in-Clear

@@ -1,6 +1,5 @@
 use Rattle.records.specs.Front.{is_mwcc}
 use Rattle.records.proofs.Laws.Taken.{by-case}
-use Prim.Native.Nat.{◌-◌}
 use mathlib.Core.Path.{refl}
 use Rattle.records.proofs.front.is_mwcc.Goals as goal
 

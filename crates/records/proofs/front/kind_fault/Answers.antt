@@ -1,6 +1,5 @@
 use Rattle.records.specs.Inside.Scan.{said_fault}
 use Rattle.records.proofs.Laws.Front.{kind-right, kind-wrong}
-use Prim.Native.Nat.{◌-◌}
 use Rattle.records.proofs.front.kind_fault.Goals as goal
 
 pub returns-then-kind_taken : goal.returns-then-kind_taken

@@ -1,6 +1,5 @@
 use Rattle.records.specs.Front.{kind_taken}
 use Rattle.records.proofs.Laws.Front.{kind-as, variable-kind}
-use Prim.Native.Nat.{◌-◌}
 use mathlib.Core.Path.{refl}
 use Rattle.records.proofs.front.kind_taken.Goals as goal
 

@@ -1,5 +1,4 @@
 use Rattle.records.specs.MemberWords.{bits_flag}
-use Prim.Native.Nat.{◌-◌}
 use mathlib.Core.Path.{sym, ap}
 use Rattle.records.proofs.member_words.bits_flag.Goals as goal
 

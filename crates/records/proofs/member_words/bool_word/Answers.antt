@@ -1,5 +1,4 @@
 use Rattle.records.specs.MemberWords.{bool_word}
-use Prim.Native.Nat.{◌-◌}
 use mathlib.Core.Path.{sym, ap}
 use Rattle.records.proofs.member_words.bool_word.Goals as goal
 

@@ -1,5 +1,4 @@
 use Rattle.records.specs.MemberWords.{kind_tag}
-use Prim.Native.Nat.{◌-◌}
 use mathlib.Core.Path.{sym, ap}
 use Rattle.records.proofs.member_words.kind_tag.Goals as goal
 

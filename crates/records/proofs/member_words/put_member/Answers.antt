@@ -1,5 +1,4 @@
 use Rattle.records.proofs.Laws.MemberWords.{member-put, member-out}
-use Prim.Native.Nat.{◌-◌}
 use Rattle.records.proofs.member_words.put_member.Goals as goal
 
 pub returns-then-k-room : goal.returns-then-k-room

@@ -1,5 +1,4 @@
 use Rattle.records.specs.MemberWords.{visibility_word}
-use Prim.Native.Nat.{◌-◌}
 use mathlib.Core.Path.{sym, ap}
 use Rattle.records.proofs.member_words.visibility_word.Goals as goal
 

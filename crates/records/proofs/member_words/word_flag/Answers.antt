@@ -1,5 +1,4 @@
 use Rattle.records.specs.MemberWords.{word_flag}
-use Prim.Native.Nat.{◌-◌}
 use mathlib.Core.Path.{sym, ap}
 use Rattle.records.proofs.member_words.word_flag.Goals as goal
 

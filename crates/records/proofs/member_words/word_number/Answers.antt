@@ -1,5 +1,4 @@
 use Rattle.records.specs.MemberWords.{word_number}
-use Prim.Native.Nat.{◌-◌}
 use mathlib.Core.Path.{sym, ap}
 use Rattle.records.proofs.member_words.word_number.Goals as goal
 

@@ -1,5 +1,4 @@
 use Rattle.records.proofs.Laws.Scan.{attribute-read}
-use Prim.Native.Nat.{◌-◌}
 use Rattle.records.proofs.scan.attribute_at.Goals as goal
 
 pub returns : goal.returns

@@ -1,6 +1,5 @@
 use Rattle.records.specs.Inside.Scan.{said_fault}
 use Rattle.records.proofs.Laws.Scan.{all-clear, all-refused}
-use Prim.Native.Nat.{◌-◌}
 use Rattle.records.proofs.scan.attributes_fault.Goals as goal
 
 pub returns-in-Stop : goal.returns-in-Stop

@@ -3,7 +3,6 @@ use Rattle.records.specs.Scan.{fault_of, content_fault}
 use Rattle.records.specs.Inside.Scan.{said_fault}
 use Rattle.records.proofs.Laws.Scan.{location-in}
 use Rattle.records.proofs.Laws.Taken.{test-passed, test-failed}
-use Prim.Native.Nat.{◌-◌}
 use mathlib.Core.Path.{refl, ap, ◌∙◌}
 use Rattle.records.proofs.scan.content_fault.Goals as goal
 

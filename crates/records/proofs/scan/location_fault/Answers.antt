@@ -1,6 +1,5 @@
 use Rattle.records.proofs.Laws.Scan.{location-as}
 use Rattle.records.specs.Scan.{location_of, fault_of}
-use Prim.Native.Nat.{◌-◌}
 use mathlib.Core.Path.{ap, ◌∙◌}
 use Rattle.records.proofs.scan.location_fault.Goals as goal
 

@@ -1,5 +1,4 @@
 use Rattle.records.proofs.Laws.Scan.{run-read}
-use Prim.Native.Nat.{◌-◌}
 use Rattle.records.proofs.scan.run_of.Goals as goal
 
 pub returns : goal.returns

@@ -1,6 +1,5 @@
 use Rattle.records.proofs.Laws.Scan.{scan-own, scan-clear, scan-fault, scan-end}
 use Rattle.records.specs.Inside.Scan.{said_scan}
-use Prim.Native.Nat.{◌-◌}
 use mathlib.Core.Path.{refl, ◌∙◌}
 use Rattle.records.proofs.scan.scan_from.Goals as goal
 

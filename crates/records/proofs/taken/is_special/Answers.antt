@@ -1,6 +1,5 @@
 use Rattle.records.proofs.Laws.Taken.{special-as}
 use Rattle.records.specs.Taken.{special}
-use Prim.Native.Nat.{◌-◌}
 use mathlib.Core.Path.{refl}
 use Rattle.records.proofs.taken.is_special.Goals as goal
 

@@ -1,6 +1,5 @@
 use Rattle.records.proofs.Laws.Taken.{taken_as}
 use Rattle.records.specs.Taken.{taken_by}
-use Prim.Native.Nat.{◌-◌}
 use Rattle.records.proofs.taken.is_taken.Goals as goal
 
 pub returns-in-Member : goal.returns-in-Member

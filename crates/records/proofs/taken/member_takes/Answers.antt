@@ -1,7 +1,7 @@
 use Rattle.format.specs.Lookup.{is_on}
 use Rattle.records.specs.Taken.{taken_by}
 use Rattle.records.specs.declared.taken.Record.TheVariants.{Member}
-use Prim.Native.Nat.{ℕ, ◌-◌}
+use Prim.Native.Nat.{ℕ}
 use mathlib.Core.Bool.{Bool}
 use mathlib.Core.Path.{sym, ap}
 use Rattle.records.proofs.taken.member_takes.Goals as goal

@@ -1,6 +1,5 @@
 use Rattle.records.proofs.Laws.Taken.{role-as, either}
 use Rattle.records.specs.Taken.{role_taken}
-use Prim.Native.Nat.{◌-◌}
 use Rattle.records.proofs.taken.role_taken.Goals as goal
 
 pub returns-in-Variable : goal.returns-in-Variable

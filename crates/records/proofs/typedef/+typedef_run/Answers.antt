@@ -2,7 +2,7 @@ use Rattle.records.specs.Typedef.{said_typedef_read}
 use Rattle.records.proofs.Laws.Typedef.{begin, done, ended, refused-here, level_left, row-asked, place-there, forward, again, refused-below}
 use borrow.Author.Rules.{rules}
 use native.Mathlib.Omega.{arith}
-use Prim.Native.Nat.{◌-◌, ◌<◌}
+use Prim.Native.Nat.{◌<◌}
 use Rattle.records.proofs.typedef.+typedef_run.Goals as goal
 
 pub loop-j-init : goal.loop-j-init
@@ -15,11 +15,11 @@ pub overflow_sub-levels : goal.overflow_sub-levels
 overflow_sub-levels t c = level_left _ _ _ _ _ _ _ _ c.loop-j.invariant c.pause_from.ensures c.in-At.is
 
 pub typedef_run-requires : goal.typedef_run-requires
-typedef_run-requires t c =     let more : 0 < c.args.levels = level_left _ _ _ _ _ _ _ _ c.loop-j.invariant c.pause_from.ensures c.in-At.is in
+typedef_run-requires t c = let more : 0 < c.args.levels = level_left _ _ _ _ _ _ _ _ c.loop-j.invariant c.pause_from.ensures c.in-At.is in
     (omega (arith, c.decreases), row-asked _ _ _ _ _ _ _ _ c.loop-j.invariant c.pause_from.ensures c.in-At.is c.requires.table)
 
 pub overflow_add-j : goal.overflow_add-j
-overflow_add-j t c =     let less : c.in-At.at < c.run_of-run.result.count = place-there _ _ _ _ _ _ _ _ c.loop-j.invariant c.pause_from.ensures c.in-At.is in
+overflow_add-j t c = let less : c.in-At.at < c.run_of-run.result.count = place-there _ _ _ _ _ _ _ _ c.loop-j.invariant c.pause_from.ensures c.in-At.is in
     search rules
 
 pub loop-j-smaller-in-Is : goal.loop-j-smaller-in-Is

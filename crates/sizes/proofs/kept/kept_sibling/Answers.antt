@@ -1,5 +1,4 @@
 use Rattle.sizes.proofs.Laws.Kept.{sibling-kept, sibling-there}
-use Prim.Native.Nat.{◌-◌}
 use Rattle.sizes.proofs.kept.kept_sibling.Goals as goal
 
 pub sibling_row-requires : goal.sibling_row-requires

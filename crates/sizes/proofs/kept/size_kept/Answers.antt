@@ -1,5 +1,4 @@
 use Rattle.sizes.proofs.Laws.Kept.{size-given, size-noted, size-refused}
-use Prim.Native.Nat.{◌-◌}
 use Rattle.sizes.proofs.kept.size_kept.Goals as goal
 
 pub returns-in-Is : goal.returns-in-Is

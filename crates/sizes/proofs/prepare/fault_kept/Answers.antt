@@ -4,7 +4,6 @@ use Rattle.records.specs.Inside.Scan.{said_fault}
 use Rattle.sizes.specs.Size.{said_sized}
 use Rattle.sizes.specs.Inside.Kept.{size_fault, fault_kept}
 use mathlib.Core.Path.{refl}
-use Prim.Native.Nat.{◌-◌}
 use Rattle.sizes.proofs.prepare.fault_kept.Goals as goal
 
 pub returns-in-Is : goal.returns-in-Is

@@ -1,5 +1,4 @@
 use Rattle.sizes.proofs.Laws.Kept.{structure-fault-kept}
-use Prim.Native.Nat.{◌-◌}
 use Rattle.sizes.proofs.prepare.kept_fault.Goals as goal
 
 pub structure_fault-requires : goal.structure_fault-requires

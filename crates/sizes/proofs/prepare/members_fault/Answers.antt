@@ -2,7 +2,6 @@ use Rattle.sizes.proofs.Laws.Prepare.{members_on, members-refused, members-none}
 use Rattle.sizes.proofs.Laws.Walking.{walking-begins, walking-ends, walking-asked, walking-stops, walking-ending, walking-less, walking_on}
 use Rattle.links.proofs.Laws.EachChild.{ends_at}
 use Rattle.records.specs.Inside.Scan.{said_fault}
-use Prim.Native.Nat.{◌-◌}
 use mathlib.Core.Path.{◌∙◌}
 use Rattle.sizes.proofs.prepare.members_fault.Goals as goal
 

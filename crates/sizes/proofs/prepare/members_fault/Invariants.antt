@@ -1,7 +1,6 @@
 use Rattle.sizes.proofs.Laws.Walking.{Walking}
 use Rattle.sizes.specs.Inside.Prepare.{members_fault}
 use Rattle.links.specs.Inside.EachChild.{children_from, children_at}
-use Prim.Native.Nat.{◌-◌}
 use lib.ListN.{length}
 use Rattle.sizes.proofs.prepare.members_fault.Given as goal
 

@@ -1,6 +1,5 @@
 use Rattle.sizes.proofs.Laws.Prepare.{preparing-begins, preparing-past, preparing-on, preparing-refused, preparing-ends}
 use Rattle.sizes.specs.Inside.Prepare.{said_prepared}
-use Prim.Native.Nat.{◌-◌}
 use Rattle.sizes.proofs.prepare.prepare_array.Goals as goal
 
 pub loop-j-init : goal.loop-j-init

@@ -3,7 +3,6 @@ use Rattle.format.proofs.Laws.Said.{goes_on}
 use Rattle.records.specs.Inside.Enumeration.{said_enumeration_whole}
 use Rattle.sizes.specs.Inside.Prepare.{said_prepared, prepared_enumeration}
 use mathlib.Core.Path.{refl}
-use Prim.Native.Nat.{◌-◌}
 use Rattle.sizes.proofs.prepare.prepare_enumeration.Goals as goal
 
 pub returns-in-Is : goal.returns-in-Is

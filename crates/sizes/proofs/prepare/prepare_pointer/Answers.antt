@@ -3,7 +3,6 @@ use Rattle.format.proofs.Laws.Said.{goes-past}
 use Rattle.records.specs.PtrToMember.{said_ptr_to_member_read}
 use Rattle.sizes.specs.Inside.Prepare.{said_prepared, prepared_pointer}
 use mathlib.Core.Path.{refl}
-use Prim.Native.Nat.{◌-◌}
 use Rattle.sizes.proofs.prepare.prepare_pointer.Goals as goal
 
 pub returns-in-Is : goal.returns-in-Is

@@ -1,7 +1,6 @@
 use Rattle.sizes.proofs.Laws.Kept.{shape-structure}
 use Rattle.sizes.proofs.Laws.Prepare.{row-shape, row-array, row_other}
 use Rattle.sizes.specs.Inside.Prepare.{said_prepared, prepared_shape}
-use Prim.Native.Nat.{◌-◌}
 use mathlib.Core.Path.{refl}
 use Rattle.sizes.proofs.prepare.prepare_row.Goals as goal
 

@@ -1,6 +1,5 @@
 use Rattle.sizes.proofs.Laws.Prepare.{structure-size, structure-ends, structure-refused}
 use Rattle.sizes.specs.Inside.Prepare.{said_prepared}
-use Prim.Native.Nat.{◌-◌}
 use Rattle.sizes.proofs.prepare.prepare_structure.Goals as goal
 
 pub returns-in-Is : goal.returns-in-Is

@@ -3,7 +3,6 @@ use Rattle.format.proofs.Laws.Said.{goes_on}
 use Rattle.records.specs.Inside.Unions.{said_union_whole}
 use Rattle.sizes.specs.Inside.Prepare.{said_prepared, prepared_union}
 use mathlib.Core.Path.{refl}
-use Prim.Native.Nat.{◌-◌}
 use Rattle.sizes.proofs.prepare.prepare_union.Goals as goal
 
 pub returns-in-Is : goal.returns-in-Is

@@ -1,7 +1,6 @@
 use Rattle.sizes.specs.declared.prepare.Shape.TheVariants.{Other}
 use Rattle.sizes.specs.Size.{shapes, shape_of}
 use Rattle.format.specs.Lookup.{lookup}
-use Prim.Native.Nat.{◌-◌}
 use mathlib.Core.Path.{sym, ap}
 use Rattle.sizes.proofs.prepare.shape_of.Goals as goal
 

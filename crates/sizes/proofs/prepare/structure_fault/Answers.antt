@@ -1,7 +1,6 @@
 use Rattle.sizes.proofs.Laws.Prepare.{structure-walked, structure-endless}
 use Rattle.records.proofs.Laws.Unions.{members-ending}
 use Rattle.records.specs.Inside.Scan.{said_fault}
-use Prim.Native.Nat.{◌-◌}
 use Rattle.sizes.proofs.prepare.structure_fault.Goals as goal
 
 pub members_fault-requires : goal.members_fault-requires

@@ -1,5 +1,4 @@
 use Rattle.sizes.proofs.Laws.Prepare.{block-is}
-use Prim.Native.Nat.{◌-◌}
 use Rattle.sizes.proofs.prepare.subscript_block.Goals as goal
 
 pub returns : goal.returns

@@ -1,6 +1,5 @@
 use Rattle.sizes.proofs.Laws.Product.{begin, product-done, dimension-inside, dimension-less, again-dimension, product-big, element-inside, element-less, again-element, product-refused}
 use Rattle.sizes.specs.Size.{said_sized}
-use Prim.Native.Nat.{◌-◌}
 use Rattle.sizes.proofs.product.product_of.Goals as goal
 
 pub loop-rest-init : goal.loop-rest-init

@@ -1,5 +1,4 @@
 use Rattle.sizes.proofs.Laws.Product.{Left}
-use Prim.Native.Nat.{◌-◌}
 use lib.ListN.{length}
 use Rattle.sizes.proofs.product.product_of.Given as goal
 

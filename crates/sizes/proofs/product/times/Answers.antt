@@ -1,7 +1,6 @@
 use Rattle.sizes.proofs.Laws.Product.{product-fits, times-is, times-big}
 use Rattle.sizes.specs.Size.{said_sized}
 use borrow.Author.Rules.{rules}
-use Prim.Native.Nat.{◌-◌}
 use Rattle.sizes.proofs.product.times.Goals as goal
 
 pub overflow_mul-product : goal.overflow_mul-product

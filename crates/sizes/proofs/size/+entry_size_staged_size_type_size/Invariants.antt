@@ -15,7 +15,7 @@ abbrev pub decreases-entry_size : goal.decreases-entry_size
 decreases-entry_size l = 3 * l.levels
 
 abbrev pub invariant-staged_size-loop-wait : goal.invariant-staged_size-loop-wait
-invariant-staged_size-loop-wait l =     Waiting l.settings l.s l.rows l.attrs l.n l.i (type_size l.settings l.sizes (lent_rows l.settings.endian l.s l.rows l.attrs l.n) l.levels) l.wait
+invariant-staged_size-loop-wait l = Waiting l.settings l.s l.rows l.attrs l.n l.i (type_size l.settings l.sizes (lent_rows l.settings.endian l.s l.rows l.attrs l.n) l.levels) l.wait
 
 abbrev pub decreases-staged_size-loop-wait : goal.decreases-staged_size-loop-wait
 decreases-staged_size-loop-wait l = wait_turns l.settings l.s l.rows l.attrs l.n l.i l.wait

@@ -1,7 +1,6 @@
 use Rattle.tree.proofs.Laws.Chain.{fault-begin, fault-back, fault-all}
 use native.Mathlib.Nat.{le_refl}
 use native.Mathlib.Omega.{arith}
-use Prim.Native.Nat.{◌-◌}
 use Rattle.tree.proofs.fault.first_fault.Goals as goal
 
 pub loop-i-init : goal.loop-i-init

@@ -1,6 +1,5 @@
 use Rattle.tree.proofs.Laws.Chain.{along-begin, along-blocked, along-bad, along-past, along-next, along-end}
 use native.Mathlib.Omega.{arith}
-use Prim.Native.Nat.{◌-◌}
 use Rattle.tree.proofs.fault.first_further.Goals as goal
 
 pub overflow_add-c : goal.overflow_add-c
@@ -19,15 +18,15 @@ end_of-next-requires c = record {
 }
 
 pub returns-then-next-c : goal.returns-then-next-c
-returns-then-next-c c =     along-bad c.loop-c.invariant c.loop-c-test.true
+returns-then-next-c c = along-bad c.loop-c.invariant c.loop-c-test.true
     c.end_of-next.ensures c.if-b-c.false c.if-next-c.true
 
 pub returns-then-end-next : goal.returns-then-end-next
-returns-then-end-next c =     along-past c.loop-c.invariant c.loop-c-test.true
+returns-then-end-next c = along-past c.loop-c.invariant c.loop-c-test.true
     c.end_of-next.ensures c.if-b-c.false c.if-next-c.false c.if-end-next.true
 
 pub loop-c-preserved : goal.loop-c-preserved
-loop-c-preserved c =     along-next c.loop-c.invariant c.loop-c-test.true
+loop-c-preserved c = along-next c.loop-c.invariant c.loop-c-test.true
     c.end_of-next.ensures c.if-b-c.false c.if-next-c.false c.if-end-next.false
 
 pub returns : goal.returns

@@ -1,6 +1,5 @@
 use Rattle.tree.proofs.Laws.Tree.{erased-begin, erased-here, erased-not, erased-none}
 use borrow.Author.Rules.{rules}
-use Prim.Native.Nat.{◌-◌}
 use mathlib.Core.Path.{◌∙◌}
 use Rattle.tree.proofs.listing.first_erased.Goals as goal
 

@@ -1,7 +1,6 @@
 use Rattle.tree.proofs.Laws.Reach.{reach-within}
 use Rattle.tree.proofs.Laws.Stack.{pass-begin, pass-done, pass-deep, pass-next}
 use native.Mathlib.Omega.{arith}
-use Prim.Native.Nat.{◌-◌}
 use mathlib.Core.Path.{refl}
 use Rattle.tree.proofs.pass.list_rows.Goals as goal
 
