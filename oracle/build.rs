@@ -15,7 +15,7 @@ fn path(variable: &str) -> Option<PathBuf> {
 /// Our archive is for x86-64 unless one is named; only `compare`, `bench` and `calls` need it.
 fn link_archive(named: Option<PathBuf>, root: &Path) {
     let here = env::var("CARGO_CFG_TARGET_ARCH").unwrap() == "x86_64" || named.is_some();
-    let archive = named.unwrap_or_else(|| root.join("../target/staticlib/libexports.a"));
+    let archive = named.unwrap_or_else(|| root.join("../crates/exports/out/libexports.a"));
     println!("cargo:rerun-if-changed={}", archive.display());
     let name = archive.file_stem().and_then(|n| n.to_str()).and_then(|n| n.strip_prefix("lib"));
     if let Some(name) = name.filter(|_| here && archive.exists()) {

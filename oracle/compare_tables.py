@@ -12,9 +12,9 @@ TABLES, EXPECTED = 'oracle/dwarf1_tables.tsv', 'oracle/differences.txt'
 CLASSES = [('tag', 'TagKind', 'TAG_'), ('attribute', 'AttributeKind', 'AT_'), ('fundamental_type', 'FundType', 'FT_'), ('form', 'FormKind', 'FORM_'),
            ('modifier', 'Modifier', 'MOD_'), ('location_atom', 'LocationOp', 'OP_'), ('subscript_format', 'SubscriptFormat', 'FMT_')]
 # class of the tables, the file of `standard`, what names a number there: a list's name, or a pattern
-STANDARD = [('tag', 'Numbers', 'tags'), ('attribute', 'Numbers', 'attributes'), ('fundamental_type', 'Numbers', 'fundamentalTypes'),
-            ('form', 'Numbers', r'^formNumber \w+ = (\d+)$'), ('modifier', 'Types', r'^modifierByte [\w-]+ = (\d+)$'),
-            ('location_atom', 'Locations', r'^writtenAtom e \(?\w+(?: n\))? = (\d+) ∷')]
+STANDARD = [('tag', 'Numbers', 'tags'), ('attribute', 'Numbers', 'attributes'), ('fundamental_type', 'Numbers', 'fundamental_types'),
+            ('form', 'Numbers', r'^form_number \w+ = (\d+)$'), ('modifier', 'Types', r'^modifier_byte [\w-]+ = (\d+)$'),
+            ('location_atom', 'Locations', r'^written_atom e \(?\w+(?: n\))? = (\d+) ∷')]
 
 
 def source(path):
@@ -25,7 +25,7 @@ def ours(name):
     text = source(f'format/specs/{name}')
     found = {int(v, 16): n for n, v in re.findall(r'(?m)^(\w+) = (0x[0-9a-f]+)$', text)}
     found.update({int(v, 16): n for v, n in re.findall(r'(0x[0-9a-f]+) means (\w+)', text)})
-    for block in re.findall(r'(?m)^alsoKnown =\n((?:    .*\n)+)', text):
+    for block in re.findall(r'(?m)^also_known =\n((?:    .*\n)+)', text):
         found.update({int(v, 16): '' for v in re.findall(r'0x[0-9a-f]+', block)})
     return found
 
@@ -36,7 +36,8 @@ def theirs(kind):
 
 
 def plain(name, prefix=''):
-    return name.removeprefix(prefix).replace('_', '').lower()
+    # antt has the word `module` for itself
+    return name.replace('module_tag', 'module').removeprefix(prefix).replace('_', '').lower()
 
 
 def compared():

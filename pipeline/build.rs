@@ -1,4 +1,4 @@
-//! Links the archive: `CAPBEACON_LIB`, or the one that `rt staticlib exports` leaves in the repository's target folder.
+//! Links the archive: `CAPBEACON_LIB`, or the one that `rt lib` leaves in crates/exports/out.
 use std::{env, path::PathBuf};
 
 fn main() {
@@ -10,9 +10,9 @@ fn main() {
         return;
     }
     let root = PathBuf::from(env::var("CARGO_MANIFEST_DIR").unwrap()).join("..");
-    let archive = named.map_or_else(|| root.join("target/staticlib/libexports.a"), PathBuf::from);
+    let archive = named.map_or_else(|| root.join("crates/exports/out/libexports.a"), PathBuf::from);
     println!("cargo:rerun-if-changed={}", archive.display());
-    assert!(archive.is_file(), "no archive {}: make it with `rt staticlib exports`", archive.display());
+    assert!(archive.is_file(), "no archive {}: make it with `rt lib` in crates/exports", archive.display());
     let name = archive.file_stem().and_then(|n| n.to_str()).and_then(|n| n.strip_prefix("lib"));
     println!("cargo:rustc-link-search=native={}", archive.parent().unwrap().display());
     println!("cargo:rustc-link-lib=static={}", name.expect("an archive's name is libNAME.a"));

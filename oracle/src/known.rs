@@ -29,10 +29,10 @@ pub fn vendors() -> Vec<u16> {
     (0..=u16::MAX).filter(|n| known(n) && !NAMED.contains(n)).collect()
 }
 
-/// The vendor list that the definitions have, `mwVendors` of the crate `format`.
+/// The vendor list that the definitions have, `mw_vendors` of the crate `format`.
 pub fn preset_vendors() -> Vec<u16> {
     let text = include_str!("../../crates/format/specs/Presets.antt");
     let list =
-        text.split("\nmwVendors =").nth(1).and_then(|rest| rest.split("[]").next()).expect("mwVendors");
+        text.split("\nmw_vendors =").nth(1).and_then(|rest| rest.split("[]").next()).expect("mw_vendors");
     list.split("0x").skip(1).map(|n| u16::from_str_radix(&n[..4], 16).expect("a number")).collect()
 }

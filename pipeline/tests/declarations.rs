@@ -50,7 +50,7 @@ fn functions_are_those_of_the_archive() {
     let mut theirs = Vec::new();
     for file in fs::read_dir(below("../crates/exports/src")).unwrap() {
         let source = text(file.unwrap().path());
-        assert_eq!(source.matches("#[no_mangle]").count(), functions(&source).len());
+        assert_eq!(source.matches("#[unsafe(no_mangle)]").count(), functions(&source).len());
         assert_eq!(source.matches("pub extern \"C\" fn").count(), functions(&source).len());
         theirs.extend(functions(&source));
     }
@@ -125,9 +125,9 @@ fn presets_are_those_of_the_definitions() {
             })
             .collect()
     };
-    assert_eq!(list(&presets, "mwVendors"), constant("MW_VENDORS"));
-    assert_eq!(list(&presets, "rustSizes other"), constant("SIZES"));
-    let roles = presets.split("\nmwRoles =").nth(1).and_then(|rest| rest.lines().next()).expect("mwRoles");
+    assert_eq!(list(&presets, "mw_vendors"), constant("MW_VENDORS"));
+    assert_eq!(list(&presets, "rust_sizes other"), constant("SIZES"));
+    let roles = presets.split("\nmw_roles =").nth(1).and_then(|rest| rest.lines().next()).expect("mw_roles");
     let roles: Vec<u32> =
         roles.split("0x").skip(1).map(|n| u32::from_str_radix(&n[..4], 16).expect("a number")).collect();
     assert_eq!(roles, constant("MW_ROLES"));
