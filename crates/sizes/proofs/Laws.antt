@@ -1,12 +1,14 @@
 -- Laws. `Product` to `Stay`: for each way that the code comes to an answer. `Never`: no size is refused by 14. `Back` and `Only`: no
--- second answer fits.
+-- second answer fits. `PrepareCounted`: of callers that count children. `SizeNoted`: of sizes that may be noted.
 pub mod Product
 pub mod Walking
 pub mod Prepare
+pub mod PrepareCounted
 pub mod Ends
 pub mod Noted
 pub mod Kept
 pub mod Size
+pub mod SizeNoted
 pub mod Stage
 pub mod Stay
 pub mod Never
