@@ -6,19 +6,15 @@ ghost use Rattle.digits.specs.Put.{Put};
 use crate::digit::write_digits;
 
 // How many digits a number has.
+#[tactic(auto, using(crate::proofs::Laws::Digits::widths))]
 fn decimal_width(v: u64) -> usize
     ensures { result ≡ decimal_width v }
 {
-    let mut w = 1;
-    let mut left = v;
-    while left >= 10 {
-        left = left / 10;
-        w += 1;
-    }
-    w
+    v.checked_ilog10().map_or(1, |d| d as usize + 1)
 }
 
 // Writes v with no zeros in front at the beginning of a line's rest, and answers how many bytes the field has.
+#[tactic(auto, using(crate::proofs::Laws::Digits::fields))]
 pub fn write_decimal(rest: &mut [u8], v: u64) -> usize
     ensures { Put (decimal_text v) 0 result rest.old rest.new }
 {

@@ -4,9 +4,10 @@ ghost use Rattle.std.proofs.lemmas.List.Edits.{sets};
 ghost use Rattle.digits.specs.Digits.{digits};
 ghost use Rattle.digits.specs.Digits.{glyph as Digits·glyph};
 
-use lent::bytes::put_byte;
+use lent::cells::put;
 
 // The letter of a digit.
+#[tactic(auto, unfolding(crate::specs::Digits::glyph))]
 fn glyph(d: u64) -> u8
     requires { d < 16 }
     ensures { result ≡ Digits·glyph d }
@@ -15,15 +16,14 @@ fn glyph(d: u64) -> u8
 }
 
 // Writes the last w digits of v at the beginning of a line's rest, from the last to the first.
+#[tactic(auto, using(crate::proofs::Laws::Digits::by_digit))]
 pub(crate) fn write_digits(rest: &mut [u8], base: u64, w: usize, v: u64)
     requires { (0 < base) × (base ≤ 16) }
     ensures { rest.new ≡ sets rest.old 0 (digits base w v) }
 {
-    let mut i = w;
     let mut left = v;
-    while i > 0 {
-        i -= 1;
-        put_byte(rest, i, glyph(left % base));
+    for i in (0..w).rev() {
+        put(rest, i, glyph(left % base));
         left = left / base;
     }
 }

@@ -1,5 +1,5 @@
-// Numbers as words for people: hexadecimal and decimal fields, and fixed words, each written at the beginning of a line's rest. What they are: specs/Digits.antt and
-// specs/Put.antt.
+// Numbers as words for people: hexadecimal and decimal fields, and fixed words, each written at the beginning of a line's rest. What they are:
+// specs/Digits.antt and specs/Put.antt.
 #![tactic(auto)]
 
 pub mod decimal;

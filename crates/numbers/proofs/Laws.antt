@@ -1,5 +1,6 @@
 -- Laws. `Value`, `Signed`, `Read`, `Prefix`: what the code computes. `Append`: bytes behind and in front of a section. `Stands`: bytes that stand at a
--- place. `Written`: what is written is read, and the other way round. `Tests`: truth values, for every crate. `Only`: no second answer fits.
+-- place. `Written`: what is written is read, and the other way round. `Widths`: the contract of `number_at` at each type. `Tests`: truth values, for every
+-- crate. `Only`: no second answer fits.
 pub mod Prefix
 pub mod Signed
 pub mod Tests
@@ -9,3 +10,4 @@ pub mod Value
 pub mod Only
 pub mod Stands
 pub mod Written
+pub mod Widths

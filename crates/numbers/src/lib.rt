@@ -2,9 +2,8 @@
 // `util::reader`. Every public function answers on every slice and at every place. The meaning stands in specs/Value.antt and specs/Prefix.antt.
 #![tactic(auto)]
 
+pub mod number;
 pub mod prefix;
-pub mod signed;
-pub mod unsigned;
 
 // Which of a number's bytes comes first: the one that counts most, or the one that counts least.
 #[derive(Clone, Copy)]

@@ -1,6 +1,6 @@
 -- What follows from `Digits`: how long the fields are, and how the code comes by them.
-use Prim.Native.Nat.{ℕ, zero, suc, ◌+◌, ◌-◌, ◌/◌, ◌%◌, ◌^◌, ◌≤◌, ◌<◌}
-use native.Mathlib.Nat.{not-suc-le-zero, pow-suc, div-lt_iff_lt-mul}
+use Prim.Native.Nat.{ℕ, zero, suc, ◌+◌, ◌-◌, ◌*◌, ◌/◌, ◌%◌, ◌^◌, ◌≤◌, ◌<◌}
+use native.Mathlib.Nat.{not-suc-le-zero, pow-suc, mod-lt, div-lt_iff_lt-mul}
 use native.Mathlib.Omega.{arith}
 use mathlib.Core.Path.{◌≡◌, refl, sym, ap, subst, ◌∙◌}
 use mathlib.Core.List.{List, [], ◌∷◌}
@@ -35,6 +35,9 @@ pub digits-none : (l : List ℕ) (b i v : ℕ) → i ≤ 0 → sets l 0 (digits 
 unfolding digits
 digits-none l b zero v h = refl
 digits-none l b (suc i) v h = absurd (not-suc-le-zero h)
+
+-- what the loop that stores digits stands on
+pub ruleset by_digit = (digits_last, digits-none, mod-lt)
 
 pub glyph-low : (d : ℕ) → d < 10 → 48 + d ≡ glyph d
 unfolding glyph
@@ -78,6 +81,23 @@ unfolding decimal_width
 decimal-more zero h = absurd (not-suc-le-zero h)
 decimal-more (suc v) h = width-more v (suc v) h ∙ ap suc (width_same v (suc v / 10) (suc v / 10) (omega arith) (omega arith))
 
+ten_pos : (k : ℕ) → 0 < 10 ^ k
+ten_pos zero = omega arith
+ten_pos (suc k) = rw (pow-suc 10 k) (omega (arith, ten_pos k))
+
+-- the digits are one more than the whole logarithm
+pub decimal-log : (k v : ℕ) → 10 ^ k ≤ v → v < 10 * 10 ^ k → decimal_width v ≡ k + 1
+decimal-log zero v p q = decimal-one v (omega arith)
+decimal-log (suc k) v p q =
+    let more : 10 ^ suc k ≡ 10 ^ k * 10 = pow-suc 10 k in
+    decimal-more v (omega (arith, ten_pos k)) ∙ ap suc (decimal-log k (v / 10) (omega arith) (omega arith)) ∙ omega arith
+
+pub decimal-none : decimal_width 0 ≡ 1
+decimal-none = decimal-one 0 (omega arith)
+
+-- what counting the digits stands on
+pub ruleset widths = (decimal-log, decimal-none)
+
 -- a number below 10 ^ k has at most k digits
 width-bound : (k f v : ℕ) → v < 10 ^ suc k → width_from f v ≤ suc k
 width-bound k zero v h = omega (arith, width-none v)
@@ -93,6 +113,9 @@ unfolding decimal_width
 decimal-bound k v h = width-bound k v v h
 
 -- ---- the fields
+
+-- what a field's length stands on
+pub ruleset fields = (digits-length)
 
 pub digits-put : (b w v : ℕ) {l m : List ℕ} → m ≡ sets l 0 (digits b w v) → Put (digits b w v) 0 w l m
 digits-put b w v e = record { place_is = omega (arith, digits-length b w v); bytes_are = e }

@@ -7,7 +7,8 @@ use lib.ListN.{length, take, drop}
 use lib.Seq.{sets, sets-eq, take_at, drop_at}
 use Rattle.lent.specs.Filled.{Filled}
 
-module _ {E : Type 0} (words : List E) (n : ℕ) (room : List E) {room' : List E} (many : length words ≡ n) (fits : n ≤ length room) (stored : room' ≡ sets room 0 words) where
+module _ {E : Type 0} (words : List E) (n : ℕ) (room : List E) {room' : List E} (many : length words ≡ n) (fits : n ≤ length room)
+    (stored : room' ≡ sets room 0 words) where
   whole : room' ≡ words ++ drop n room
   whole =
       let short : 0 + length words ≤ length room = omega arith in

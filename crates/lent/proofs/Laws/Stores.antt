@@ -80,26 +80,28 @@ sets-rest l n xs {part} p =
 
 -- ---- the loop that stores words: what is left to store comes to the whole
 
-pub record Storing (t₀ : List ℕ) (at : ℕ) (words t : List ℕ) (i : ℕ) : Type 0 where
+pub record Storing {A : Type 0} (t₀ : List A) (at : ℕ) (words t : List A) (i : ℕ) : Type 0 where
   pub same_length : length t ≡ length t₀
   pub left : sets t (at + i) (drop i words) ≡ sets t₀ at words
 
-pub storing-begins : (t : List ℕ) (at : ℕ) (words : List ℕ) → Storing t at words t 0
+pub storing-begins : {A : Type 0} (t : List A) (at : ℕ) (words : List A) → Storing t at words t 0
 storing-begins t at words = record { same_length = refl; left = ap (λ (k : ℕ). sets t k words) (add-zero at) }
 
-module _ {t₀ : List ℕ} {at : ℕ} {words t : List ℕ} {i : ℕ} (w : Storing t₀ at words t i) where
-  pub storing-on : {t' : List ℕ} → i < length words → t' ≡ set t (at + i) (get_or words i 0) → Storing t₀ at words t' (i + 1)
-  storing-on {t'} h p =
+module _ {A : Type 0} {t₀ : List A} {at : ℕ} {words t : List A} {i : ℕ} (w : Storing t₀ at words t i) where
+  -- v is the element of the words at i, so that nothing needs to stand past their end
+  pub storing-on : {t' : List A} {v : A} → i < length words → v ≡ get_or words i v → t' ≡ set t (at + i) v → Storing t₀ at words t' (i + 1)
+  storing-on {t'} {v} h q p =
       let next : at + (i + 1) ≡ suc (at + i) = omega arith in
       record {
-        same_length = ap length p ∙ length-set t (at + i) (get_or words i 0) ∙ w.same_length;
+        same_length = ap length p ∙ length-set t (at + i) v ∙ w.same_length;
         left =
-            ap (λ (u : List ℕ). sets u (at + (i + 1)) (drop (i + 1) words)) p
-            ∙ ap (λ (k : ℕ). sets (set t (at + i) (get_or words i 0)) k (drop (i + 1) words)) next
-            ∙ ap (λ (k : ℕ). sets (set t (at + i) (get_or words i 0)) (suc (at + i)) (drop k words)) (add-one i)
-            ∙ sym (ap (λ (vs : List ℕ). sets t (at + i) vs) (drop-cons words i 0 h))
+            ap (λ (u : List A). sets u (at + (i + 1)) (drop (i + 1) words)) p
+            ∙ ap (λ (k : ℕ). sets (set t (at + i) v) k (drop (i + 1) words)) next
+            ∙ ap (λ (k : ℕ). sets (set t (at + i) v) (suc (at + i)) (drop k words)) (add-one i)
+            ∙ ap (λ (x : A). sets (set t (at + i) x) (suc (at + i)) (drop (suc i) words)) q
+            ∙ sym (ap (λ (vs : List A). sets t (at + i) vs) (drop-cons words i v h))
             ∙ w.left;
       }
 
   pub storing-ends : length words ≤ i → t ≡ sets t₀ at words
-  storing-ends h = sym (ap (λ (vs : List ℕ). sets t (at + i) vs) (drop_of_length-le words h)) ∙ w.left
+  storing-ends h = sym (ap (λ (vs : List A). sets t (at + i) vs) (drop_of_length-le words h)) ∙ w.left

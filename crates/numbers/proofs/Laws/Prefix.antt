@@ -3,14 +3,26 @@ use Prim.Native.Nat.{ℕ, ◌+◌, ◌≤◌, ◌<◌}
 use native.Mathlib.Nat.{not-suc-le-zero, le_of_suc-le-suc}
 use native.Mathlib.Numerals.{add-one}
 use mathlib.Core.Path.{◌≡◌, refl, sym}
-use mathlib.Core.Bool.{Bool, true, false}
+use mathlib.Core.Bool.{Bool, true, false, cond, ◌&&◌}
 use mathlib.Core.List.{List, [], ◌∷◌}
 use lib.ListN.{length, get_or, drop, drop_of_length-le}
 use lib.Seq.{drop-cons}
 use lib.Dec.{eqb}
 use borrow.Author.Tests.{eq-eqb, ne_eqb}
 use Rattle.numbers.proofs.Laws.Tests.{cond-all}
+use Rattle.std.specs.List.{starts_with}
 use Rattle.numbers.specs.Prefix.{begins_with}
+
+-- what std's test comes to
+pub starts : (fixed text : List ℕ) → starts_with eqb text fixed ≡ begins_with fixed text
+unfolding begins_with
+starts [] text = refl
+starts (x ∷ fixed) [] = refl
+starts (x ∷ fixed) (y ∷ text) = rw (starts fixed text) (chosen (eqb x y) (begins_with fixed text))
+  where
+    chosen : (b r : Bool) → b && r ≡ cond b r false
+    chosen true r = refl
+    chosen false r = refl
 
 -- fewer bytes than the fixed ones do not begin with them
 pub too_few : (fixed text : List ℕ) → length text < length fixed → false ≡ begins_with fixed text

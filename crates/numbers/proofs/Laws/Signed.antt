@@ -1,4 +1,5 @@
 -- What follows from `Value` of signed numbers, as the machine computes them: `to_z` reads a word's bits as a signed number.
+use Rattle.std.specs.Prelude.{Some, None}
 use Prim.Native.Nat.{ℕ, zero, suc, ◌+◌, ◌*◌, ◌-◌, ◌/◌, ◌^◌, ◌≤◌, ◌<◌}
 use native.Mathlib.Nat.{zero-add}
 use native.Mathlib.Omega.{arith}
@@ -14,7 +15,6 @@ use mathlib.Core.List.{List}
 use Rattle.numbers.specs.Value.{value_of, signed_below, signed_of, there, read_at}
 use Rattle.numbers.proofs.Laws.Value.{reads}
 use Rattle.numbers.specs.declared.Endian.{Endian}
-use Rattle.numbers.specs.declared.signed.ReadSigned.TheVariants.{Value, Short}
 
 minus-one-less : (k : ℕ) → negsuc 0 -ℤ pos k ≡ negsuc k
 minus-one-less zero = refl
@@ -43,7 +43,7 @@ signed_high half n h b k =
 
 -- a signed reading that is there: r is what the machine made of the number v
 pub reads-signed : (e : Endian) (w : ℕ) (s : List ℕ) (at : ℕ) {v : ℕ} {r : ℤ} → there s at w ≡ true → v ≡ value_of e w s at
-    → r ≡ signed_below (256 ^ w / 2) v → mag r < 2 ^ 31 → Value (to_z w32 (of_z w32 r)) ≡ read_at (λ n. Value (signed_of w n)) Short e w s at
+    → r ≡ signed_below (256 ^ w / 2) v → mag r < 2 ^ 31 → Some (to_z w32 (of_z w32 r)) ≡ read_at (λ n. Some (signed_of w n)) None e w s at
 unfolding signed_of
 reads-signed e w s at {v} {r} h p q f =
-    ap Value (to_z-of_z w32 r (record { sfits = f }) ∙ q) ∙ reads (λ (n : ℕ). Value (signed_below (256 ^ w / 2) n)) Short e w s at h p
+    ap Some (to_z-of_z w32 r (record { sfits = f }) ∙ q) ∙ reads (λ (n : ℕ). Some (signed_below (256 ^ w / 2) n)) None e w s at h p

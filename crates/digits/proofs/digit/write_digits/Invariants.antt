@@ -1,11 +1,7 @@
 use lib.Seq.{sets}
 use Rattle.digits.specs.Digits.{digits}
 use mathlib.Core.Path.{◌≡◌}
-use lib.ListN.{length}
 use Rattle.digits.proofs.digit.write_digits.Given as goal
 
 abbrev pub invariant-loop-i : goal.invariant-loop-i
-invariant-loop-i l = (length l.rest ≡ length l.initial.rest) × (sets l.rest 0 (digits l.base l.i l.left) ≡ sets l.initial.rest 0 (digits l.base l.w l.v))
-
-abbrev pub decreases-loop-i : goal.decreases-loop-i
-decreases-loop-i l = l.i
+invariant-loop-i l = sets l.rest 0 (digits l.base l.i l.left) ≡ sets l.initial.rest 0 (digits l.base l.w l.v)

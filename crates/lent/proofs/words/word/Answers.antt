@@ -1,5 +1,0 @@
-use Rattle.lent.proofs.Laws.Stores.{word_none}
-use Rattle.lent.proofs.words.word.Goals as goal
-
-pub returns-else-i-t : goal.returns-else-i-t
-returns-else-i-t c = word_none c.args.t.now _ c.if-i-t.false
