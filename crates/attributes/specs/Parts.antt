@@ -1,12 +1,10 @@
 -- A string or a block as that part of the section: where it lies, and its bytes. What is not wholly inside is cut; of it there are no bytes.
-use Rattle.std.specs.Prelude.{ℕ, ◌+◌, ◌≤◌, ◌≡◌, cond, List, [], length, take, drop, ltb}
+use Rattle.std.specs.Prelude.{Option, Some, None, ℕ, ◌+◌, ◌≤◌, ◌≡◌, cond, List, [], length, take, drop, ltb}
 use Rattle.numbers.specs.Value.{there, read_at}
 use Rattle.numbers.specs.declared.Endian.{Endian}
 use Rattle.format.specs.Lookup.{index_of}
 use Rattle.attributes.specs.Text.{zero_from}
 use Rattle.attributes.specs.declared.decode.Extent.{Extent}
-use Rattle.attributes.specs.declared.decode.Lying.{Lying}
-use Rattle.attributes.specs.declared.decode.Lying.TheVariants.{At, Cut}
 
 -- ---- which part it is, said once: `is` makes something of its place and its length, `cut` stands for one that is not wholly inside
 
@@ -25,20 +23,20 @@ text_by is cut s at = cond (ltb (zero_from s at) (length s)) (is at (index_of 0 
 -- ---- where it lies
 
 -- a place and a length
-abbrev pub lies : ℕ → ℕ → Lying
-lies place n = At (record { place = place; length = n })
+abbrev pub lies : ℕ → ℕ → Option Extent
+lies place n = Some (record { place = place; length = n })
 
 -- n bytes from a place on
-unfoldable pub part_lies : List ℕ → ℕ → ℕ → Lying
-part_lies s from n = part_by lies Cut s from n
+unfoldable pub part_lies : List ℕ → ℕ → ℕ → Option Extent
+part_lies s from n = part_by lies None s from n
 
 -- the bytes of a block whose length has w bytes
-unfoldable pub block_lies : Endian → ℕ → List ℕ → ℕ → Lying
-block_lies e w s at = block_by (part_lies s) Cut e w s at
+unfoldable pub block_lies : Endian → ℕ → List ℕ → ℕ → Option Extent
+block_lies e w s at = block_by (part_lies s) None e w s at
 
 -- the bytes of a text up to its zero
-unfoldable pub text_lies : List ℕ → ℕ → Lying
-text_lies s at = text_by lies Cut s at
+unfoldable pub text_lies : List ℕ → ℕ → Option Extent
+text_lies s at = text_by lies None s at
 
 -- ---- its bytes
 
@@ -67,6 +65,6 @@ pub record Stretch (s : List ℕ) (x : Extent) (part : List ℕ) : Type 0 where
   pub long : length part ≡ x.length
 
 -- so is one that lies somewhere; one that is cut has no bytes
-abbrev pub Shown : List ℕ → Lying → List ℕ → Type 0
-Shown s (At x) part = Stretch s x part
-Shown s Cut part = part ≡ []
+abbrev pub Shown : List ℕ → Option Extent → List ℕ → Type 0
+Shown s (Some x) part = Stretch s x part
+Shown s None part = part ≡ []

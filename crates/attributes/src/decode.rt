@@ -1,12 +1,13 @@
-// What a value says, by its form. Strings and blocks come back as that part of the caller's section. A contract says the bytes of a reference that is returned, not
-// where it points: beside each such function one with `_at` tells place and length, or that the value is cut, which an empty part alone does not show.
-ghost use Rattle.std.specs.Prelude.{◌≡◌};
+// What a value says, by its form. Strings and blocks come back as that part of the caller's section. A contract says the bytes of a reference that is
+// returned, not where it points: beside each such function one with `_at` tells place and length, or that the value is cut, which an empty part alone
+// does not show.
+ghost use Rattle.std.specs.Prelude.{◌≡◌, ℕ};
 ghost use Rattle.attributes.specs.Decode.{address_at, reference_at, data2_at, data4_at, data8_at};
 ghost use Rattle.attributes.specs.Parts.{part_at, block_at, text_at, part_lies, block_lies, text_lies};
 
 use crate::text::zero_from;
 use numbers::Endian;
-use numbers::unsigned::{Read16, Read32, Read64, bytes_there, u16_at, u32_at, u64_at};
+use numbers::number::{Number, bytes_there, number_at};
 
 // Addresses and references are in the section's endianness, all else in the entry's own, its data endianness.
 #[derive(Clone, Copy)]
@@ -16,43 +17,38 @@ pub struct Endians {
 }
 
 // An address: 4 bytes in section endianness; or they are not all there.
-pub fn address(s: &[u8], at: usize, ends: Endians) -> Read32
+pub fn address(s: &[u8], at: usize, ends: Endians) -> Option<u32>
     ensures { result ≡ address_at ends s.now at }
 {
-    let e = ends.section;
-    u32_at(s, at, e)
+    number_at::<u32>(s, at, ends.section)
 }
 
 // A reference, likewise.
-pub fn reference(s: &[u8], at: usize, ends: Endians) -> Read32
+pub fn reference(s: &[u8], at: usize, ends: Endians) -> Option<u32>
     ensures { result ≡ reference_at ends s.now at }
 {
-    let e = ends.section;
-    u32_at(s, at, e)
+    number_at::<u32>(s, at, ends.section)
 }
 
 // 2 bytes of data, in data endianness.
-pub fn data2(s: &[u8], at: usize, ends: Endians) -> Read16
+pub fn data2(s: &[u8], at: usize, ends: Endians) -> Option<u16>
     ensures { result ≡ data2_at ends s.now at }
 {
-    let e = ends.data;
-    u16_at(s, at, e)
+    number_at::<u16>(s, at, ends.data)
 }
 
 // 4 bytes of data.
-pub fn data4(s: &[u8], at: usize, ends: Endians) -> Read32
+pub fn data4(s: &[u8], at: usize, ends: Endians) -> Option<u32>
     ensures { result ≡ data4_at ends s.now at }
 {
-    let e = ends.data;
-    u32_at(s, at, e)
+    number_at::<u32>(s, at, ends.data)
 }
 
 // 8 bytes of data.
-pub fn data8(s: &[u8], at: usize, ends: Endians) -> Read64
+pub fn data8(s: &[u8], at: usize, ends: Endians) -> Option<u64>
     ensures { result ≡ data8_at ends s.now at }
 {
-    let e = ends.data;
-    u64_at(s, at, e)
+    number_at::<u64>(s, at, ends.data)
 }
 
 // Where a part of a section lies: the place of its first byte, and how many there are.
@@ -62,62 +58,60 @@ pub struct Extent {
     pub length: usize,
 }
 
-// Where the part lies that is asked for; or it is cut, not wholly inside.
-#[derive(Clone, Copy)]
-pub enum Lying {
-    At(Extent),
-    Cut,
-}
-
 // Where n bytes from a place on lie.
-pub fn part_at(s: &[u8], place: usize, n: usize) -> Lying
+#[tactic(auto, unfolding(crate::specs::Parts::part_lies))]
+pub fn part_at(s: &[u8], place: usize, n: usize) -> Option<Extent>
     ensures { result ≡ part_lies s.now place n }
 {
     if bytes_there(s, place, n) {
-        Lying::At(Extent { place, length: n })
+        Some(Extent { place, length: n })
     } else {
-        Lying::Cut
+        None
     }
+}
+
+// Where the bytes of a block lie whose length is a number of this type.
+#[tactic(auto, unfolding(crate::specs::Parts::block_lies, numbers::specs::Value::read_at, numbers::specs::Value::there))]
+fn block_lying<N: Number + Into<u32>>(s: &[u8], at: usize, ends: Endians) -> Option<Extent>
+    requires counts { (n m : ℕ) → N.converts (N.meaning n) m → m ≡ n }
+    ensures { result ≡ block_lies ends.«data» N.WIDTH s.now at }
+{
+    let n: u32 = number_at::<N>(s, at, ends.data)?.into();
+    part_at(s, at + N::WIDTH, n as usize)
 }
 
 // Where the bytes of a block with a 2-byte length lie.
-pub fn block2_at(s: &[u8], at: usize, ends: Endians) -> Lying
+pub fn block2_at(s: &[u8], at: usize, ends: Endians) -> Option<Extent>
     ensures { result ≡ block_lies ends.«data» 2 s.now at }
 {
-    let e = ends.data;
-    match u16_at(s, at, e) {
-        Read16::Value(n) => part_at(s, at + 2, n as usize),
-        Read16::Short => Lying::Cut,
-    }
+    block_lying::<u16>(s, at, ends)
 }
 
 // The same with a 4-byte length.
-pub fn block4_at(s: &[u8], at: usize, ends: Endians) -> Lying
+pub fn block4_at(s: &[u8], at: usize, ends: Endians) -> Option<Extent>
     ensures { result ≡ block_lies ends.«data» 4 s.now at }
 {
-    let e = ends.data;
-    match u32_at(s, at, e) {
-        Read32::Value(n) => part_at(s, at + 4, n as usize),
-        Read32::Short => Lying::Cut,
-    }
+    block_lying::<u32>(s, at, ends)
 }
 
 // Where the bytes of a text before its zero lie.
-pub fn string_at(s: &[u8], at: usize) -> Lying
+#[tactic(auto, unfolding(crate::specs::Parts::text_lies, crate::specs::Text::zero_from))]
+pub fn string_at(s: &[u8], at: usize) -> Option<Extent>
     ensures { result ≡ text_lies s.now at }
 {
     let end = zero_from(s, at);
     if end < s.len() {
-        Lying::At(Extent {
+        Some(Extent {
             place: at,
             length: end - at,
         })
     } else {
-        Lying::Cut
+        None
     }
 }
 
 // n bytes from a place on, or nothing where they are not all there.
+#[tactic(auto, unfolding(crate::specs::Parts::part_at, numbers::specs::Value::there))]
 pub fn part(s: &[u8], from: usize, n: usize) -> &[u8]
     ensures { result.now ≡ part_at s.now from n }
 {
@@ -128,29 +122,35 @@ pub fn part(s: &[u8], from: usize, n: usize) -> &[u8]
     }
 }
 
-// The bytes of a block with a 2-byte length, or nothing where it is not wholly inside.
+// The bytes of a block whose length is a number of this type, or nothing where it is not wholly inside.
+#[tactic(auto, unfolding(crate::specs::Parts::block_at, numbers::specs::Value::read_at, numbers::specs::Value::there))]
+fn block<N: Number + Into<u32>>(s: &[u8], at: usize, ends: Endians) -> &[u8]
+    requires counts { (n m : ℕ) → N.converts (N.meaning n) m → m ≡ n }
+    ensures { result.now ≡ block_at ends.«data» N.WIDTH s.now at }
+{
+    let Some(length) = number_at::<N>(s, at, ends.data) else {
+        return &s[..0];
+    };
+    let n: u32 = length.into();
+    part(s, at + N::WIDTH, n as usize)
+}
+
+// The bytes of a block with a 2-byte length.
 pub fn block2(s: &[u8], at: usize, ends: Endians) -> &[u8]
     ensures { result.now ≡ block_at ends.«data» 2 s.now at }
 {
-    let e = ends.data;
-    match u16_at(s, at, e) {
-        Read16::Value(n) => part(s, at + 2, n as usize),
-        Read16::Short => &s[..0],
-    }
+    block::<u16>(s, at, ends)
 }
 
 // The same with a 4-byte length.
 pub fn block4(s: &[u8], at: usize, ends: Endians) -> &[u8]
     ensures { result.now ≡ block_at ends.«data» 4 s.now at }
 {
-    let e = ends.data;
-    match u32_at(s, at, e) {
-        Read32::Value(n) => part(s, at + 4, n as usize),
-        Read32::Short => &s[..0],
-    }
+    block::<u32>(s, at, ends)
 }
 
 // The bytes of a text before its zero, or nothing where it has none.
+#[tactic(auto, unfolding(crate::specs::Parts::text_at, crate::specs::Text::zero_from))]
 pub fn string(s: &[u8], at: usize) -> &[u8]
     ensures { result.now ≡ text_at s.now at }
 {

@@ -5,6 +5,7 @@ ghost use Rattle.format.specs.Inside.Some.{some_is};
 ghost use Rattle.attributes.specs.Inside.Eight.{here_or, first_zero};
 
 // One byte a turn.
+#[tactic(auto, using(crate::proofs::Laws::Text::zero_steps))]
 fn zero_in_rest(s: &[u8], from: usize) -> usize
     ensures { result ≡ zero_from s.now from }
 {
@@ -19,6 +20,7 @@ fn zero_in_rest(s: &[u8], from: usize) -> usize
 }
 
 // Is one of the eight bytes from i on zero?
+#[tactic(auto, unfolding(format::specs::Inside::Some::some_is))]
 fn zero_in_eight(s: &[u8], i: usize) -> bool
     requires { i + 8 ≤ length s.now }
     ensures { result ≡ some_is s.now 0 i 8 }
@@ -34,6 +36,7 @@ fn zero_in_eight(s: &[u8], i: usize) -> bool
 }
 
 // A place where it holds a zero, else a later one. It compiles to no branch.
+#[tactic(auto, unfolding(crate::specs::Inside::Eight::here_or))]
 fn here_or(s: &[u8], i: usize, later: usize) -> usize
     requires { i < length s.now }
     ensures { result ≡ here_or s.now i later }
@@ -42,6 +45,7 @@ fn here_or(s: &[u8], i: usize, later: usize) -> usize
 }
 
 // The place of the first zero among the eight bytes from i on, or the place after them.
+#[tactic(auto, unfolding(crate::specs::Inside::Eight::first_zero))]
 fn first_of_eight(s: &[u8], i: usize) -> usize
     requires { i + 8 ≤ length s.now }
     ensures { result ≡ first_zero s.now i 8 }
@@ -57,6 +61,7 @@ fn first_of_eight(s: &[u8], i: usize) -> usize
 }
 
 // The place of the first zero at or after `from`; one past the last byte, or `from` itself where that lies further, if there is none.
+#[tactic(auto, using(crate::proofs::Laws::Eight::eight_steps))]
 pub fn zero_from(s: &[u8], from: usize) -> usize
     ensures { result ≡ zero_from s.now from }
 {

@@ -1,8 +1,7 @@
 -- The 28 fundamental types of the Rust's `FundType`, in its order, which is that of the settings' sizes.
+use Rattle.std.specs.Prelude.{Option, Some, None}
 use Rattle.std.specs.Prelude.{ℕ, ◌/◌, ◌%◌, cond, List, [], ◌∷◌, eqb}
 use Rattle.format.specs.Lookup.{is_on}
-use Rattle.format.specs.declared.fund_type.FundType.{FundType}
-use Rattle.format.specs.declared.fund_type.FundType.TheVariants.{Known, Unknown}
 
 abbrev pub wide_char : ℕ
 wide_char = 0x0000
@@ -97,9 +96,9 @@ fund_types =
     signed_long_long ∷ unsigned_long_long ∷ int128 ∷ vec2x32_float ∷ []
 
 -- the type that a number names as it stands, or nothing known
-unfoldable pub fund_type_of : ℕ → FundType
-fund_type_of n = cond (is_on n fund_types) (Known n) Unknown
+unfoldable pub fund_type_of : ℕ → (Option ℕ)
+fund_type_of n = cond (is_on n fund_types) (Some n) None
 
 -- `parse_int`: of a number whose high byte is 1 only the low byte counts
-unfoldable pub parse_int : ℕ → FundType
+unfoldable pub parse_int : ℕ → (Option ℕ)
 parse_int n = fund_type_of (cond (eqb (n / 256) 1) (n % 256) n)

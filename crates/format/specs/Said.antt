@@ -1,11 +1,13 @@
 -- What a call says, in document 01's numbers and values: an answer; or a refusal, which is its number, its place and what it tells besides: with 8
--- the counts that are needed, with 4 to 6 the byte that was wanted (document 02, K2), else nothing. Every enum that is an answer has one definition,
--- `said..`, that gives this for each of its cases, and promises are made of it.
-use Rattle.std.specs.Prelude.{ℕ, ◌≡◌, Bool, cond, List, [], ◌∷◌}
+-- the counts that are needed, with 4 to 6 the byte that was wanted (document 02, K2), else nothing. `said` gives this of an answer of the code, and
+-- `said_counted` of one that fills lent room; promises are made of them.
+use Rattle.std.specs.Prelude.{ℕ, ◌≡◌, Bool, cond, List, [], ◌∷◌, Result, Ok, Err}
 use Rattle.std.proofs.lemmas.List.Edits.{sets}
 use Rattle.lent.specs.Outcome.{Outcome, outcome, Outcomes, outcomes}
 use Rattle.format.specs.Refusal.{number_of}
 use Rattle.format.specs.declared.refusal.Refusal.{Refusal}
+use Rattle.format.specs.declared.refusal.Unfilled.{Unfilled}
+use Rattle.format.specs.declared.refusal.Unfilled.TheVariants.{Refused, Room}
 use Rattle.format.specs.declared.refusal.Reason.{Reason}
 use Rattle.format.specs.declared.refusal.Reason.TheVariants as reason
 
@@ -29,6 +31,17 @@ wanting counts = refuses (number_of reason.Room) 0 counts
 -- 4, 5 or 6 at an entry's key, and the first byte of the field that could not be read or was not known
 abbrev pub unread : {A : Type 0} → Reason → ℕ → ℕ → Said A
 unread why key byte = refuses (number_of why) key (byte ∷ [])
+
+-- what an answer of the code says
+unfoldable pub said : {A : Type 0} → Result A Refusal → Said A
+said (Ok x) = gives x
+said (Err why) = refusal why
+
+-- the same of one that fills lent room: 8 tells the count that is needed
+unfoldable pub said_counted : {A : Type 0} → Result A (Unfilled ℕ) → Said A
+said_counted (Ok x) = gives x
+said_counted (Err (Refused why)) = refusal why
+said_counted (Err (Room count)) = wanting (count ∷ [])
 
 -- a test: it says nothing, or refuses where it fails
 unfoldable pub must : Bool → Reason → ℕ → Said Unit

@@ -59,13 +59,6 @@ pub const INT128: u16 = 0xa510;
 
 pub const VEC2X32_FLOAT: u16 = 0xac00;
 
-// What a number says as a fundamental type: one of the 28, or nothing known (refusal 18).
-#[derive(Clone, Copy)]
-pub enum FundType {
-    Known(u16),
-    Unknown,
-}
-
 // The place of a fundamental type in the Rust's order, so of its size among the settings' sizes; 28 for any other number.
 #[tactic(auto, unfolding(crate::specs::Lookup::index_of, crate::specs::FundType::fund_types))]
 pub fn order_of(n: u16) -> usize
@@ -105,18 +98,14 @@ pub fn order_of(n: u16) -> usize
 }
 
 // The Rust's `FundType::try_from`: no bits are dropped.
-pub fn try_from(n: u16) -> FundType
+pub fn try_from(n: u16) -> Option<u16>
     ensures { result ≡ fund_type_of n }
 {
-    if order_of(n) < 28 {
-        FundType::Known(n)
-    } else {
-        FundType::Unknown
-    }
+    if order_of(n) < 28 { Some(n) } else { None }
 }
 
 // The Rust's `FundType::parse_int`: of a number whose high byte is 1 only the low byte counts.
-pub fn parse_int(value: u16) -> FundType
+pub fn parse_int(value: u16) -> Option<u16>
     ensures { result ≡ parse_int value }
 {
     if value / 256 == 1 {

@@ -9,10 +9,8 @@ fn among_few(list: &[u16], x: u16) -> bool
     ensures { result ≡ is_on x list.now }
 {
     let mut found = false;
-    let mut i = 0;
-    while i < list.len() {
-        found = found | (list[i] == x);
-        i += 1;
+    for n in list {
+        found |= *n == x;
     }
     found
 }

@@ -1,5 +1,6 @@
 // The refusals of document 01 and their numbers, 1 to 20 without 14: no input leads to it, so it is not given, and no later reason takes it (document 02, K8).
 ghost use Rattle.std.specs.Prelude.{◌≡◌};
+ghost use Rattle.format.specs.declared.refusal.Unfilled.TheVariants as unfilled;
 ghost use Rattle.format.specs.Refusal.{number_of, reason_of};
 
 #[derive(Clone, Copy)]
@@ -30,6 +31,21 @@ pub enum Reason {
 pub struct Refusal {
     pub reason: Reason,
     pub place: u64,
+}
+
+// Why lent room was not filled: a refusal, or refusal 8 at 0 with what is needed.
+#[derive(Clone, Copy)]
+pub enum Unfilled<N> {
+    Refused(Refusal),
+    Room(N),
+}
+
+impl<N> From<Refusal> for Unfilled<N> {
+    ghost from_gives = { λ why r. r ≡ unfilled.Refused why };
+
+    fn from(why: Refusal) -> Unfilled<N> {
+        Unfilled::Refused(why)
+    }
 }
 
 // Document 01's number of a reason.

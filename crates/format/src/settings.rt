@@ -7,7 +7,7 @@ use crate::limits::VENDOR_LIMIT;
 use crate::lookup::on_list;
 use numbers::Endian;
 
-#[derive(Clone, Copy)]
+#[derive(Clone, Copy, PartialEq, Eq)]
 pub enum Producer {
     Mwcc,
     Gcc,
@@ -45,17 +45,14 @@ fn vendors_hold(vendors: &[u16]) -> bool
     ensures { result ≡ vendors_hold 0 vendors.now }
 {
     let mut least: u32 = 0;
-    let mut i = 0;
-    while i < vendors.len() {
-        let n = vendors[i];
-        if (n as u32) < least {
+    for n in vendors {
+        if u32::from(*n) < least {
             return false;
         }
-        if !vendor_number(n) {
+        if !vendor_number(*n) {
             return false;
         }
-        least = n as u32 + 1;
-        i += 1;
+        least = u32::from(*n) + 1;
     }
     true
 }

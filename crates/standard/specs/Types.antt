@@ -1,5 +1,5 @@
 -- How the standard writes a type: one of four attributes. Modifiers stand before what they modify, the first being the outermost.
-use Rattle.std.specs.Prelude.{ℕ, ◌^◌, ◌<◌, List, [], ◌∷◌, ◌++◌, length}
+use Rattle.std.specs.Prelude.{ℕ, ◌^◌, ◌<◌, List, [], ◌∷◌, ◌++◌}
 use Rattle.numbers.specs.Written.{bytes_of}
 use Rattle.numbers.specs.declared.Endian.{Endian}
 use Rattle.standard.specs.Numbers.{OnList, fundamental_types}

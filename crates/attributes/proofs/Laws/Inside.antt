@@ -1,4 +1,5 @@
 -- A success lies inside the section and moves forward.
+use Rattle.std.specs.Prelude.{Result, Ok, Err}
 use Prim.Native.Nat.{ℕ, ◌+◌, ◌≤◌, ◌<◌}
 use native.Mathlib.Omega.{arith}
 use mathlib.Core.Path.{◌≡◌, refl, subst}
@@ -19,10 +20,9 @@ use Rattle.attributes.specs.Text.{zero_from}
 use Rattle.attributes.proofs.Laws.Text.{zero-after}
 use Rattle.attributes.specs.End.{fixed_end, block_end, text_end, value_end}
 use Rattle.attributes.specs.Read.{ending, numbered, read_attribute}
-use Rattle.attributes.specs.declared.value.End.{End}
-use Rattle.attributes.specs.declared.value.End.TheVariants.{At, Short}
 use Rattle.attributes.specs.declared.read.Attribute.{Attribute}
-use Rattle.attributes.specs.declared.read.Attribute.TheVariants as attribute
+use Rattle.attributes.specs.declared.value.Unread.{Unread}
+use Rattle.attributes.specs.declared.value.Unread.TheVariants.{Short}
 use Rattle.attributes.specs.Ahead.{Ahead, ReadInside}
 
 fixed-ahead : (s : List ℕ) (at w from : ℕ) → from ≤ at + w → Ahead s from (fixed_end s at w)
@@ -32,7 +32,8 @@ fixed-ahead s at w from h = cond-all (Ahead s from) (there s at w) (λ t. (h, th
 block-ahead : (e : Endian) (w : ℕ) (s : List ℕ) (at from : ℕ) → from ≤ at + w → Ahead s from (block_end e w s at)
 unfolding block_end
 block-ahead e w s at from h =
-    read_all (λ n. fixed_end s (at + w) n) (Short at) e w s at (Ahead s from) (λ t. fixed-ahead s (at + w) (value_of e w s at) from (omega arith)) (λ t. tt)
+    read_all (λ n. fixed_end s (at + w) n) (Err (Short at)) e w s at (Ahead s from)
+    (λ t. fixed-ahead s (at + w) (value_of e w s at) from (omega arith)) (λ t. tt)
 
 text-ahead : (s : List ℕ) (at : ℕ) → Ahead s (at + 1) (text_end s at)
 unfolding text_end
@@ -53,25 +54,26 @@ value-ahead Data8 e s at = fixed-ahead s at 8 (at + 1) (omega arith)
 value-ahead String e s at = text-ahead s at
 value-ahead Undefined e s at = tt
 
-abbrev Good : List ℕ → List ℕ → ℕ → Attribute → Type 0
-Good vendors s at (attribute.Read n value next) = ReadInside vendors s at n value next
-Good vendors s at (attribute.Short field) = Unit
-Good vendors s at (attribute.Unknown field) = Unit
+abbrev Good : List ℕ → List ℕ → ℕ → Result Attribute Unread → Type 0
+Good vendors s at (Ok a) = ReadInside vendors s at a.number a.value a.next
+Good vendors s at (Err why) = Unit
 
-ending-good : (vendors s : List ℕ) (at n : ℕ) (end : End) → known vendors n ≡ true → Ahead s (at + 2 + 1) end → Good vendors s at (ending n (at + 2) end)
+ending-good : (vendors s : List ℕ) (at n : ℕ) (end : Result ℕ Unread) → known vendors n ≡ true → Ahead s (at + 2 + 1) end
+    → Good vendors s at (ending n (at + 2) end)
 unfolding ending
-ending-good vendors s at n (At next) k h = record { is_known = k; value_place = refl; forward = omega arith; inside = h.1 }
-ending-good vendors s at n (Short field) k h = tt
+ending-good vendors s at n (Ok next) k h = record { is_known = k; value_place = refl; forward = omega arith; inside = h.1 }
+ending-good vendors s at n (Err why) k h = tt
 
 good : (vendors : List ℕ) (e : Endian) (s : List ℕ) (at : ℕ) → Good vendors s at (read_attribute vendors e s at)
 unfolding read_attribute numbered
 good vendors e s at =
     let n : ℕ = value_of e 2 s at in
-    read_all (numbered vendors e s at) (attribute.Short at) e 2 s at (Good vendors s at)
-    (λ t. cond-all (Good vendors s at) (known vendors n) (λ k. ending-good vendors s at n (value_end (form_of n) e s (at + 2)) k (value-ahead (form_of n) e s (at + 2)))
+    read_all (numbered vendors e s at) (Err (Short at)) e 2 s at (Good vendors s at)
+    (λ t. cond-all (Good vendors s at) (known vendors n)
+    (λ k. ending-good vendors s at n (value_end (form_of n) e s (at + 2)) k (value-ahead (form_of n) e s (at + 2)))
     (λ k. tt)) (λ t. tt)
 
 -- the theorem
-pub read-inside : (vendors : List ℕ) (e : Endian) (s : List ℕ) (at : ℕ) {n value next : ℕ} → read_attribute vendors e s at ≡ attribute.Read n value next
-    → ReadInside vendors s at n value next
+pub read-inside : (vendors : List ℕ) (e : Endian) (s : List ℕ) (at : ℕ) {a : Attribute} → read_attribute vendors e s at ≡ Ok a
+    → ReadInside vendors s at a.number a.value a.next
 read-inside vendors e s at p = subst (Good vendors s at) p (good vendors e s at)

@@ -39,8 +39,8 @@ pub only-data8 : OneAnswer decode.data8.Kinds.ps decode.data8.Kinds.r decode.dat
 only-data8 κs a z z' e e' p q = cc
 
 -- `decode::part`
-pub only_part : One decode.part.Kinds.ps decode.part.Kinds.r (λ κs z e. z.now) decode.part.Reads.Post
-only_part κs a z z' e e' p q = cc
+pub only-part : One decode.part.Kinds.ps decode.part.Kinds.r (λ κs z e. z.now) decode.part.Reads.Post
+only-part κs a z z' e e' p q = cc
 
 -- `decode::block2`
 pub only-block2 : One decode.block2.Kinds.ps decode.block2.Kinds.r (λ κs z e. z.now) decode.block2.Reads.Post

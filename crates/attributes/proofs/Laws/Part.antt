@@ -1,13 +1,12 @@
--- What follows from `Parts`, for each way that the code hands out a part or says where it lies; and that both speak of one part.
+-- What follows from `Parts`; and that where a part lies and its bytes are of one part.
 use Prim.Native.Nat.{ℕ, ◌+◌, ◌-◌, ◌≤◌, ◌<◌}
-use native.Mathlib.Nat.{add-sub_cancel_left}
 use native.Mathlib.Omega.{arith}
 use mathlib.Core.Path.{◌≡◌, refl}
 use mathlib.Core.Bool.{Bool, true, false, cond}
-use mathlib.Core.List.{List, []}
+use mathlib.Core.List.{List}
 use lib.ListN.{length, take, drop}
 use lib.Dec.{ltb}
-use borrow.Author.Tests.{lt-ltb, le-ltb, ltb-true}
+use borrow.Author.Tests.{lt-ltb, ltb-true}
 use Rattle.numbers.specs.Value.{value_of, there, read_at}
 use Rattle.numbers.specs.declared.Endian.{Endian}
 use Rattle.numbers.proofs.Laws.Value.{there-inside}
@@ -15,24 +14,10 @@ use Rattle.numbers.proofs.Laws.Stands.{part_length}
 use Rattle.format.specs.Lookup.{index_of}
 use Rattle.attributes.specs.Text.{zero_from}
 use Rattle.attributes.specs.Parts.{part_at, block_at, text_at, lies, part_lies, block_lies, text_lies, bytes_from, Shown}
-use Rattle.attributes.specs.declared.decode.Lying.TheVariants.{Cut}
 
-module _ (s : List ℕ) (from n : ℕ) where
-  pub part-there : there s from n ≡ true → take (from + n - from) (drop from s) ≡ part_at s from n
-  unfolding part_at
-  part-there h = rw (h, add-sub_cancel_left)
-
-  pub part-missing : there s from n ≡ false → [] ≡ part_at s from n
-  unfolding part_at
-  part-missing h = rw h
-
-  pub part_lies_lem : there s from n ≡ true → lies from n ≡ part_lies s from n
-  unfolding part_lies
-  part_lies_lem h = rw h
-
-  pub part_cut : there s from n ≡ false → Cut ≡ part_lies s from n
-  unfolding part_lies
-  part_cut h = rw h
+pub part_lies_lem : (s : List ℕ) (from n : ℕ) → there s from n ≡ true → lies from n ≡ part_lies s from n
+unfolding part_lies
+part_lies_lem s from n h = rw h
 
 module _ (s : List ℕ) (at : ℕ) {z : ℕ} (found : z ≡ zero_from s at) where
   pub text-there : z < length s → take (z - at) (drop at s) ≡ text_at s at
@@ -41,19 +26,11 @@ module _ (s : List ℕ) (at : ℕ) {z : ℕ} (found : z ≡ zero_from s at) wher
       let same : z - at ≡ index_of 0 (drop at s) = omega arith in
       rw (← found, lt-ltb z (length s) h, same)
 
-  pub text-missing : length s ≤ z → [] ≡ text_at s at
-  unfolding text_at
-  text-missing h = rw (← found, le-ltb z (length s) h)
-
   pub text-lies : z < length s → lies at (z - at) ≡ text_lies s at
   unfolding text_lies zero_from
   text-lies h =
       let same : z - at ≡ index_of 0 (drop at s) = omega arith in
       rw (← found, lt-ltb z (length s) h, same)
-
-  pub text-cut : length s ≤ z → Cut ≡ text_lies s at
-  unfolding text_lies
-  text-cut h = rw (← found, le-ltb z (length s) h)
 
 -- ---- where a part lies and its bytes are of one part
 

@@ -27,6 +27,9 @@ module _ (s : List ℕ) (i : ℕ) where
   unfolding zero_from
   zero-after p = omega arith
 
+-- what a loop over the bytes goes by
+pub ruleset zero_steps = (zero-here, zero-next, zero-end)
+
 -- ---- the first zero
 
 module _ (s : List ℕ) where

@@ -4,11 +4,15 @@ use Prim.Native.Nat.{ℕ}
 use mathlib.Core.Path.{◌≡◌, refl, sym, ap, ◌∙◌, subst}
 use native.Mathlib.Omega.{arith}
 use mathlib.Core.Bool.{Bool, true, false, cond}
-use mathlib.Core.List.{List}
+use mathlib.Core.List.{List, [], ◌∷◌}
 use lib.Seq.{sets}
 use Rattle.lent.specs.Outcome.{Outcome, outcome, Given, Outcomes, BothGiven}
 use Rattle.format.specs.Refusal.{number_of, reason_of}
-use Rattle.format.specs.Said.{Said, gives, refuses, refuse, wanting, must, ◌>>=◌, ◌>>◌, placed, in_room, in_rooms, fills_room, fills_rooms}
+use Rattle.std.specs.Prelude.{Result, Ok, Err, IsErrAnd}
+use Rattle.std.proofs.lemmas.Result.{err_from_is_err_and}
+use Rattle.format.specs.declared.refusal.Unfilled.{Unfilled}
+use Rattle.format.specs.declared.refusal.Unfilled.TheVariants as unfilled
+use Rattle.format.specs.Said.{Said, gives, refuses, refuse, refusal, wanting, said, said_counted, must, ◌>>=◌, ◌>>◌, placed, in_room, in_rooms, fills_room, fills_rooms}
 use Rattle.format.specs.declared.refusal.Refusal.{Refusal}
 use Rattle.format.specs.declared.refusal.Reason.{Reason}
 use Rattle.format.proofs.Laws.Refusal.{reason-of-number}
@@ -221,3 +225,105 @@ refusal_of number place = record { reason = reason_of number; place = place }
 -- a refusal is that of its number
 pub refusal-same : (why : Refusal) → refusal_of (number_of why.reason) why.place ≡ why
 refusal-same why = ap (λ (r : Reason). record { reason = r; place = why.place }) (reason-of-number why.reason)
+
+-- ---- what goes on by `?`: `is` is what the call promises, `was` what it answered, `exits` what is returned where that is a refusal
+
+module _ {A : Type 0} {r : Result A Refusal} {d : Said A} {x : A} (is : said r ≡ d) (was : r ≡ Ok x) where
+  -- the call says the value
+  pub given-there : d ≡ gives x
+  unfolding said
+  given-there = sym is ∙ ap said was
+
+  -- what follows with it
+  pub comes_on : {B : Type 0} (next : A → Said B) {z : Said B} → z ≡ next x → z ≡ (d >>= next)
+  unfolding ◌>>=◌
+  comes_on next h = h ∙ ap (λ (y : Said A). y >>= next) (sym given-there)
+
+  -- what follows a test
+  pub comes-past : {B : Type 0} (next : Said B) {z : Said B} → z ≡ next → z ≡ (d >> next)
+  unfolding ◌>>◌
+  comes-past next h = h ∙ ap (λ (y : Said A). y >> next) (sym given-there)
+
+  -- the same with one room
+  pub comes_in : {B W : Type 0} (room : List W) (next : A → Outcome (Said B) W) {z : Said B} {after : List W} → Given (next x) z after
+      → Given (in_room room d next) z after
+  unfolding in_room
+  comes_in room next {z} {after} h = subst (λ (y : Said A). Given (in_room room y next) z after) (sym given-there) h
+
+  -- and with two
+  pub comes-in-both : {B F W : Type 0} (first : List F) (second : List W) (next : A → Outcomes (Said B) F W) {z : Said B} {one : List F} {two : List W}
+      → BothGiven (next x) z one two → BothGiven (in_rooms first second d next) z one two
+  unfolding in_rooms
+  comes-in-both first second next {z} {one} {two} h = subst (λ (y : Said A). BothGiven (in_rooms first second y next) z one two) (sym given-there) h
+
+module _ {A : Type 0} {r : Result A Refusal} {d : Said A} {why : Refusal} (is : said r ≡ d) (was : r ≡ Err why) where
+  -- the call says that refusal
+  pub refused-there : d ≡ refusal why
+  unfolding said
+  refused-there = sym is ∙ ap said was
+
+  module _ {B : Type 0} (z : Result B Refusal) (exits : IsErrAnd z (λ e. e ≡ why)) where
+    -- so does the exit
+    pub refused-here : said z ≡ refusal why
+    unfolding said
+    refused-here = let p = err_from_is_err_and z exits in ap said p.1 ∙ ap refusal p.2
+
+    -- and so does what would have followed
+    pub gone_on : (next : A → Said B) → said z ≡ (d >>= next)
+    unfolding ◌>>=◌
+    gone_on next = refused-here ∙ ap (λ (y : Said A). y >>= next) (sym refused-there)
+
+    -- the same after a test
+    pub gone-past : (next : Said B) → said z ≡ (d >> next)
+    unfolding ◌>>◌
+    gone-past next = refused-here ∙ ap (λ (y : Said A). y >> next) (sym refused-there)
+
+  module _ {B : Type 0} (z : Result B (Unfilled ℕ)) (exits : IsErrAnd z (λ e. e ≡ unfilled.Refused why)) where
+    -- the same of an answer that fills lent room
+    pub refused-room : said_counted z ≡ refusal why
+    unfolding said_counted
+    refused-room = let p = err_from_is_err_and z exits in ap said_counted p.1 ∙ ap (λ (e : Unfilled ℕ). said_counted {A = B} (Err e)) p.2
+
+    -- and of what follows with one room
+    pub gone_in : {W : Type 0} {room after : List W} (next : A → Outcome (Said B) W) → after ≡ room → Given (in_room room d next) (said_counted z) after
+    unfolding in_room
+    gone_in {W} {room} {after} next h =
+        subst (λ (y : Said A). Given (in_room room y next) (said_counted z) after) (sym refused-there) (record { answer_is = refused-room; room_is = h })
+
+    -- and with two
+    pub gone-in-both : {F W : Type 0} {first one : List F} {second two : List W} (next : A → Outcomes (Said B) F W) → one ≡ first → two ≡ second
+        → BothGiven (in_rooms first second d next) (said_counted z) one two
+    unfolding in_rooms
+    gone-in-both {F} {W} {first} {one} {second} {two} next h k =
+        subst (λ (y : Said A). BothGiven (in_rooms first second y next) (said_counted z) one two) (sym refused-there)
+        (record { answer_is = refused-room; first_is = h; second_is = k })
+
+-- ---- what the code says leads back to it
+
+abbrev from_said : {A : Type 0} → Said A → Result A Refusal
+from_said (gives x) = Ok x
+from_said (refuses number place counts) = Err (refusal_of number place)
+
+said_same : {A : Type 0} (r : Result A Refusal) → from_said (said r) ≡ r
+unfolding said
+said_same (Ok x) = refl
+said_same (Err why) = ap Err (refusal-same why)
+
+-- so no two answers say the same
+pub said-back : {A : Type 0} → Back (said {A = A})
+said-back {A} = record { back = from_said; same = said_same }
+
+abbrev from_counted : {A : Type 0} → Said A → Result A (Unfilled ℕ)
+from_counted (gives x) = Ok x
+from_counted (refuses number place []) = Err (unfilled.Refused (refusal_of number place))
+from_counted (refuses number place (count ∷ counts)) = Err (unfilled.Room count)
+
+counted_same : {A : Type 0} (r : Result A (Unfilled ℕ)) → from_counted (said_counted r) ≡ r
+unfolding said_counted
+counted_same (Ok x) = refl
+counted_same (Err (unfilled.Refused why)) = ap (λ (w : Refusal). Err (unfilled.Refused w)) (refusal-same why)
+counted_same (Err (unfilled.Room count)) = refl
+
+-- nor of those that fill lent room
+pub counted-back : {A : Type 0} → Back (said_counted {A = A})
+counted-back {A} = record { back = from_counted; same = counted_same }

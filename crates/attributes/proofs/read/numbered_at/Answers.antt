@@ -1,18 +1,15 @@
-use Rattle.attributes.proofs.Laws.Read.{as_attribute, unknown-place, numbered-told}
+use Rattle.attributes.proofs.Laws.Read.{unknown_place, numbered_told}
 use native.Mathlib.Omega.{arith}
 use Rattle.attributes.proofs.read.numbered_at.Goals as goal
 
 pub overflow_sub-result : goal.overflow_sub-result
-overflow_sub-result c = omega (arith, unknown-place _ _ _ _ _ c.known_end.ensures c.in-Unknown.is)
+overflow_sub-result c = omega (arith, unknown_place _ _ _ _ _ (rw c.in-Err-Unknown.field-0-is at c.in-Err-Unknown.ensures))
 
-pub returns-in-At : goal.returns-in-At
-unfolding as_attribute
-returns-in-At c = numbered-told _ _ _ _ _ c.known_end.ensures c.in-At.is
+pub returns-in-Ok : goal.returns-in-Ok
+returns-in-Ok c = numbered_told _ _ _ _ _ c.in-Ok.ensures
 
-pub returns-in-Short : goal.returns-in-Short
-unfolding as_attribute
-returns-in-Short c = numbered-told _ _ _ _ _ c.known_end.ensures c.in-Short.is
+pub returns-in-Err-Short : goal.returns-in-Err-Short
+returns-in-Err-Short c = numbered_told _ _ _ _ _ (rw c.in-Err-Short.field-0-is at c.in-Err-Short.ensures)
 
-pub returns-in-Unknown : goal.returns-in-Unknown
-unfolding as_attribute
-returns-in-Unknown c = numbered-told _ _ _ _ _ c.known_end.ensures c.in-Unknown.is
+pub returns-in-Err-Unknown : goal.returns-in-Err-Unknown
+returns-in-Err-Unknown c = numbered_told _ _ _ _ _ (rw c.in-Err-Unknown.field-0-is at c.in-Err-Unknown.ensures)

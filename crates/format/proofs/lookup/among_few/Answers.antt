@@ -2,11 +2,11 @@ use Rattle.format.proofs.Laws.Lookup.{scan-next, scan-end}
 use mathlib.Core.Path.{refl}
 use Rattle.format.proofs.lookup.among_few.Goals as goal
 
-pub loop-i-init : goal.loop-i-init
-loop-i-init c = refl
+pub loop-n-init : goal.loop-n-init
+loop-n-init c = refl
 
-pub loop-i-preserved : goal.loop-i-preserved
-loop-i-preserved c = scan-next c.args.list.now c.loop-i.i c.args.x c.loop-i.found c.loop-i.invariant c.loop-i-test.true
+pub loop-n-preserved : goal.loop-n-preserved
+loop-n-preserved c = scan-next c.args.list.now c.loop-n.n-index c.args.x c.loop-n.found c.loop-n.invariant c.loop-n-test.true
 
 pub returns : goal.returns
-returns c = scan-end c.args.list.now c.loop-i.i c.args.x c.loop-i.found c.loop-i.invariant c.loop-i-test.false
+returns c = scan-end c.args.list.now c.loop-n.n-index c.args.x c.loop-n.found c.loop-n.invariant c.loop-n-test.false
