@@ -1,5 +1,6 @@
 -- The table test, refusal 3 (document 01's refusal numbers): exactly what makes a table that a caller lends one that can be read.
-use Rattle.std.specs.Prelude.{ℕ, zero, suc, ◌+◌, ◌*◌, ◌≡◌, Bool, true, false, ◌&&◌, List, length, leb, ltb, eqb}
+use Rattle.attributes.specs.declared.value.Unread.{Unread}
+use Rattle.std.specs.Prelude.{Err, Result, Ok, ℕ, zero, suc, ◌+◌, ◌*◌, ◌≡◌, Bool, true, false, ◌&&◌, List, length, leb, ltb, eqb}
 use Rattle.numbers.specs.declared.Endian.{Endian}
 use Rattle.format.specs.Lookup.{is_on}
 use Rattle.format.specs.TagKind.{tags}
@@ -7,8 +8,6 @@ use Rattle.format.specs.Known.{known}
 use Rattle.format.specs.FormKind.{form_of}
 use Rattle.format.specs.Limits.{entry_limit, attribute_limit}
 use Rattle.attributes.specs.End.{value_end}
-use Rattle.attributes.specs.declared.value.End.{End}
-use Rattle.attributes.specs.declared.value.End.TheVariants.{At, Short}
 use Rattle.tables.specs.Row.{row_width, attr_width, row_at, attr_at, endian_of}
 use Rattle.tables.specs.Unit.{no_unit, units_hold}
 use Rattle.tables.specs.declared.row.Row.{Row}
@@ -16,9 +15,9 @@ use Rattle.tables.specs.declared.row.Attr.{Attr}
 use Rattle.tables.specs.declared.row.Counts.{Counts}
 
 -- the value ends in the section
-unfoldable pub is_at : End → Bool
-is_at (At next) = true
-is_at (Short field) = false
+unfoldable pub is_at : Result ℕ Unread → Bool
+is_at (Ok next) = true
+is_at (Err why) = false
 
 -- so many rows and attributes are allowed, and fit tables of so many words
 unfoldable pub fitting : Counts → ℕ → ℕ → Bool

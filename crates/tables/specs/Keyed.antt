@@ -1,17 +1,15 @@
 -- An answer from the row of a key: 1, 2, 3; then 11 at the key where no row has it.
-use Rattle.std.specs.Prelude.{ℕ}
+use Rattle.std.specs.Prelude.{Option, Some, None, ℕ}
 use Rattle.tables.specs.Table.{Table}
 use Rattle.format.specs.Said.{Said, gives, refuse, ◌>>◌}
 use Rattle.format.specs.declared.refusal.Reason.TheVariants as reason
 use Rattle.tables.specs.Find.{row_of_key}
 use Rattle.tables.specs.Tests.{test_table}
-use Rattle.tables.specs.declared.find.Found.{Found}
-use Rattle.tables.specs.declared.find.Found.TheVariants.{At, Nothing}
 
 -- the row that was found; 11 at the key where there is none
-unfoldable pub found_row : ℕ → Found → Said ℕ
-found_row key (At i) = gives i
-found_row key Nothing = refuse reason.Entry key
+unfoldable pub found_row : ℕ → Option ℕ → Said ℕ
+found_row key (Some i) = gives i
+found_row key None = refuse reason.Entry key
 
 -- the row of a key: the tests, then 11
 unfoldable pub row_of : Table → ℕ → Said ℕ

@@ -1,8 +1,9 @@
--- A table and what it is asked with: what every call on a table takes, in the order of the calls.
+-- A table and what it is asked with: what every call on a table takes.
 use Rattle.std.specs.Prelude.{ℕ, List}
 use Rattle.numbers.specs.declared.Endian.{Endian}
 use Rattle.format.specs.declared.settings.Settings.{Settings}
 use Rattle.tables.specs.declared.row.Counts.{Counts}
+use Rattle.tables.specs.declared.table.Table as lent
 
 -- the section and the settings, vendor list and sizes that it was read with; rows and attributes, and how many of each
 pub record Table : Type 0 where
@@ -18,6 +19,10 @@ pub record Table : Type 0 where
 abbrev pub table : List ℕ → Settings → List ℕ → List ℕ → List ℕ → List ℕ → Counts → Table
 table section settings vendors sizes rows attrs counts =
     record { section = section; settings = settings; vendors = vendors; sizes = sizes; rows = rows; attrs = attrs; counts = counts }
+
+-- what a caller lends, as it is when the call begins
+abbrev pub table_of : lent.«Table» → Table
+table_of t = table t.section.now t.settings t.vendors.now t.sizes.now t.rows.now t.attrs.now t.counts
 
 -- what is below a call asked of a table that was tested: its rows and attributes, how many rows, the section and its endianness
 pub record Rows : Type 0 where

@@ -1,18 +1,12 @@
 -- The tests that every public call on a table makes first, in this order: 1 settings, 2 long, 3 table. Their place is 0.
-use Rattle.std.specs.Prelude.{◌≡◌, length, ltb}
+use Rattle.std.specs.Prelude.{Result, ◌≡◌, length, ltb}
+use Rattle.format.specs.declared.refusal.Refusal.{Refusal}
 use Rattle.tables.specs.Table.{Table}
 use Rattle.format.specs.Limits.{section_limit}
 use Rattle.format.specs.Settings.{settings_hold}
-use Rattle.format.specs.Said.{Said, gives, refusal, must, ◌>>◌}
+use Rattle.format.specs.Said.{Said, said, must, ◌>>◌}
 use Rattle.format.specs.declared.refusal.Reason.TheVariants as reason
 use Rattle.tables.specs.Holds.{table_holds}
-use Rattle.tables.specs.declared.tests.Tested.{Tested}
-use Rattle.tables.specs.declared.tests.Tested.TheVariants.{Passed, Refused}
-
--- what an answer says
-unfoldable pub said_tested : Tested → Said Unit
-said_tested Passed = gives tt
-said_tested (Refused why) = refusal why
 
 -- the three tests, in their order
 unfoldable pub test_table : Table → Said Unit
@@ -22,5 +16,5 @@ test_table t = do
   must (table_holds t.section t.vendors t.rows t.attrs t.counts) reason.Table 0
 
 -- what the tests alone answer
-pub record Tells (t : Table) (r : Tested) : Type 0 where
-  pub told : said_tested r ≡ test_table t
+pub record Tells (t : Table) (r : Result Unit Refusal) : Type 0 where
+  pub told : said r ≡ test_table t

@@ -5,13 +5,7 @@ ghost use Rattle.tables.specs.Inside.Find.{Rising};
 ghost use Rattle.tables.specs.Inside.Find.{Between, FirstFrom};
 
 use crate::row::ROW_WIDTH;
-use lent::cells::cell;
-
-#[derive(Clone, Copy)]
-pub enum Found {
-    At(usize),
-    Nothing,
-}
+use lent::cells::get_or;
 
 // The first of the n rows whose key is not below `key`, or n where there is none: it stands between low and high.
 fn first_between(rows: &[u32], n: usize, low: usize, high: usize, key: u32) -> usize
@@ -22,7 +16,7 @@ fn first_between(rows: &[u32], n: usize, low: usize, high: usize, key: u32) -> u
     let mut to = high;
     while from < to {
         let middle = from + (to - from) / 2;
-        if cell(rows, middle * ROW_WIDTH) < key {
+        if get_or(rows, middle * ROW_WIDTH, 0) < key {
             from = middle + 1;
         } else {
             to = middle;
@@ -40,7 +34,7 @@ fn first_after(rows: &[u32], n: usize, low: usize, key: u32) -> usize
     let mut step = 1;
     while step < n - from {
         let probe = from + step;
-        if cell(rows, probe * ROW_WIDTH) >= key {
+        if get_or(rows, probe * ROW_WIDTH, 0) >= key {
             return first_between(rows, n, from, probe, key);
         }
         from = probe + 1;
@@ -50,22 +44,22 @@ fn first_after(rows: &[u32], n: usize, low: usize, key: u32) -> usize
 }
 
 // The row that has this key, if any: row i, the first whose key is not below it.
-fn row_first(rows: &[u32], n: usize, i: usize, key: u32) -> Found
+fn row_first(rows: &[u32], n: usize, i: usize, key: u32) -> Option<usize>
     requires { Rising rows.now n × FirstFrom rows.now n key i }
     ensures { result ≡ row_of_key rows.now n key }
 {
     if i >= n {
-        return Found::Nothing;
+        return None;
     }
-    if cell(rows, i * ROW_WIDTH) == key {
-        Found::At(i)
+    if get_or(rows, i * ROW_WIDTH, 0) == key {
+        Some(i)
     } else {
-        Found::Nothing
+        None
     }
 }
 
 // The row, of the table's n, that has this key.
-pub fn find_row(rows: &[u32], n: usize, key: u32) -> Found
+pub fn find_row(rows: &[u32], n: usize, key: u32) -> Option<usize>
     requires { Rising rows.now n }
     ensures { result ≡ row_of_key rows.now n key }
 {
@@ -74,7 +68,7 @@ pub fn find_row(rows: &[u32], n: usize, key: u32) -> Found
 }
 
 // The same; references mostly name the row after the one that has them, or one near it, so the search begins at the row after row i.
-pub fn find_row_near(rows: &[u32], n: usize, i: usize, key: u32) -> Found
+pub fn find_row_near(rows: &[u32], n: usize, i: usize, key: u32) -> Option<usize>
     requires { Rising rows.now n × (i < n) }
     ensures { result ≡ row_of_key rows.now n key }
 {
@@ -82,9 +76,9 @@ pub fn find_row_near(rows: &[u32], n: usize, i: usize, key: u32) -> Found
     if next >= n {
         return find_row(rows, n, key);
     }
-    let there = cell(rows, next * ROW_WIDTH);
+    let there = get_or(rows, next * ROW_WIDTH, 0);
     if there == key {
-        return Found::At(next);
+        return Some(next);
     }
     if there < key {
         let after = first_after(rows, n, next + 1, key);

@@ -1,54 +1,32 @@
 // The row of a key, after the tests that every call on a table makes first: what every record and every lookup begins with.
 ghost use Rattle.std.specs.Prelude.{◌≡◌};
-ghost use Rattle.tables.specs.Table.{table};
+ghost use Rattle.format.specs.Said.{said};
+ghost use Rattle.tables.specs.Table.{table_of};
 ghost use Rattle.tables.specs.Find.{row_of_key};
 ghost use Rattle.tables.specs.Inside.Find.{Rising};
 ghost use Rattle.tables.specs.Keyed.{found_row, row_of};
-ghost use Rattle.tables.specs.Inside.Keyed.{said_keyed};
 
-use crate::find::{Found, find_row};
-use crate::row::Counts;
-use crate::tests::{Tested, test_table};
+use crate::find::find_row;
+use crate::table::Table;
+use crate::tests::test_table;
 use format::refusal::{Reason, Refusal};
-use format::settings::Settings;
-
-// The row that has a key.
-#[derive(Clone, Copy)]
-pub enum Keyed {
-    Row(usize),
-    Refused(Refusal),
-}
 
 // The row of a key, in a table that was tested.
-fn find_key(rows: &[u32], n: usize, key: u32) -> Keyed
+#[tactic(auto, unfolding(crate::specs::Keyed::found_row, format::specs::Said::said))]
+fn find_key(rows: &[u32], n: usize, key: u32) -> Result<usize, Refusal>
     requires { Rising rows.now n }
-    ensures { said_keyed result ≡ found_row key (row_of_key rows.now n key) }
+    ensures { said result ≡ found_row key (row_of_key rows.now n key) }
 {
-    match find_row(rows, n, key) {
-        Found::At(i) => Keyed::Row(i),
-        Found::Nothing => Keyed::Refused(Refusal {
-            reason: Reason::Entry,
-            place: key as u64,
-        }),
-    }
+    find_row(rows, n, key).ok_or(Refusal {
+        reason: Reason::Entry,
+        place: u64::from(key),
+    })
 }
 
 // The same after the tests 1, 2, 3.
-pub fn row_of(
-    s: &[u8],
-    settings: Settings,
-    vendors: &[u16],
-    sizes: &[u32],
-    rows: &[u32],
-    attrs: &[u32],
-    counts: Counts,
-    key: u32,
-) -> Keyed
-    ensures { said_keyed result ≡ row_of (table s.now settings vendors.now sizes.now rows.now attrs.now
-        counts) key }
+pub fn row_of(t: &Table<'_>, key: u32) -> Result<usize, Refusal>
+    ensures { said result ≡ row_of (table_of t.now) key }
 {
-    match test_table(s, settings, vendors, sizes, rows, attrs, counts) {
-        Tested::Passed => find_key(rows, counts.rows, key),
-        Tested::Refused(why) => Keyed::Refused(why),
-    }
+    test_table(t)?;
+    find_key(t.rows, t.counts.rows, key)
 }

@@ -3,7 +3,7 @@ ghost use Rattle.std.specs.Prelude.{◌≡◌};
 ghost use Rattle.tables.specs.Row.{row_at, attr_at, endian_of, ends_of, erased_row};
 
 use attributes::decode::Endians;
-use lent::cells::cell;
+use lent::cells::get_or;
 use numbers::Endian;
 
 // An entry: its key (the place where it begins), its kind (a tag), its flags, its run of attributes, the key of its unit.
@@ -43,18 +43,19 @@ pub const ERASED_ROOT: u32 = 2;
 pub const LITTLE: u32 = 4;
 
 // Row i of a table, all zeros where there is none.
+#[tactic(auto, unfolding(crate::specs::Row::row_at))]
 pub fn row_at(rows: &[u32], i: usize) -> Row
     ensures { result ≡ row_at rows.now i }
 {
     if i < rows.len() {
         let at = i * ROW_WIDTH;
         Row {
-            key: cell(rows, at),
-            kind: cell(rows, at + 1),
-            flags: cell(rows, at + 2),
-            first: cell(rows, at + 3),
-            count: cell(rows, at + 4),
-            unit: cell(rows, at + 5),
+            key: get_or(rows, at, 0),
+            kind: get_or(rows, at + 1, 0),
+            flags: get_or(rows, at + 2, 0),
+            first: get_or(rows, at + 3, 0),
+            count: get_or(rows, at + 4, 0),
+            unit: get_or(rows, at + 5, 0),
         }
     } else {
         Row {
@@ -69,14 +70,15 @@ pub fn row_at(rows: &[u32], i: usize) -> Row
 }
 
 // Attribute i of a table, all zeros where there is none.
+#[tactic(auto, unfolding(crate::specs::Row::attr_at))]
 pub fn attr_at(attrs: &[u32], i: usize) -> Attr
     ensures { result ≡ attr_at attrs.now i }
 {
     if i < attrs.len() {
         let at = i * ATTR_WIDTH;
         Attr {
-            number: cell(attrs, at),
-            value: cell(attrs, at + 1),
+            number: get_or(attrs, at, 0),
+            value: get_or(attrs, at + 1, 0),
         }
     } else {
         Attr {
@@ -87,6 +89,7 @@ pub fn attr_at(attrs: &[u32], i: usize) -> Attr
 }
 
 // The data endianness that flags say.
+#[tactic(auto, unfolding(crate::specs::Row::endian_of))]
 pub fn endian_of(flags: u32) -> Endian
     ensures { result ≡ endian_of flags }
 {
@@ -98,6 +101,7 @@ pub fn endian_of(flags: u32) -> Endian
 }
 
 // Was the entry erased?
+#[tactic(auto, unfolding(crate::specs::Row::erased_row))]
 pub fn is_erased(flags: u32) -> bool
     ensures { result ≡ erased_row flags }
 {
@@ -105,6 +109,7 @@ pub fn is_erased(flags: u32) -> bool
 }
 
 // The section's endianness and the row's own.
+#[tactic(auto, unfolding(crate::specs::Row::ends_of))]
 pub fn ends_of(e: Endian, rows: &[u32], i: usize) -> Endians
     ensures { result ≡ ends_of e rows.now i }
 {

@@ -12,6 +12,7 @@ use format::tag_kind::COMPILE_UNIT;
 pub const NO_UNIT: u32 = 0xffffffff;
 
 // A row's unit, given that of the row before it: a row of kind CompileUnit is its own.
+#[tactic(auto, unfolding(crate::specs::Unit::unit_of))]
 pub fn unit_of(before: u32, row: Row) -> u32
     ensures { result ≡ unit_of before row }
 {
@@ -23,32 +24,30 @@ pub fn unit_of(before: u32, row: Row) -> u32
 }
 
 // Has each of the table's n rows its unit?
+#[tactic(auto, using(crate::proofs::Laws::Unit::units_step), unfolding(crate::specs::Unit::units_hold))]
 pub(crate) fn units_hold(rows: &[u32], n: usize) -> bool
     ensures { result ≡ units_hold rows.now 0 n no_unit }
 {
     let mut unit = NO_UNIT;
-    let mut i = 0;
-    while i < n {
+    for i in 0..n {
         let row = row_at(rows, i);
         unit = unit_of(unit, row);
         if row.unit != unit {
             return false;
         }
-        i += 1;
     }
     true
 }
 
 // Each of the table's n rows, which are all there, gets its unit.
+#[tactic(auto, using(crate::proofs::Laws::Unit::put_steps))]
 pub fn put_units(rows: &mut [u32], n: usize)
     requires { n * row_width ≤ length rows.old }
     ensures { rows.new ≡ sets rows.old 0 (rows_words (with_units (rows_from rows.old 0 n))) }
 {
     let mut unit = NO_UNIT;
-    let mut i = 0;
-    while i < n {
+    for i in 0..n {
         unit = unit_of(unit, row_at(rows, i));
         put_unit(rows, i, unit);
-        i += 1;
     }
 }

@@ -1,4 +1,5 @@
 -- What is known of a row that was found, and what the searches come to.
+use Rattle.std.specs.Prelude.{Option, Some, None}
 use Prim.Native.Nat.{ℕ, zero, suc, ◌+◌, ◌*◌, ◌≤◌, ◌<◌}
 use native.Mathlib.Nat.{le_refl, not-suc-le-zero}
 use native.Mathlib.Decide.{ℕ_discrete, dec_lt}
@@ -13,8 +14,6 @@ use Rattle.numbers.proofs.Laws.Tests.{cond-all}
 use Rattle.tables.specs.Row.{row_width, row_at}
 use Rattle.tables.specs.Find.{row_from, row_of_key}
 use Rattle.tables.specs.Inside.Find.{Rising}
-use Rattle.tables.specs.declared.find.Found.{Found}
-use Rattle.tables.specs.declared.find.Found.TheVariants.{At, Nothing}
 use Rattle.tables.specs.Inside.Find.{FirstFrom, Between}
 
 -- a row's first word is its key
@@ -46,7 +45,8 @@ pub between-all : (rows : List ℕ) (n key : ℕ) → Between rows n key 0 n
 between-all rows n key =
     record { ordered = omega arith; within = le_refl n; lower = λ k h. absurd (not-suc-le-zero h); reaches = λ k h l. omega arith }
 
-module _ {rows : List ℕ} {n key low high : ℕ} (rising : Rising rows n) (b : Between rows n key low high) (middle : ℕ) (at_least_lem : low ≤ middle) (less : middle < high) where
+module _ {rows : List ℕ} {n key low high : ℕ} (rising : Rising rows n) (b : Between rows n key low high)
+    (middle : ℕ) (at_least_lem : low ≤ middle) (less : middle < high) where
   -- the row in the middle has a lower key
   pub between-upper : {w : ℕ} → w ≡ get_or rows (middle * row_width) 0 → w < key → Between rows n key (middle + 1) high
   between-upper {w} p h =
@@ -74,7 +74,7 @@ between-one b h = record { within = omega arith; lower = b.lower; reaches = λ k
 
 -- ---- the row of a key
 
-from_none : (rows : List ℕ) (key i n : ℕ) → ((k : ℕ) → i ≤ k → k < i + n → (row_at rows k).key ≡ key → ⊥) → Nothing ≡ row_from rows i n key
+from_none : (rows : List ℕ) (key i n : ℕ) → ((k : ℕ) → i ≤ k → k < i + n → (row_at rows k).key ≡ key → ⊥) → None ≡ row_from rows i n key
 unfolding row_from
 from_none rows key i zero none = refl
 from_none rows key i (suc n) none =
@@ -82,7 +82,7 @@ from_none rows key i (suc n) none =
     (from_none rows key (suc i) n (λ k h l. none k (omega arith) (omega arith)))
 
 from_at : (rows : List ℕ) (key i n j : ℕ) → i ≤ j → j < i + n → ((k : ℕ) → i ≤ k → k < j → (row_at rows k).key ≡ key → ⊥) → (row_at rows j).key ≡ key
-    → At j ≡ row_from rows i n key
+    → Some j ≡ row_from rows i n key
 unfolding row_from
 from_at rows key i zero j h l none p = absurd (omega arith)
 from_at rows key i (suc n) j h l none p =
@@ -94,19 +94,19 @@ from_at rows key i (suc n) j h l none p =
 
 module _ (rows : List ℕ) (n key i : ℕ) (first : FirstFrom rows n key i) where
   -- no row reaches the key
-  pub row-past : n ≤ i → Nothing ≡ row_of_key rows n key
+  pub row-past : n ≤ i → None ≡ row_of_key rows n key
   unfolding row_of_key
   row-past h = from_none rows key 0 n (λ k l m p. (let low : (row_at rows k).key < key = first.lower k (omega arith) in omega arith))
 
   -- the first that reaches it has it
-  pub row_here : {w : ℕ} → i < n → w ≡ get_or rows (i * row_width) 0 → w ≡ key → At i ≡ row_of_key rows n key
+  pub row_here : {w : ℕ} → i < n → w ≡ get_or rows (i * row_width) 0 → w ≡ key → Some i ≡ row_of_key rows n key
   unfolding row_of_key
   row_here h q p =
       from_at rows key 0 n i (omega arith) (omega arith) (λ k l m o. (let low : (row_at rows k).key < key = first.lower k m in omega arith))
       (sym (key-word rows i) ∙ sym q ∙ p)
 
   -- it has another
-  pub row_other : {w : ℕ} → Rising rows n → i < n → w ≡ get_or rows (i * row_width) 0 → (w ≡ key → ⊥) → Nothing ≡ row_of_key rows n key
+  pub row_other : {w : ℕ} → Rising rows n → i < n → w ≡ get_or rows (i * row_width) 0 → (w ≡ key → ⊥) → None ≡ row_of_key rows n key
   unfolding row_of_key
   row_other {w} rising h q p =
       let word : w ≡ (row_at rows i).key = q ∙ key-word rows i in
@@ -119,13 +119,13 @@ module _ (rows : List ℕ) (n key i : ℕ) (first : FirstFrom rows n key i) wher
 -- ---- what is known of the answer
 
 -- of a row that was found among the rows from i on: its place and its key
-abbrev Good : List ℕ → ℕ → ℕ → ℕ → Found → Type 0
-Good rows key i end (At j) = (i ≤ j) × (j < end) × ((row_at rows j).key ≡ key)
-Good rows key i end Nothing = Unit
+abbrev Good : List ℕ → ℕ → ℕ → ℕ → Option ℕ → Type 0
+Good rows key i end (Some j) = (i ≤ j) × (j < end) × ((row_at rows j).key ≡ key)
+Good rows key i end None = Unit
 
-good_more : (rows : List ℕ) (key i end : ℕ) (found : Found) → Good rows key (suc i) end found → Good rows key i end found
-good_more rows key i end (At j) g = (omega arith, g.1, g.2)
-good_more rows key i end Nothing g = tt
+good_more : (rows : List ℕ) (key i end : ℕ) (found : Option ℕ) → Good rows key (suc i) end found → Good rows key i end found
+good_more rows key i end (Some j) g = (omega arith, g.1, g.2)
+good_more rows key i end None g = tt
 
 good : (rows : List ℕ) (key i n end : ℕ) → i + n ≡ end → Good rows key i end (row_from rows i n key)
 unfolding row_from
@@ -135,18 +135,19 @@ good rows key i (suc n) end q =
     (λ f. good_more rows key i end (row_from rows (suc i) n key) (good rows key (suc i) n end (omega arith)))
 
 -- a row that was found is one of the table's, and has the key
-pub row-found : (rows : List ℕ) (n key : ℕ) {i : ℕ} → row_of_key rows n key ≡ At i → (i < n) × ((row_at rows i).key ≡ key)
+pub row-found : (rows : List ℕ) (n key : ℕ) {i : ℕ} → row_of_key rows n key ≡ Some i → (i < n) × ((row_at rows i).key ≡ key)
 unfolding row_of_key
 row-found rows n key {i} p = let g = subst (Good rows key 0 n) p (good rows key 0 n n (omega arith)) in (g.1, g.2)
 
 -- a row is the row of its own key
-pub row-of-own-key : {rows : List ℕ} {n : ℕ} → Rising rows n → (i : ℕ) → i < n → row_of_key rows n (row_at rows i).key ≡ At i
+pub row-of-own-key : {rows : List ℕ} {n : ℕ} → Rising rows n → (i : ℕ) → i < n → row_of_key rows n (row_at rows i).key ≡ Some i
 unfolding row_of_key
 row-of-own-key {rows} {n} rising i h =
     sym (from_at rows (row_at rows i).key 0 n i (omega arith) (omega arith)
     (λ k l m p. (let less : (row_at rows k).key < (row_at rows i).key = rises rising k i m h in omega arith)) refl)
 
 -- a row whose first word is the key is the one
-pub row_near : {rows : List ℕ} {n next key : ℕ} {w : ℕ} → Rising rows n → next < n → w ≡ get_or rows (next * row_width) 0 → w ≡ key → At next ≡ row_of_key rows n key
+pub row_near : {rows : List ℕ} {n next key : ℕ} {w : ℕ} → Rising rows n → next < n → w ≡ get_or rows (next * row_width) 0 → w ≡ key
+    → Some next ≡ row_of_key rows n key
 row_near {rows} {n} {next} rising l p q =
     sym (row-of-own-key rising next l) ∙ ap (row_of_key rows n) (sym (key-word rows next) ∙ sym p ∙ q)

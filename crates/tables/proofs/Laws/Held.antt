@@ -1,4 +1,5 @@
 -- What is known of a table that passed the test, `TableHolds`: what the crates above cite.
+use Rattle.std.specs.Prelude.{Result, Ok, Err}
 use Prim.Native.Nat.{ℕ, zero, suc, ◌+◌, ◌-◌, ◌*◌, ◌≤◌, ◌<◌}
 use native.Mathlib.Nat.{sub-zero}
 use native.Mathlib.Decide.{ℕ_discrete}
@@ -13,8 +14,7 @@ use Rattle.format.specs.Known.{known}
 use Rattle.format.specs.FormKind.{form_of}
 use Rattle.format.specs.Limits.{entry_limit, section_limit}
 use Rattle.attributes.specs.End.{value_end}
-use Rattle.attributes.specs.declared.value.End.{End}
-use Rattle.attributes.specs.declared.value.End.TheVariants.{At, Short}
+use Rattle.attributes.specs.declared.value.Unread.{Unread}
 use Rattle.tables.specs.Row.{row_width, row_at, attr_at, endian_of}
 use Rattle.tables.specs.Unit.{no_unit, UnitRow, UnitIs, last, none, units_hold}
 use Rattle.tables.specs.Holds.{fitting, is_at, attr_holds, run_holds, row_holds, rows_hold, table_holds, TableHolds}
@@ -30,16 +30,16 @@ use Rattle.tables.specs.declared.row.Counts.{Counts}
 pub record AttrKnown (s vendors : List ℕ) (e : Endian) (a : Attr) : Type 0 where
   pub is_known : known vendors a.number ≡ true
   pub next : ℕ
-  pub ends : value_end (form_of a.number) e s a.value ≡ At next
+  pub ends : value_end (form_of a.number) e s a.value ≡ Ok next
 
 pub attr-passes : {s vendors : List ℕ} {e : Endian} {a : Attr} → AttrKnown s vendors e a → attr_holds s vendors e a ≡ true
 unfolding attr_holds is_at
 attr-passes p = rw (p.is_known, p.ends)
 
-told_at : (v : End) → is_at v ≡ true → (next : ℕ) × (v ≡ At next)
+told_at : (v : Result ℕ Unread) → is_at v ≡ true → (next : ℕ) × (v ≡ Ok next)
 unfolding is_at
-told_at (At next) h = (next, refl)
-told_at (Short field) h = absurd (true≢false (sym h))
+told_at (Ok next) h = (next, refl)
+told_at (Err why) h = absurd (true≢false (sym h))
 
 -- and the other way round
 attr-known : {s vendors : List ℕ} {e : Endian} (a : Attr) → attr_holds s vendors e a ≡ true → AttrKnown s vendors e a
@@ -100,7 +100,8 @@ module _ (s vendors rows attrs : List ℕ) (total n : ℕ) where
   inside-at p i h = let f : From i = from p i (omega arith) in (here i f.least f.run h f.holds).inside
 
   -- each attribute of row i's run is known
-  known_at : rows_hold s vendors rows attrs total 0 n 0 0 ≡ true → (i : ℕ) → i < n → (k : ℕ) → (row_at rows i).first ≤ k → k < (row_at rows i).first + (row_at rows i).count
+  known_at : rows_hold s vendors rows attrs total 0 n 0 0 ≡ true → (i : ℕ) → i < n → (k : ℕ) → (row_at rows i).first ≤ k
+      → k < (row_at rows i).first + (row_at rows i).count
       → AttrKnown s vendors (endian_of (row_at rows i).flags) (attr_at attrs k)
   known_at p i h k l m =
       let f : From i = from p i (omega arith) in
@@ -150,7 +151,8 @@ module _ {s vendors rows attrs : List ℕ} {counts : Counts} (checked : TableHol
       let lent : counts.rows * row_width ≤ length rows = held_fits.rows_lent in
       record {
         few = omega arith;
-        rise = λ i h. (let up : (row_at rows i).key + 4 ≤ (row_at rows (i + 1)).key = above_at s vendors rows attrs counts.attrs counts.rows parts.1 i h in omega arith);
+        rise = λ i h. (let up : (row_at rows i).key + 4 ≤ (row_at rows (i + 1)).key =
+            above_at s vendors rows attrs counts.attrs counts.rows parts.1 i h in omega arith);
       }
 
   -- ---- units: what document 02's K7 demands

@@ -3,28 +3,21 @@ use Prim.Native.Nat.{ℕ, suc, ◌+◌, ◌-◌, ◌*◌, ◌≤◌, ◌<◌}
 use native.Mathlib.Numerals.{add-one}
 use native.Mathlib.Omega.{arith}
 use mathlib.Core.Path.{◌≡◌, refl, sym, ◌∙◌}
-use mathlib.Core.Bool.{Bool, true, false, cond, ◌&&◌, and-true, and-false, and-eq-true_iff}
+use mathlib.Core.Bool.{Bool, true, false, ◌&&◌, and-true, and-eq-true_iff}
 use mathlib.Core.List.{List, [], ◌∷◌}
 use lib.ListN.{length, get_or}
 use lib.Dec.{leb, ltb, eqb}
-use borrow.Author.Tests.{lt-ltb, le-ltb, le-leb, lt-leb, eq-eqb, ne_eqb, leb-true, ltb-true, eqb-true}
+use borrow.Author.Tests.{lt-ltb, le-leb, eq-eqb, ne_eqb, leb-true, ltb-true, eqb-true}
 use Rattle.numbers.specs.declared.Endian.{Endian}
 use Rattle.format.specs.Lookup.{is_on}
 use Rattle.format.proofs.Laws.Computed.{all_below, beyond}
 use Rattle.format.specs.TagKind.{tags}
 use Rattle.format.specs.AttributeKind.{attribute_kinds}
 use Rattle.format.specs.Known.{known}
-use Rattle.format.specs.FormKind.{form_of}
 use Rattle.format.specs.Limits.{entry_limit, attribute_limit}
-use Rattle.attributes.specs.End.{value_end}
-use Rattle.attributes.specs.Inside.Read.{ended, known_end}
-use Rattle.attributes.specs.declared.value.End.{End}
-use Rattle.attributes.specs.declared.value.End.TheVariants as end
-use Rattle.attributes.specs.declared.read.Ending.{Ending}
-use Rattle.attributes.specs.declared.read.Ending.TheVariants as ending
 use Rattle.tables.specs.Row.{row_width, attr_width, row_at, attr_at, endian_of}
 use Rattle.tables.specs.Unit.{no_unit, units_hold}
-use Rattle.tables.specs.Holds.{fitting, is_at, attr_holds, run_holds, row_holds, rows_hold, table_holds}
+use Rattle.tables.specs.Holds.{fitting, attr_holds, run_holds, row_holds, rows_hold, table_holds}
 use Rattle.tables.specs.declared.row.Row.{Row}
 use Rattle.tables.specs.declared.row.Attr.{Attr}
 use Rattle.tables.specs.declared.row.Counts.{Counts}
@@ -39,7 +32,7 @@ no_member n (x ∷ list) small h =
     let low : x < 65536 = small 0 in
     rw (ne_eqb x n (λ e. omega arith)) (no_member n list (λ k. small (suc k)) h)
 
-no_tag : (n : ℕ) → 65536 ≤ n → is_on n tags ≡ false
+pub no_tag : (n : ℕ) → 65536 ≤ n → is_on n tags ≡ false
 unfolding tags all_below is_on
 no_tag n h = beyond 65536 (length tags) tags n refl h
 
@@ -49,31 +42,15 @@ not_known vendors n small h = rw (beyond 65536 (length attribute_kinds) attribut
 
 -- ---- one attribute
 
-unfoldable pub at_end : Ending → Bool
-at_end (ending.At next) = true
-at_end (ending.Short field) = false
-at_end (ending.Unknown place) = false
-
-at-known : (b : Bool) (v : End) (place : ℕ) → at_end (cond b (ended v) (ending.Unknown place)) ≡ (b && is_at v)
-unfolding at_end ended is_at
-at-known true (end.At next) place = refl
-at-known true (end.Short field) place = refl
-at-known false v place = refl
-
 module _ (s vendors : List ℕ) (e : Endian) (a : Attr) where
   pub attr-wide : ((k : ℕ) → get_or vendors k 0 < 65536) → 65536 ≤ a.number → false ≡ attr_holds s vendors e a
   unfolding attr_holds
   attr-wide small h = rw (not_known vendors a.number small h)
 
-  -- its value's end was looked for, by its number, and told
-  pub attr-told : {v told : Ending} → v ≡ known_end vendors e s a.value a.number → v ≡ told → at_end told ≡ attr_holds s vendors e a
-  unfolding attr_holds known_end
-  attr-told v t = rw (← t, v) (at-known (known vendors a.number) (value_end (form_of a.number) e s a.value) a.value)
-
 -- ---- a run of attributes, from its k-th on
 
 module _ (s vendors : List ℕ) (e : Endian) (attrs : List ℕ) (first n k : ℕ) where
-  run_step : k < n → run_holds s vendors e attrs (first + k) (n - k)
+  pub run_step : k < n → run_holds s vendors e attrs (first + k) (n - k)
       ≡ (attr_holds s vendors e (attr_at attrs (first + k)) && run_holds s vendors e attrs (first + (k + 1)) (n - (k + 1)))
   unfolding run_holds
   run_step h =
@@ -81,36 +58,9 @@ module _ (s vendors : List ℕ) (e : Endian) (attrs : List ℕ) (first n k : ℕ
       let next : first + (k + 1) ≡ suc (first + k) = omega arith in
       rw (left, next)
 
-  pub run-bad : {a : Attr} → k < n → a ≡ attr_at attrs (first + k) → attr_holds s vendors e a ≡ false → false ≡ run_holds s vendors e attrs (first + k) (n - k)
-  run-bad h r p = rw (run_step h, ← r, p)
-
-  pub run-next : {a : Attr} → k < n → a ≡ attr_at attrs (first + k) → attr_holds s vendors e a ≡ true
-      → run_holds s vendors e attrs (first + (k + 1)) (n - (k + 1)) ≡ run_holds s vendors e attrs (first + k) (n - k)
-  run-next h r p = rw (run_step h, ← r, p)
-
-  pub run_end : n ≤ k → true ≡ run_holds s vendors e attrs (first + k) (n - k)
-  unfolding run_holds
-  run_end h = let left : n - k ≡ 0 = omega arith in rw left
-
 -- ---- one row
 
 module _ (s : List ℕ) (least : ℕ) (r : Row) where
-  pub head-low : r.key < least → false ≡ head_holds s least r
-  unfolding head_holds
-  head-low h = rw (lt-leb least r.key h)
-
-  pub head-outside : length s ≤ r.key → false ≡ head_holds s least r
-  unfolding head_holds
-  head-outside h = rw (le-ltb r.key (length s) h, and-false)
-
-  pub head-wide : 65536 ≤ r.kind → false ≡ head_holds s least r
-  unfolding head_holds
-  head-wide h = rw (no_tag r.kind h, and-false)
-
-  pub head-flags : 7 < r.flags → false ≡ head_holds s least r
-  unfolding head_holds
-  head-flags h = rw (lt-leb r.flags 7 h, and-false)
-
   -- what is left is the kind
   pub head-kind : least ≤ r.key → r.key < length s → r.flags ≤ 7 → is_on r.kind tags ≡ head_holds s least r
   unfolding head_holds
@@ -121,15 +71,6 @@ module _ (s vendors attrs : List ℕ) (total least run : ℕ) (r : Row) where
       ≡ (head_holds s least r && eqb r.first run && leb (run + r.count) total && run_holds s vendors (endian_of r.flags) attrs run r.count)
   unfolding row_holds head_holds
   row-split = refl
-
-  pub row-bad : head_holds s least r ≡ false → false ≡ row_holds s vendors attrs total least run r
-  row-bad h = rw (row-split, h)
-
-  pub row_apart : (r.first ≡ run → ⊥) → false ≡ row_holds s vendors attrs total least run r
-  row_apart h = rw (row-split, ne_eqb r.first run h, and-false)
-
-  pub row-past : total < run + r.count → false ≡ row_holds s vendors attrs total least run r
-  row-past h = rw (row-split, lt-leb (run + r.count) total h, and-false)
 
   -- what is left is the run
   pub row-run : {e : Endian} → head_holds s least r ≡ true → r.first ≡ run → run + r.count ≤ total → e ≡ endian_of r.flags
@@ -147,41 +88,9 @@ module _ (s vendors rows attrs : List ℕ) (total n i least run : ℕ) where
       let left : n - i ≡ suc (n - (i + 1)) = omega arith in
       rw (left, add-one i)
 
-  pub rows-bad : {r : Row} → i < n → r ≡ row_at rows i → row_holds s vendors attrs total least run r ≡ false
-      → false ≡ rows_hold s vendors rows attrs total i (n - i) least run
-  rows-bad h q p = rw (rows_step h, ← q, p)
-
-  pub rows_next : {r : Row} → i < n → r ≡ row_at rows i → row_holds s vendors attrs total least run r ≡ true
-      → rows_hold s vendors rows attrs total (i + 1) (n - (i + 1)) (r.key + 4) (run + r.count) ≡ rows_hold s vendors rows attrs total i (n - i) least run
-  rows_next h q p = rw (rows_step h, ← q, p)
-
-  pub rows_end : n ≤ i → eqb run total ≡ rows_hold s vendors rows attrs total i (n - i) least run
-  unfolding rows_hold
-  rows_end h = let left : n - i ≡ 0 = omega arith in rw left
-
 -- ---- the table
 
 module _ (s vendors rows attrs : List ℕ) (counts : Counts) where
-  pub table-many-rows : entry_limit < counts.rows → false ≡ table_holds s vendors rows attrs counts
-  unfolding table_holds fitting
-  table-many-rows h = rw (lt-leb counts.rows entry_limit h)
-
-  pub table-short-rows : length rows < counts.rows * row_width → false ≡ table_holds s vendors rows attrs counts
-  unfolding table_holds fitting
-  table-short-rows h = rw (lt-leb (counts.rows * row_width) (length rows) h, and-false)
-
-  pub table-many-attrs : attribute_limit < counts.attrs → false ≡ table_holds s vendors rows attrs counts
-  unfolding table_holds fitting
-  table-many-attrs h = rw (lt-leb counts.attrs attribute_limit h, and-false)
-
-  pub table-short-attrs : length attrs < counts.attrs * attr_width → false ≡ table_holds s vendors rows attrs counts
-  unfolding table_holds fitting
-  table-short-attrs h = rw (lt-leb (counts.attrs * attr_width) (length attrs) h, and-false)
-
-  pub table-bad-rows : rows_hold s vendors rows attrs counts.attrs 0 counts.rows 0 0 ≡ false → false ≡ table_holds s vendors rows attrs counts
-  unfolding table_holds
-  table-bad-rows h = rw (h, and-false)
-
   -- what is left are the units
   pub table-units : counts.rows ≤ entry_limit → counts.rows * row_width ≤ length rows → counts.attrs ≤ attribute_limit
       → counts.attrs * attr_width ≤ length attrs → rows_hold s vendors rows attrs counts.attrs 0 counts.rows 0 0 ≡ true

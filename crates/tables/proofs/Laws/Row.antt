@@ -1,18 +1,12 @@
 -- What follows from `Row`: what the code reads and stores, and that a table's rows and attributes are those that were stored.
-use Prim.Native.Nat.{ℕ, ◌+◌, ◌*◌, ◌/◌, ◌%◌, ◌≤◌, ◌<◌}
+use Prim.Native.Nat.{ℕ, ◌+◌, ◌*◌, ◌≤◌, ◌<◌}
 use native.Mathlib.Nat.{add-zero}
-use native.Mathlib.Numerals.{add-one, add-two, add-three, add-four, add_five}
 use native.Mathlib.Omega.{arith}
-use mathlib.Core.Path.{◌≡◌, refl, sym, ap, ◌∙◌}
+use mathlib.Core.Path.{◌≡◌, refl, sym}
 use mathlib.Core.List.{List, ◌++◌}
-use lib.ListN.{length, get_or, set}
-use lib.Seq.{sets, set_out}
-use borrow.Author.Tests.{eq-eqb, ne_eqb}
-use Rattle.lent.proofs.Laws.Stores.{word_none}
-use Rattle.numbers.specs.declared.Endian.TheVariants.{Big, Little}
-use Rattle.numbers.specs.declared.Endian.{Endian}
-use Rattle.tables.specs.Row.{ends_of, row_width, attr_width, row_words, attr_words, rows_words, attrs_words, row_at, attr_at, rows_from, attrs_from, put_row, put_unit, put_attr, endian_of}
-use Rattle.lent.proofs.Laws.Stores.{sets-out}
+use lib.ListN.{length, get_or}
+use lib.Seq.{sets}
+use Rattle.tables.specs.Row.{row_width, attr_width, row_words, attr_words, rows_words, attrs_words, row_at, attr_at, rows_from, attrs_from}
 use Rattle.tables.proofs.Laws.Flat.{Kind, length-all, runs_append, all_back}
 use Rattle.tables.specs.declared.row.Row.{Row}
 use Rattle.tables.specs.declared.row.Attr.{Attr}
@@ -30,48 +24,6 @@ module _ (t : List ℕ) (i : ℕ) where
   unfolding attr_at
   attr-read p q = cc
 
-pub row-none : (t : List ℕ) (i : ℕ) → length t ≤ i → record { key = 0; kind = 0; flags = 0; first = 0; count = 0; unit = 0 } ≡ row_at t i
-row-none t i h =
-    row_read t i (word_none t (i * row_width) (omega arith)) (word_none t (i * row_width + 1) (omega arith)) (word_none t (i * row_width + 2) (omega arith))
-    (word_none t (i * row_width + 3) (omega arith)) (word_none t (i * row_width + 4) (omega arith)) (word_none t (i * row_width + 5) (omega arith))
-
-pub attr-none : (t : List ℕ) (i : ℕ) → length t ≤ i → record { number = 0; value = 0 } ≡ attr_at t i
-attr-none t i h = attr-read t i (word_none t (i * attr_width) (omega arith)) (word_none t (i * attr_width + 1) (omega arith))
-
--- ---- storing, word by word
-
-pub row-stored : (t : List ℕ) (i : ℕ) (r : Row) {t₁ t₂ t₃ t₄ t₅ t₆ : List ℕ} → t₁ ≡ set t (i * row_width) r.key → t₂ ≡ set t₁ (i * row_width + 1) r.kind
-    → t₃ ≡ set t₂ (i * row_width + 2) r.flags → t₄ ≡ set t₃ (i * row_width + 3) r.first → t₅ ≡ set t₄ (i * row_width + 4) r.count
-    → t₆ ≡ set t₅ (i * row_width + 5) r.unit → t₆ ≡ put_row t i r
-unfolding row_words
-row-stored t i r p₁ p₂ p₃ p₄ p₅ p₆ = rw (p₆, p₅, p₄, p₃, p₂, p₁, add-one, add-two, add-three, add-four, add_five)
-
-pub attr-stored : (t : List ℕ) (i : ℕ) (a : Attr) {t₁ t₂ : List ℕ} → t₁ ≡ set t (i * attr_width) a.number → t₂ ≡ set t₁ (i * attr_width + 1) a.value
-    → t₂ ≡ put_attr t i a
-unfolding attr_words
-attr-stored t i a p₁ p₂ = rw (p₂, p₁, add-one)
-
--- what lies past the words is not stored
-pub row-unstored : (t : List ℕ) (i : ℕ) (r : Row) → length t ≤ i → t ≡ put_row t i r
-row-unstored t i r h = sym (sets-out t (i * row_width) (row_words r) (omega arith))
-
-pub unit-unstored : (t : List ℕ) (i unit : ℕ) → length t ≤ i → t ≡ put_unit t i unit
-unfolding put_unit
-unit-unstored t i unit h = sym (set_out t (i * row_width + 5) unit (omega arith))
-
-pub attr-unstored : (t : List ℕ) (i : ℕ) (a : Attr) → length t ≤ i → t ≡ put_attr t i a
-attr-unstored t i a h = sym (sets-out t (i * attr_width) (attr_words a) (omega arith))
-
--- ---- flags
-
-pub says-little : (flags : ℕ) → flags / 4 % 2 ≡ 1 → Little ≡ endian_of flags
-unfolding endian_of
-says-little flags h = rw (eq-eqb (flags / 4 % 2) 1 h)
-
-pub says-big : (flags : ℕ) → (flags / 4 % 2 ≡ 1 → ⊥) → Big ≡ endian_of flags
-unfolding endian_of
-says-big flags h = rw (ne_eqb (flags / 4 % 2) 1 h)
-
 -- ---- a table's rows and attributes are those that were stored
 
 -- only a row's own words are read, and they say it
@@ -85,7 +37,8 @@ row_is : (t : List ℕ) (i : ℕ) (r : Row) → ((k : ℕ) → k < row_width →
 unfolding row_words
 row_is t i r h =
     let h₀ : get_or t (i * row_width) 0 ≡ r.key = rw add-zero at (h 0 (omega arith)) in
-    sym (row_read t i (sym h₀) (sym (h 1 (omega arith))) (sym (h 2 (omega arith))) (sym (h 3 (omega arith))) (sym (h 4 (omega arith))) (sym (h 5 (omega arith))))
+    sym (row_read t i (sym h₀) (sym (h 1 (omega arith))) (sym (h 2 (omega arith)))
+    (sym (h 3 (omega arith))) (sym (h 4 (omega arith))) (sym (h 5 (omega arith))))
 
 attr-same : (t u : List ℕ) (i : ℕ) → ((k : ℕ) → k < attr_width → get_or t (i * attr_width + k) 0 ≡ get_or u (i * attr_width + k) 0) → attr_at t i ≡ attr_at u i
 unfolding attr_at
@@ -164,9 +117,3 @@ attrs-append t i xs ys = runs_append attr_kind t i xs ys
 pub attrs-back : (t : List ℕ) (xs : List Attr) → length xs * attr_width ≤ length t → attrs_from (sets t 0 (attrs_words xs)) 0 (length xs) ≡ xs
 unfolding attr_kind
 attrs-back t xs h = all_back attr_kind t 0 xs (omega arith)
-
--- the endiannesses of a row
-pub ends_of_lem : (e : Endian) (rows : List ℕ) (i : ℕ) {row : Row} {own : Endian} → row ≡ row_at rows i → own ≡ endian_of row.flags
-    → record { section = e; «data» = own } ≡ ends_of e rows i
-unfolding ends_of
-ends_of_lem e rows i p q = ap (λ (x : Endian). record { section = e; «data» = x }) (q ∙ ap (λ (r : Row). endian_of r.flags) p)

@@ -1,4 +1,6 @@
 -- For each way that the code tests; and what holds where all three passed.
+use Rattle.std.specs.Prelude.{Result, Ok, Err}
+use Rattle.format.specs.declared.refusal.Refusal.{Refusal}
 use Prim.Native.Nat.{ℕ, ◌≤◌, ◌<◌}
 use mathlib.Core.Path.{◌≡◌, sym, ap, ◌∙◌}
 use mathlib.Core.Bool.{true, false}
@@ -12,13 +14,11 @@ use Rattle.format.specs.Settings.{settings_hold}
 use Rattle.format.specs.declared.settings.Settings.{Settings}
 use Rattle.format.specs.declared.refusal.Reason.TheVariants as reason
 use Rattle.tables.specs.Holds.{table_holds, TableHolds}
-use Rattle.format.specs.Said.{gives, must, ◌>>◌}
+use Rattle.format.specs.Said.{said, gives, must, ◌>>◌}
 use Rattle.format.proofs.Laws.Said.{case-said, must-gave, last-gave}
-use Rattle.tables.specs.Tests.{said_tested, test_table, Tells}
+use Rattle.tables.specs.Tests.{test_table, Tells}
 use Rattle.tables.specs.Inside.Keyed.{refused_at}
 use Rattle.tables.specs.declared.row.Counts.{Counts}
-use Rattle.tables.specs.declared.tests.Tested.{Tested}
-use Rattle.tables.specs.declared.tests.Tested.TheVariants.{Passed, Refused}
 
 -- ---- the three tests passed
 
@@ -36,36 +36,34 @@ tests-hold t p =
 
 -- ---- what passed holds
 
-module _ {settings : Settings} {vendors sizes s rows attrs : List ℕ} {counts : Counts} {r : Tested} where
-  passed-holds : Tells (table s settings vendors sizes rows attrs counts) r → r ≡ Passed → Holding (table s settings vendors sizes rows attrs counts)
-  unfolding said_tested
-  passed-holds is p = tests-hold (table s settings vendors sizes rows attrs counts) (sym (case-said said_tested is.told p))
+module _ {settings : Settings} {vendors sizes s rows attrs : List ℕ} {counts : Counts} {r : Result Unit Refusal} where
+  passed-holds : Tells (table s settings vendors sizes rows attrs counts) r → r ≡ Ok tt → Holding (table s settings vendors sizes rows attrs counts)
+  unfolding said
+  passed-holds is p = tests-hold (table s settings vendors sizes rows attrs counts) (sym (case-said said is.told p))
 
-  pub passed-held : Tells (table s settings vendors sizes rows attrs counts) r → r ≡ Passed → TableHolds s vendors rows attrs counts
+  pub passed-held : Tells (table s settings vendors sizes rows attrs counts) r → r ≡ Ok tt → TableHolds s vendors rows attrs counts
   passed-held is p = record { holds = (passed-holds is p).table_held }
 
-  pub passed-short : Tells (table s settings vendors sizes rows attrs counts) r → r ≡ Passed → length s < section_limit
+  pub passed-short : Tells (table s settings vendors sizes rows attrs counts) r → r ≡ Ok tt → length s < section_limit
   passed-short is p = ltb-true (length s) section_limit (passed-holds is p).section_short
 
 -- ---- the ways through the code
 
-module _ (settings : Settings) (vendors sizes s rows attrs : List ℕ) (counts : Counts) where
-  pub settings-fail : settings_hold settings vendors sizes ≡ false → {r : Tested} → r ≡ Refused (refused_at 0 reason.Settings)
-      → Tells (table s settings vendors sizes rows attrs counts) r
-  unfolding test_table must ◌>>◌ said_tested
-  settings-fail h e = record { told = ap said_tested e ∙ rw h }
+module _ (t : Table) {r : Result Unit Refusal} where
+  pub settings-fail : settings_hold t.settings t.vendors t.sizes ≡ false → r ≡ Err (refused_at 0 reason.Settings) → Tells t r
+  unfolding test_table must ◌>>◌ said
+  settings-fail h e = record { told = ap said e ∙ rw h }
 
-  pub section-long : settings_hold settings vendors sizes ≡ true → section_limit ≤ length s → {r : Tested} → r ≡ Refused (refused_at 0 reason.Long)
-      → Tells (table s settings vendors sizes rows attrs counts) r
-  unfolding test_table must ◌>>◌ said_tested
-  section-long h k e = record { told = ap said_tested e ∙ rw (h, le-ltb (length s) section_limit k) }
+  pub section-long : settings_hold t.settings t.vendors t.sizes ≡ true → section_limit ≤ length t.section → r ≡ Err (refused_at 0 reason.Long) → Tells t r
+  unfolding test_table must ◌>>◌ said
+  section-long h k e = record { told = ap said e ∙ rw (h, le-ltb (length t.section) section_limit k) }
 
-  pub table-fails : settings_hold settings vendors sizes ≡ true → length s < section_limit → table_holds s vendors rows attrs counts ≡ false
-      → {r : Tested} → r ≡ Refused (refused_at 0 reason.Table) → Tells (table s settings vendors sizes rows attrs counts) r
-  unfolding test_table must ◌>>◌ said_tested
-  table-fails h k t e = record { told = ap said_tested e ∙ rw (h, lt-ltb (length s) section_limit k, t) }
+  pub table-fails : settings_hold t.settings t.vendors t.sizes ≡ true → length t.section < section_limit
+      → table_holds t.section t.vendors t.rows t.attrs t.counts ≡ false → r ≡ Err (refused_at 0 reason.Table) → Tells t r
+  unfolding test_table must ◌>>◌ said
+  table-fails h k q e = record { told = ap said e ∙ rw (h, lt-ltb (length t.section) section_limit k, q) }
 
-  pub all_pass : settings_hold settings vendors sizes ≡ true → length s < section_limit → table_holds s vendors rows attrs counts ≡ true
-      → Tells (table s settings vendors sizes rows attrs counts) Passed
-  unfolding test_table must ◌>>◌ said_tested
-  all_pass h k t = record { told = rw (h, lt-ltb (length s) section_limit k, t) }
+  pub all_pass : settings_hold t.settings t.vendors t.sizes ≡ true → length t.section < section_limit
+      → table_holds t.section t.vendors t.rows t.attrs t.counts ≡ true → r ≡ Ok tt → Tells t r
+  unfolding test_table must ◌>>◌ said
+  all_pass h k q e = record { told = ap said e ∙ rw (h, lt-ltb (length t.section) section_limit k, q) }

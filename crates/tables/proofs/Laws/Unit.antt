@@ -6,12 +6,12 @@ use native.Mathlib.Decide.{ℕ_discrete, dec_lt}
 use native.Mathlib.Numerals.{add-one, add-two, add-three, add-four, add_five}
 use native.Mathlib.Omega.{arith}
 use mathlib.Core.Path.{◌≡◌, refl, sym, ap, ap₂, subst, ◌∙◌}
-use mathlib.Core.Bool.{true, false, ◌&&◌}
+use mathlib.Core.Bool.{true, ◌&&◌}
 use mathlib.Core.List.{List, [], ◌∷◌}
-use lib.ListN.{length, length-set}
+use lib.ListN.{length}
 use lib.Seq.{sets, set-get_or, get_or-set_other}
 use lib.Dec.{eqb}
-use borrow.Author.Tests.{eq-eqb, ne_eqb, eqb-true, eqb-false}
+use borrow.Author.Tests.{eq-eqb, eqb-true, eqb-false}
 use Rattle.format.specs.TagKind as tag
 use Rattle.numbers.proofs.Laws.Tests.{cond-all}
 use Rattle.tables.specs.Row.{row_width, row_words, rows_words, row_at, rows_from, put_row, put_unit}
@@ -20,36 +20,13 @@ use Rattle.tables.specs.declared.row.Row.{Row}
 use Rattle.tables.proofs.Laws.Row.{row_same, rows_append}
 use Rattle.tables.proofs.Laws.Holds.{both}
 
--- ---- one row
-
-module _ (before : ℕ) (r : Row) where
-  pub own-unit : r.kind ≡ tag.compile_unit → r.key ≡ unit_of before r
-  unfolding unit_of
-  own-unit h = rw (eq-eqb r.kind tag.compile_unit h)
-
-  pub same-unit : (r.kind ≡ tag.compile_unit → ⊥) → before ≡ unit_of before r
-  unfolding unit_of
-  same-unit h = rw (ne_eqb r.kind tag.compile_unit h)
-
 -- ---- the test, from the i-th row on
 
 module _ (rows : List ℕ) (n i before : ℕ) where
-  units-step : i < n → units_hold rows i (n - i) before
+  pub units_step : i < n → units_hold rows i (n - i) before
       ≡ (eqb (row_at rows i).unit (unit_of before (row_at rows i)) && units_hold rows (i + 1) (n - (i + 1)) (unit_of before (row_at rows i)))
   unfolding units_hold
-  units-step h = let left : n - i ≡ suc (n - (i + 1)) = omega arith in rw (left, add-one i)
-
-  pub units-bad : {r : Row} {unit : ℕ} → i < n → r ≡ row_at rows i → unit ≡ unit_of before r → (r.unit ≡ unit → ⊥)
-      → false ≡ units_hold rows i (n - i) before
-  units-bad {r} {unit} h p q d = rw (units-step h, ← p, ← q, ne_eqb r.unit unit d)
-
-  pub units-next : {r : Row} {unit : ℕ} → i < n → r ≡ row_at rows i → unit ≡ unit_of before r → r.unit ≡ unit
-      → units_hold rows (i + 1) (n - (i + 1)) unit ≡ units_hold rows i (n - i) before
-  units-next {r} {unit} h p q e = rw (units-step h, ← p, ← q, eq-eqb r.unit unit e)
-
-  pub units-end : n ≤ i → true ≡ units_hold rows i (n - i) before
-  unfolding units_hold
-  units-end h = let left : n - i ≡ 0 = omega arith in rw left
+  units_step h = let left : n - i ≡ suc (n - (i + 1)) = omega arith in rw (left, add-one i)
 
 -- ---- the units of rows are stored, one after the other
 
@@ -68,17 +45,19 @@ module _ (t : List ℕ) (n i before : ℕ) where
   unfolding units_put
   put-end h = let left : n - i ≡ 0 = omega arith in rw left
 
-pub put-length : (t : List ℕ) (i unit : ℕ) {t' : List ℕ} → t' ≡ put_unit t i unit → length t' ≡ length t
-unfolding put_unit
-put-length t i unit p = ap length p ∙ length-set t (i * row_width + 5) unit
-
 -- only the last of a row's words is another
 put-in-unit : (t : List ℕ) (i unit : ℕ) → put_unit t i unit ≡ put_row t i (in_unit unit (row_at t i))
 unfolding row_words row_at in_unit put_unit
 put-in-unit t i unit =
     let at : ℕ = i * row_width in
     rw (add-one, add-two, add-three, add-four, add_five)
-    (rw (set-get_or t at 0, set-get_or t (suc at) 0, set-get_or t (suc (suc at)) 0, set-get_or t (suc (suc (suc at))) 0, set-get_or t (suc (suc (suc (suc at)))) 0))
+    (rw (
+      set-get_or t at 0,
+      set-get_or t (suc at) 0,
+      set-get_or t (suc (suc at)) 0,
+      set-get_or t (suc (suc (suc at))) 0,
+      set-get_or t (suc (suc (suc (suc at)))) 0,
+    ))
 
 -- the rows behind it are as they were
 put-behind : (t : List ℕ) (i unit j : ℕ) → i < j → row_at (put_unit t i unit) j ≡ row_at t j
@@ -105,6 +84,9 @@ puts-units t i (suc n) before =
 
 pub units-stored : (t : List ℕ) (n : ℕ) → units_put t 0 n no_unit ≡ sets t 0 (rows_words (with_units (rows_from t 0 n)))
 units-stored t n = puts-units t 0 n no_unit
+
+-- what the loop that stores them goes by
+pub ruleset put_steps = (put_next, put-end, units-stored)
 
 -- ---- rows with their units
 
@@ -134,7 +116,8 @@ module _ (rows : List ℕ) where
   unit-stays : (i unit : ℕ) → (UnitRow rows (suc i) → ⊥) → UnitIs rows i unit → UnitIs rows (suc i) unit
   unit-stays i unit other (last j h u after) =
       last j (omega arith) u (λ k l m p. elim (ℕ_discrete k (suc i)) [ yes e ↦ other (subst (UnitRow rows) e p) | no d ↦ after k l (omega arith) p ])
-  unit-stays i unit other (none never) = none (λ k m p. elim (ℕ_discrete k (suc i)) [ yes e ↦ other (subst (UnitRow rows) e p) | no d ↦ never k (omega arith) p ])
+  unit-stays i unit other (none never) =
+      none (λ k m p. elim (ℕ_discrete k (suc i)) [ yes e ↦ other (subst (UnitRow rows) e p) | no d ↦ never k (omega arith) p ])
 
   other-unit : (i before : ℕ) → (UnitRow rows i → ⊥) → Before i before → UnitIs rows i before
   other-unit zero before other b =
@@ -168,7 +151,9 @@ module _ (rows : List ℕ) where
       let passed = both (eqb (row_at rows i).unit (unit_of before (row_at rows i))) (units_hold rows (suc i) n (unit_of before (row_at rows i))) h in
       let here : UnitIs rows i (unit_of before (row_at rows i)) = unit-follows i before b in
       elim (ℕ_discrete i k) [
-        | yes e ↦ subst (λ (x : ℕ). UnitIs rows x (row_at rows x).unit) e (subst (UnitIs rows i) (sym (eqb-true (row_at rows i).unit (unit_of before (row_at rows i)) passed.0)) here)
+        | yes e ↦
+            subst (λ (x : ℕ). UnitIs rows x (row_at rows x).unit) e
+            (subst (UnitIs rows i) (sym (eqb-true (row_at rows i).unit (unit_of before (row_at rows i)) passed.0)) here)
         | no d ↦ units-are n (suc i) (unit_of before (row_at rows i)) here passed.1 k (omega arith) (omega arith)
       ]
 

@@ -6,7 +6,7 @@ pub loop-step-init : goal.loop-step-init
 loop-step-init c = c.requires.1
 
 pub first_between-requires : goal.first_between-requires
-first_between-requires c = (c.requires.0, between_lower c.requires.0 c.loop-step.invariant _ (omega arith) (omega arith) c.cell.ensures c.if-cell-key.true)
+first_between-requires c = (c.requires.0, between_lower c.requires.0 c.loop-step.invariant _ (omega arith) (omega arith) c.get_or.ensures c.if-get_or-key.true)
 
 pub loop-step-preserved : goal.loop-step-preserved
-loop-step-preserved c = between-upper c.requires.0 c.loop-step.invariant _ (omega arith) (omega arith) c.cell.ensures c.if-cell-key.false
+loop-step-preserved c = between-upper c.requires.0 c.loop-step.invariant _ (omega arith) (omega arith) c.get_or.ensures c.if-get_or-key.false
