@@ -1,5 +1,6 @@
 -- Locations (document 01, 'Types, records, sizes'; STANDARD.md 19): a location is a run of atoms, each a byte and its operand.
-use Rattle.std.specs.Prelude.{ℕ, suc, ◌+◌, Bool, cond, ◌&&◌, ◌||◌, List, [], ◌∷◌, length, ◌==◌, slice_index}
+use Rattle.format.specs.declared.refusal.Refusal.{Refusal}
+use Rattle.std.specs.Prelude.{ℕ, suc, ◌+◌, Bool, cond, ◌&&◌, ◌||◌, List, [], ◌∷◌, length, ◌==◌, slice_index, Result, Ok, Err}
 use Rattle.numbers.specs.Value.{read_at}
 use Rattle.numbers.specs.declared.Endian.{Endian}
 use Rattle.format.specs.declared.location_op.LocationOp.{LocationOp}
@@ -7,17 +8,10 @@ use Rattle.format.specs.declared.location_op.LocationOp.TheVariants.{Register, B
 use Rattle.format.specs.declared.location_op.LocationOp.TheVariants.{MwDRef8, Unknown}
 use Rattle.format.specs.declared.refusal.Reason.TheVariants as reason
 use Rattle.format.specs.Said.{Said, gives, refuse, refusal, must, ◌>>◌}
-use Rattle.blocks.specs.declared.location.Located.{Located}
-use Rattle.blocks.specs.declared.location.Located.TheVariants as located
 use Rattle.blocks.specs.declared.location.VariableLocation.{VariableLocation}
 use Rattle.blocks.specs.declared.location.VariableLocation.TheVariants as variable
 
 -- ---- what the answers say; a refusal of a block alone has the place 0
-
--- an offset or an address
-unfoldable pub said_located : Located → Said ℕ
-said_located (located.Is n) = gives n
-said_located (located.Refused why) = refusal why
 
 -- where a variable is: in a register, at an address, at a register plus an offset
 pub data VariablePlace : Type 0 where
@@ -26,11 +20,11 @@ pub data VariablePlace : Type 0 where
   at_register_plus : ℕ → ℕ → VariablePlace
 
 -- such a place
-unfoldable pub said_variable_location : VariableLocation → Said VariablePlace
-said_variable_location (variable.Register n) = gives (in_register n)
-said_variable_location (variable.Address n) = gives (at_address n)
-said_variable_location (variable.RegisterPlus r n) = gives (at_register_plus r n)
-said_variable_location (variable.Refused why) = refusal why
+unfoldable pub said_variable_location : Result VariableLocation Refusal → Said VariablePlace
+said_variable_location (Ok (variable.Register n)) = gives (in_register n)
+said_variable_location (Ok (variable.Address n)) = gives (at_address n)
+said_variable_location (Ok (variable.RegisterPlus r n)) = gives (at_register_plus r n)
+said_variable_location (Err why) = refusal why
 
 -- ---- atoms
 

@@ -4,14 +4,7 @@ use Rattle.format.specs.Modifier.{modifier_of}
 use Rattle.format.specs.declared.modifier.Modifier.{Modifier}
 use Rattle.format.specs.declared.modifier.Modifier.TheVariants.{MwPointerTo, PointerTo, ReferenceTo, Const, Volatile, Unknown}
 use Rattle.format.specs.declared.refusal.Reason.TheVariants as reason
-use Rattle.format.specs.Said.{Said, gives, refusal, must, ◌>>◌}
-use Rattle.blocks.specs.declared.modifiers.Modifiers.{Modifiers}
-use Rattle.blocks.specs.declared.modifiers.Modifiers.TheVariants.{Known, Refused}
-
--- what an answer says: whether a pointer or a reference stands among modifiers that are known
-unfoldable pub said_modifiers : Modifiers → Said Bool
-said_modifiers (Known pointer) = gives pointer
-said_modifiers (Refused why) = refusal why
+use Rattle.format.specs.Said.{Said, gives, must, ◌>>◌}
 
 -- a modifier that document 01 names
 unfoldable pub is_known : Modifier → Bool

@@ -1,5 +1,6 @@
 -- One subscript (document 01, 'Types, records, sizes'): formats 0, 1 and 8, judged field by field. Byte 0 is the format.
-use Rattle.std.specs.Prelude.{ℕ, ◌+◌, ◌≤◌, cond, List, [], length, ◌==◌, nat_lt, slice_index}
+use Rattle.format.specs.declared.refusal.Refusal.{Refusal}
+use Rattle.std.specs.Prelude.{ℕ, ◌+◌, ◌≤◌, cond, List, [], length, ◌==◌, nat_lt, slice_index, Result, Ok, Err}
 use Rattle.numbers.specs.Value.{there}
 use Rattle.numbers.specs.declared.Endian.{Endian}
 use Rattle.format.specs.FundType.{fund_type_of}
@@ -13,12 +14,12 @@ use Rattle.format.specs.declared.refusal.Reason.TheVariants as reason
 use Rattle.attributes.specs.Parts.{part_at}
 use Rattle.attributes.specs.Read.{read_attribute}
 use Rattle.attributes.specs.declared.read.Attribute.{Attribute}
-use Rattle.attributes.specs.declared.read.Attribute.TheVariants as attribute
+use Rattle.attributes.specs.declared.value.Unread.{Unread}
 use Rattle.blocks.specs.Location.{process_offset}
 use Rattle.blocks.specs.Types.{number_in, known_number, process_type}
 use Rattle.blocks.specs.declared.types.Type.{«Type»}
 use Rattle.blocks.specs.declared.subscript.Subscript.{Subscript}
-use Rattle.blocks.specs.declared.subscript.Subscript.TheVariants.{Dimension, Element, Refused}
+use Rattle.blocks.specs.declared.subscript.Subscript.TheVariants.{Dimension, Element}
 
 -- a part of a block of subscripts: a dimension, by its index type and its size (0 is unbounded), or an element type; and how many bytes it takes
 pub data Part : Type 0 where
@@ -26,10 +27,10 @@ pub data Part : Type 0 where
   element : (of : «Type») (used : ℕ) → Part
 
 -- what an answer says
-unfoldable pub said_subscript : Subscript → Said Part
-said_subscript (Dimension index size used) = gives (dimension index size used)
-said_subscript (Element t used) = gives (element t used)
-said_subscript (Refused why) = refusal why
+unfoldable pub said_subscript : Result Subscript Refusal → Said Part
+said_subscript (Ok (Dimension index size used)) = gives (dimension index size used)
+said_subscript (Ok (Element t used)) = gives (element t used)
+said_subscript (Err why) = refusal why
 
 -- ---- formats 0 and 1: a dimension
 
@@ -69,12 +70,11 @@ location_bound e block = do
 -- ---- format 8: a type attribute, all of it in section endianness
 
 -- another attribute, a number that is not known and bytes that are missing are all 17; so no vendor list is asked
-unfoldable pub element_as : Endian → List ℕ → Attribute → Said Part
-element_as e block (attribute.Read number value next) = do
-  of ← process_type (record { section = e; «data» = e }) block number value
-  gives (element of next)
-element_as e block (attribute.Short field) = refuse reason.Block 0
-element_as e block (attribute.Unknown field) = refuse reason.Block 0
+unfoldable pub element_as : Endian → List ℕ → Result Attribute Unread → Said Part
+element_as e block (Ok a) = do
+  of ← process_type (record { section = e; «data» = e }) block a.number a.value
+  gives (element of a.next)
+element_as e block (Err why) = refuse reason.Block 0
 
 -- the attribute behind the format
 unfoldable pub element_type_at : Endian → List ℕ → Said Part

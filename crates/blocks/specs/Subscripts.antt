@@ -1,40 +1,19 @@
 -- A block of subscripts (document 01, 'Types, records, sizes'; the Rust's `process_array_subscript_data`): one after the other, the rest handed on;
 -- dimensions in their order, the last element type counting; no element type is 17. Places count from the block's own beginning.
-use Rattle.std.specs.Prelude.{◌≡◌, ℕ, zero, suc, ◌+◌, ◌/◌, true, false, List, [], ◌∷◌, ◌++◌, length, drop, ◌==◌, nat_le}
+use Rattle.std.specs.Prelude.{◌≡◌, ℕ, zero, suc, ◌+◌, ◌/◌, true, false, List, [], ◌∷◌, ◌++◌, length, drop, ◌==◌, nat_le, Option, Some, None}
 use Rattle.lent.specs.Outcome.{Outcome}
 use Rattle.numbers.specs.declared.Endian.{Endian}
-use Rattle.format.specs.Said.{Said, gives, refuse, refusal, wanting, ◌>>=◌, in_room, fills_room}
+use Rattle.format.specs.Said.{Said, gives, refuse, ◌>>=◌, in_room, fills_room}
 use Rattle.format.specs.declared.refusal.Reason.TheVariants as reason
 use Rattle.attributes.specs.Parts.{part_at}
 use Rattle.blocks.specs.Types.{ModifiersInside}
 use Rattle.blocks.specs.Subscript.{Part, dimension, element, next_subscript}
 use Rattle.blocks.specs.declared.types.Type.{«Type»}
-use Rattle.blocks.specs.declared.subscripts.Element.{Element}
-use Rattle.blocks.specs.declared.subscripts.Element.TheVariants as sofar
-use Rattle.blocks.specs.declared.subscripts.ArrayRead.{ArrayRead}
-use Rattle.blocks.specs.declared.subscripts.ArrayRead.TheVariants as counted
-use Rattle.blocks.specs.declared.subscripts.Subscripts.{Subscripts}
-use Rattle.blocks.specs.declared.subscripts.Subscripts.TheVariants as subscripts
+use Rattle.blocks.specs.declared.subscripts.Array.{Array}
 
--- an array: its element type, and how many dimensions it has
-pub record Array : Type 0 where
-  pub element : «Type»
-  pub dimensions : ℕ
-
--- the same, in short
+-- an array, in short: its element type, and how many dimensions it has
 abbrev pub array_of : «Type» → ℕ → Array
 array_of t n = record { element = t; dimensions = n }
-
--- what counting says
-unfoldable pub said_array_read : ArrayRead → Said Array
-said_array_read (counted.Are t n) = gives (array_of t n)
-said_array_read (counted.Refused why) = refusal why
-
--- what reading into lent room says
-unfoldable pub said_subscripts : Subscripts → Said Array
-said_subscripts (subscripts.Read t n) = gives (array_of t n)
-said_subscripts (subscripts.Refused why) = refusal why
-said_subscripts (subscripts.Room n) = wanting (n ∷ [])
 
 -- ---- subscript after subscript
 
@@ -48,12 +27,12 @@ unfoldable pub dimension_words : ℕ → ℕ → List ℕ
 dimension_words index size = index ∷ size ∷ []
 
 -- an array needs an element type
-unfoldable pub element_or : ℕ → Element → Said Array
-element_or n (sofar.Is t) = gives (array_of t n)
-element_or n sofar.Nothing = refuse reason.Block 0
+unfoldable pub element_or : ℕ → Option «Type» → Said Array
+element_or n (Some t) = gives (array_of t n)
+element_or n None = refuse reason.Block 0
 
 -- at the end of the block
-unfoldable pub at_end : Element → ℕ → Said Dimensions
+unfoldable pub at_end : Option «Type» → ℕ → Said Dimensions
 at_end el n = do
   of ← element_or n el
   gives (record { array = of; words = [] })
@@ -69,12 +48,12 @@ unfoldable pub raised : ℕ → «Type» → «Type»
 raised at t = record { kind = t.kind; place = at + t.place; count = t.count; pointer = t.pointer }
 
 -- a subscript at a place of the block, `next` reading the rest after so many bytes, with the element type so far and so many dimensions
-unfoldable pub step : (Element → ℕ → ℕ → Said Dimensions) → Element → ℕ → ℕ → Part → Said Dimensions
+unfoldable pub step : (Option «Type» → ℕ → ℕ → Said Dimensions) → Option «Type» → ℕ → ℕ → Part → Said Dimensions
 step next el n at (dimension index size used) = before (dimension_words index size) (next el (suc n) used)
-step next el n at (element t used) = next (sofar.Is (raised at t)) n used
+step next el n at (element t used) = next (Some (raised at t)) n used
 
 -- subscripts one after the other, at most `turns` of them, to the end of the block; the rest of it begins at a place
-unfoldable pub subscripts_from : Endian → ℕ → Element → ℕ → ℕ → List ℕ → Said Dimensions
+unfoldable pub subscripts_from : Endian → ℕ → Option «Type» → ℕ → ℕ → List ℕ → Said Dimensions
 subscripts_from e zero el n at rest = at_end el n
 subscripts_from e (suc turns) el n at rest =
     elim (length rest == 0) [
@@ -84,7 +63,7 @@ subscripts_from e (suc turns) el n at rest =
 
 -- the whole block: a subscript takes at least a byte, so it has no more of them than bytes
 unfoldable pub whole_block : Endian → List ℕ → Said Dimensions
-whole_block e block = subscripts_from e (length block) sofar.Nothing 0 0 block
+whole_block e block = subscripts_from e (length block) None 0 0 block
 
 -- the element type and the number of dimensions
 unfoldable pub count_subscripts : Endian → List ℕ → Said Array

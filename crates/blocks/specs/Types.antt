@@ -1,13 +1,11 @@
 -- Types (document 01, 'Types, records, sizes'; the Rust's `process_type`). A refusal is that of a block alone: bytes missing 17, a number that is
 -- not known 18.
-use Rattle.std.specs.Prelude.{ℕ, ◌+◌, ◌-◌, ◌≤◌, cond, List, [], length, take, ◌==◌, nat_le}
+use Rattle.std.specs.Prelude.{ℕ, ◌+◌, ◌-◌, ◌≤◌, cond, List, [], length, take, ◌==◌, nat_le, Option, Some, None}
 use Rattle.numbers.specs.Value.{value_of, read_at}
 use Rattle.numbers.specs.declared.Endian.{Endian}
 use Rattle.format.specs.AttributeKind as attribute
 use Rattle.format.specs.FundType.{parse_int}
-use Rattle.format.specs.Said.{Said, gives, refuse, refusal, must, ◌>>=◌, ◌>>◌}
-use Rattle.format.specs.declared.fund_type.FundType.{FundType}
-use Rattle.format.specs.declared.fund_type.FundType.TheVariants as fund
+use Rattle.format.specs.Said.{Said, gives, refuse, must, ◌>>=◌, ◌>>◌}
 use Rattle.format.specs.declared.refusal.Reason.TheVariants as reason
 use Rattle.attributes.specs.Parts.{block_at}
 use Rattle.attributes.specs.declared.decode.Endians.{Endians}
@@ -15,13 +13,6 @@ use Rattle.blocks.specs.Modifiers.{process_modifiers}
 use Rattle.blocks.specs.declared.types.TypeKind.{TypeKind}
 use Rattle.blocks.specs.declared.types.TypeKind.TheVariants.{Fundamental, UserDefined}
 use Rattle.blocks.specs.declared.types.Type.{«Type»}
-use Rattle.blocks.specs.declared.types.Typed.{Typed}
-use Rattle.blocks.specs.declared.types.Typed.TheVariants.{Is, Refused}
-
--- what an answer says
-unfoldable pub said_typed : Typed → Said «Type»
-said_typed (Is t) = gives t
-said_typed (Refused why) = refusal why
 
 -- ---- numbers
 
@@ -30,9 +21,9 @@ unfoldable pub number_in : Endian → ℕ → List ℕ → ℕ → Said ℕ
 number_in e w s at = read_at gives (refuse reason.Block 0) e w s at
 
 -- the number of a fundamental type that is known; 18 otherwise
-unfoldable pub known_number : FundType → Said ℕ
-known_number (fund.Known n) = gives n
-known_number fund.Unknown = refuse reason.Number 0
+unfoldable pub known_number : Option ℕ → Said ℕ
+known_number (Some n) = gives n
+known_number None = refuse reason.Number 0
 
 -- ---- modifiers and a type
 

@@ -6,6 +6,7 @@ use format::settings::Producer;
 use numbers::prefix::starts_with;
 
 // MW is Metrowerks' compiler, GNU C is GCC, all else another.
+#[tactic(auto, unfolding(crate::specs::Producer::parse_producer))]
 pub fn parse_producer(text: &[u8]) -> Producer
     ensures { result ≡ parse_producer text.now }
 {

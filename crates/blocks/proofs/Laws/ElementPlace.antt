@@ -1,5 +1,5 @@
 -- The modifiers of an element type stand in the block at the place that its answer names: they are those of the subscript that says it.
-use Rattle.std.proofs.Common.{◌≡◌, ℕ, zero, suc, ◌+◌, ◌≤◌, true, false, eqb, List, length, take, drop, sym, refl, ap, ◌∙◌, subst, arith, length-drop, drop-drop}
+use Rattle.std.proofs.Common.{Option, Some, None, ◌≡◌, ℕ, zero, suc, ◌+◌, ◌≤◌, true, false, eqb, List, length, take, drop, sym, refl, ap, ◌∙◌, subst, arith, length-drop, drop-drop}
 use Rattle.numbers.proofs.Laws.Written.{inside-there}
 use Rattle.numbers.specs.declared.Endian.{Endian}
 use Rattle.format.specs.Said.{Said, gives, refuses, ◌>>=◌}
@@ -8,8 +8,6 @@ use Rattle.attributes.specs.Parts.{part_at}
 use Rattle.blocks.specs.Subscript.{Part, dimension, element, next_subscript}
 use Rattle.blocks.specs.Subscripts.{dimension_words, Dimensions, element_or, at_end, before, raised, step, subscripts_from, whole_block, SaidWhere}
 use Rattle.blocks.specs.declared.types.Type.{«Type»}
-use Rattle.blocks.specs.declared.subscripts.Element.{Element}
-use Rattle.blocks.specs.declared.subscripts.Element.TheVariants as sofar
 use Rattle.blocks.proofs.Laws.Subscript.{of-gave, used-inside, element-modifiers}
 
 -- a part of what begins at a place
@@ -21,17 +19,17 @@ part-of-rest block at place count h k =
 
 module _ (e : Endian) (block : List ℕ) where
   -- the element type so far
-  abbrev SoFar : Element → Type 0
-  SoFar (sofar.Is t) = SaidWhere e block t
-  SoFar sofar.Nothing = Unit
+  abbrev SoFar : Option «Type» → Type 0
+  SoFar (Some t) = SaidWhere e block t
+  SoFar None = Unit
 
   abbrev Placed : Dimensions → Type 0
   Placed d = SaidWhere e block d.array.element
 
-  end-placed : (el : Element) (n : ℕ) → SoFar el → Of Placed (at_end el n)
+  end-placed : (el : Option «Type») (n : ℕ) → SoFar el → Of Placed (at_end el n)
   unfolding at_end element_or ◌>>=◌
-  end-placed (sofar.Is t) n h = h
-  end-placed sofar.Nothing n h = tt
+  end-placed (Some t) n h = h
+  end-placed None n h = tt
 
   before-placed : (words : List ℕ) (d : Said Dimensions) → Of Placed d → Of Placed (before words d)
   unfolding before ◌>>=◌
@@ -57,17 +55,17 @@ module _ (e : Endian) (block : List ℕ) where
   rest-drops : (at used : ℕ) {rest : List ℕ} → rest ≡ drop at block → drop used rest ≡ drop (at + used) block
   rest-drops at used p = ap (drop used) p ∙ drop-drop used at block
 
-  step-placed : (next : Element → ℕ → ℕ → Said Dimensions) → ((el : Element) (n used : ℕ) → SoFar el → Of Placed (next el n used))
-      → (el : Element) (n at : ℕ) → SoFar el → (x : Part) → next_subscript e (drop at block) ≡ gives x → Of Placed (step next el n at x)
+  step-placed : (next : Option «Type» → ℕ → ℕ → Said Dimensions) → ((el : Option «Type») (n used : ℕ) → SoFar el → Of Placed (next el n used))
+      → (el : Option «Type») (n at : ℕ) → SoFar el → (x : Part) → next_subscript e (drop at block) ≡ gives x → Of Placed (step next el n at x)
   unfolding step dimension_words
   step-placed next f el n at h (dimension index size used) q = before-placed (dimension_words index size) (next el (suc n) used) (f el (suc n) used h)
-  step-placed next f el n at h (element t used) q = f (sofar.Is (raised at t)) n used (said-where at q)
+  step-placed next f el n at h (element t used) q = f (Some (raised at t)) n used (said-where at q)
 
-  from-placed : (turns : ℕ) (el : Element) (n at : ℕ) (rest : List ℕ) → rest ≡ drop at block → SoFar el → Of Placed (subscripts_from e turns el n at rest)
+  from-placed : (turns : ℕ) (el : Option «Type») (n at : ℕ) (rest : List ℕ) → rest ≡ drop at block → SoFar el → Of Placed (subscripts_from e turns el n at rest)
   unfolding subscripts_from
   from-placed zero el n at rest p h = end-placed el n h
   from-placed (suc turns) el n at rest p h =
-      let next : Element → ℕ → ℕ → Said Dimensions = λ el' n' used. subscripts_from e turns el' n' (at + used) (drop used rest) in
+      let next : Option «Type» → ℕ → ℕ → Said Dimensions = λ el' n' used. subscripts_from e turns el' n' (at + used) (drop used rest) in
       elim (eqb (length rest) 0) as (λ b. Of Placed (elim b [ true ↦ at_end el n | false ↦ next_subscript e rest >>= step next el n at ])) [
         | true ↦ end-placed el n h
         | false ↦ of-gave Placed (next_subscript e rest) (step next el n at)
@@ -78,4 +76,4 @@ module _ (e : Endian) (block : List ℕ) where
   -- the theorem
   pub element_place : {d : Dimensions} → whole_block e block ≡ gives d → SaidWhere e block d.array.element
   unfolding whole_block
-  element_place p = subst (Of Placed) p (from-placed (length block) sofar.Nothing 0 0 block refl tt)
+  element_place p = subst (Of Placed) p (from-placed (length block) None 0 0 block refl tt)

@@ -1,64 +1,49 @@
 -- What follows from `Location`, for each way that the code comes to an answer.
-use Rattle.std.proofs.Common.{◌≡◌, ℕ, ◌≤◌, Bool, true, false, ◌&&◌, ◌||◌, eqb, List, [], ◌∷◌, length, get_or, sym, ap, ◌∙◌}
-use lib.ListN.{get_or-eq_default}
+use Rattle.std.specs.Prelude.{Option, Some, None, unwrap_or}
+use Rattle.std.proofs.Common.{sym, ◌≡◌, ℕ, Bool, true, false, ◌&&◌, ◌||◌, eqb, List, [], ◌∷◌, length, get_or, refl, ap, ◌∙◌}
 use Rattle.numbers.specs.Value.{read_at}
 use Rattle.numbers.proofs.Laws.Value.{read-map}
 use Rattle.numbers.specs.declared.Endian.{Endian}
-use Rattle.numbers.specs.declared.unsigned.Read32.{Read32}
-use Rattle.numbers.specs.declared.unsigned.Read32.TheVariants.{Value, Short}
 use Rattle.format.specs.declared.location_op.LocationOp.{LocationOp}
 use Rattle.format.specs.declared.location_op.LocationOp.TheVariants.{Address, Const, Add}
 use Rattle.format.specs.declared.refusal.Reason.TheVariants as reason
 use Rattle.format.specs.Said.{Said, gives, refuse}
-use Rattle.format.proofs.Laws.Said.{must-passed, must-failed}
+use Rattle.format.proofs.Laws.Said.{must-passed}
 use Rattle.blocks.specs.Location.{VariablePlace, in_register, at_address, at_register_plus, atom_number, operand_width, made_of, operand_at, is_register, is_register_plus, process_variable_location, shape_operand}
 
--- ---- bytes and operands
-
-pub byte-none : (block : List ℕ) (at : ℕ) → length block ≤ at → 0 ≡ get_or block at 0
-byte-none block at h = sym (get_or-eq_default block 0 h)
+-- ---- operands
 
 -- the number that was read, 0 for none
-unfoldable or_zero : Read32 → ℕ
-or_zero (Value n) = n
-or_zero Short = 0
-
-module _ (e : Endian) (block : List ℕ) (at : ℕ) {told : Read32} (is : told ≡ read_at Value Short e 4 block at) where
-  or-zero : or_zero told ≡ operand_at e block at
-  unfolding operand_at or_zero
-  or-zero = ap or_zero is ∙ read-map Value Short e 4 block at or_zero
-
-  pub operand-there : {n : ℕ} → told ≡ Value n → n ≡ operand_at e block at
-  unfolding or_zero
-  operand-there p = ap or_zero (sym p) ∙ or-zero
-
-  pub operand-none : told ≡ Short → 0 ≡ operand_at e block at
-  unfolding or_zero
-  operand-none p = ap or_zero (sym p) ∙ or-zero
+pub operand_read : (e : Endian) (block : List ℕ) (at : ℕ) → operand_at e block at ≡ unwrap_or (read_at Some None e 4 block at) 0
+unfolding operand_at
+operand_read e block at = sym (read-map Some None e 4 block at (λ (o : Option ℕ). unwrap_or o 0))
 
 -- ---- the shapes, by their bytes
 
-module _ (block : List ℕ) {first : ℕ} (is : first ≡ get_or block 0 0) where
-  pub address-made : (eqb first 0x03 && eqb (length block) 5) ≡ made_of (Address ∷ []) block 0
+module _ (block : List ℕ) where
+  pub address-made : made_of (Address ∷ []) block 0 ≡ (eqb (get_or block 0 0) 0x03 && eqb (length block) 5)
   unfolding made_of atom_number operand_width
-  address-made = ap (λ (x : ℕ). eqb x 0x03 && eqb (length block) 5) is
+  address-made = refl
 
-  pub offset_made : {second : ℕ} → second ≡ get_or block 5 0
-      → (eqb first 0x04 && (eqb second 0x07 && eqb (length block) 6)) ≡ made_of (Const ∷ Add ∷ []) block 0
+  pub offset_made : made_of (Const ∷ Add ∷ []) block 0 ≡ (eqb (get_or block 0 0) 0x04 && (eqb (get_or block 5 0) 0x07 && eqb (length block) 6))
   unfolding made_of atom_number operand_width
-  offset_made p = rw (is, p)
+  offset_made = refl
 
   pub register-made :
-      ((eqb first 0x01 && eqb (length block) 5)
-      || ((eqb first 0x02 && eqb (length block) 5) || (eqb first 0x80 && eqb (length block) 5)))
-      ≡ is_register block
+      is_register block
+      ≡ ((eqb (get_or block 0 0) 0x01 && eqb (length block) 5)
+      || ((eqb (get_or block 0 0) 0x02 && eqb (length block) 5) || (eqb (get_or block 0 0) 0x80 && eqb (length block) 5)))
   unfolding is_register made_of atom_number operand_width
-  register-made = rw is
+  register-made = refl
 
-  pub register-plus-made : {second third : ℕ} → second ≡ get_or block 5 0 → third ≡ get_or block 10 0
-      → (eqb first 0x02 && (eqb second 0x04 && (eqb third 0x07 && eqb (length block) 11))) ≡ is_register_plus block
+  pub register-plus-made :
+      is_register_plus block
+      ≡ (eqb (get_or block 0 0) 0x02 && (eqb (get_or block 5 0) 0x04 && (eqb (get_or block 10 0) 0x07 && eqb (length block) 11)))
   unfolding is_register_plus made_of atom_number operand_width
-  register-plus-made p q = rw (is, p, q)
+  register-plus-made = refl
+
+-- what the tests of the shapes stand on
+pub ruleset shapes = (address-made, offset_made, register-made, register-plus-made)
 
 -- ---- what a test that was made decides
 
@@ -66,10 +51,6 @@ module _ (ops : List LocationOp) (e : Endian) (block : List ℕ) {made : Bool} (
   pub operand-taken : made ≡ true → {n : ℕ} → n ≡ operand_at e block 1 → gives n ≡ shape_operand ops e block
   unfolding shape_operand
   operand-taken h p = must-passed is _ _ _ h (ap gives p)
-
-  pub operand-refused : made ≡ false → {z : Said ℕ} → z ≡ refuse reason.Block 0 → z ≡ shape_operand ops e block
-  unfolding shape_operand
-  operand-refused h p = must-failed is _ _ _ h p
 
 module _ (e : Endian) (block : List ℕ) {register : Bool} (is : register ≡ is_register block) where
   pub in-register : register ≡ true → {n : ℕ} → n ≡ operand_at e block 1 → gives (in_register n) ≡ process_variable_location e block

@@ -1,4 +1,5 @@
 -- Locations, types and subscripts are never refused by 14.
+use Rattle.std.specs.Prelude.{Option, Some, None, Result, Ok, Err}
 use Rattle.std.proofs.Common.{ℕ, zero, suc, ◌+◌, true, false, eqb, List, [], length, drop}
 use Rattle.numbers.specs.Value.{value_of}
 use Rattle.numbers.proofs.Laws.Tests.{cond-all}
@@ -10,22 +11,18 @@ use Rattle.format.specs.SubscriptFormat.{subscript_format_of}
 use Rattle.format.specs.Said.{Said, gives, refuse, ◌>>=◌, Never}
 use Rattle.format.proofs.Laws.Never.{never-gives, never-refuse, never-must, never-then, never-past}
 use Rattle.format.specs.declared.refusal.Reason.TheVariants as reason
-use Rattle.format.specs.declared.fund_type.FundType.{FundType}
-use Rattle.format.specs.declared.fund_type.FundType.TheVariants as fund
 use Rattle.format.specs.declared.location_op.LocationOp.{LocationOp}
 use Rattle.format.specs.declared.subscript_format.SubscriptFormat.{SubscriptFormat}
 use Rattle.format.specs.declared.subscript_format.SubscriptFormat.TheVariants as format
 use Rattle.attributes.specs.Read.{read_attribute}
 use Rattle.attributes.specs.declared.decode.Endians.{Endians}
 use Rattle.attributes.specs.declared.read.Attribute.{Attribute}
-use Rattle.attributes.specs.declared.read.Attribute.TheVariants as read
+use Rattle.attributes.specs.declared.value.Unread.{Unread}
 use Rattle.blocks.specs.Location.{shape_operand}
 use Rattle.blocks.specs.Modifiers.{process_modifiers}
 use Rattle.blocks.specs.Types.{number_in, known_number, modified, fundamental, fund_type, user_def_type, last_bytes, mod_fund_type, mod_ud_type, process_type}
 use Rattle.blocks.specs.Subscript.{Part, dimension, element, index_at, const_bound, location_size, location_bound, element_as, element_type_at, subscript_as, next_subscript}
 use Rattle.blocks.specs.Subscripts.{Dimensions, element_or, at_end, before, step, subscripts_from, whole_block, count_subscripts}
-use Rattle.blocks.specs.declared.subscripts.Element.{Element}
-use Rattle.blocks.specs.declared.subscripts.Element.TheVariants as sofar
 use Rattle.blocks.specs.declared.types.Type.{«Type»}
 use Rattle.blocks.specs.declared.types.TypeKind.{TypeKind}
 
@@ -39,10 +36,10 @@ number-never : (e : Endian) (w : ℕ) (s : List ℕ) (at : ℕ) → Never 14 (nu
 unfolding number_in
 number-never e w s at = read_all gives (refuse reason.Block 0) e w s at (Never 14) (λ t. never-gives (value_of e w s at)) (λ t. never-refuse reason.Block 0)
 
-known-never : (f : FundType) → Never 14 (known_number f)
+known-never : (f : (Option ℕ)) → Never 14 (known_number f)
 unfolding known_number
-known-never (fund.Known n) = never-gives n
-known-never fund.Unknown = never-refuse reason.Number 0
+known-never (Some n) = never-gives n
+known-never None = never-refuse reason.Number 0
 
 -- ---- types
 
@@ -94,11 +91,10 @@ module _ (e : Endian) (block : List ℕ) where
       (λ i. never-then _ _ (number-never e 2 block 7)
       (λ n. never-past _ _ (never-must _ reason.Block 0) (never-then _ _ (size-never _) (λ size. never-gives _))))
 
-  element-never : (a : Attribute) → Never 14 (element_as e block a)
+  element-never : (a : Result Attribute Unread) → Never 14 (element_as e block a)
   unfolding element_as
-  element-never (read.Read number value next) = never-then _ _ (type-never _ block number value) (λ of. never-gives _)
-  element-never (read.Short field) = never-refuse reason.Block 0
-  element-never (read.Unknown field) = never-refuse reason.Block 0
+  element-never (Ok a) = never-then _ _ (type-never _ block a.number a.value) (λ of. never-gives _)
+  element-never (Err why) = never-refuse reason.Block 0
 
   as-never : (f : SubscriptFormat) → Never 14 (subscript_as e block f)
   unfolding subscript_as element_type_at
@@ -119,22 +115,22 @@ module _ (e : Endian) (block : List ℕ) where
 
 -- ---- a block of them
 
-end-never : (el : Element) (n : ℕ) → Never 14 (at_end el n)
+end-never : (el : Option «Type») (n : ℕ) → Never 14 (at_end el n)
 unfolding at_end element_or ◌>>=◌
-end-never (sofar.Is t) n = never-gives _
-end-never sofar.Nothing n = never-refuse reason.Block 0
+end-never (Some t) n = never-gives _
+end-never None n = never-refuse reason.Block 0
 
-step-never : (next : Element → ℕ → ℕ → Said Dimensions) → ((el : Element) (n used : ℕ) → Never 14 (next el n used))
-    → (el : Element) (n at : ℕ) (part : Part) → Never 14 (step next el n at part)
+step-never : (next : Option «Type» → ℕ → ℕ → Said Dimensions) → ((el : Option «Type») (n used : ℕ) → Never 14 (next el n used))
+    → (el : Option «Type») (n at : ℕ) (part : Part) → Never 14 (step next el n at part)
 unfolding step before
 step-never next h el n at (dimension index size used) = never-then _ _ (h el (suc n) used) (λ d. never-gives _)
 step-never next h el n at (element t used) = h _ n used
 
-from-never : (e : Endian) (turns : ℕ) (el : Element) (n at : ℕ) (rest : List ℕ) → Never 14 (subscripts_from e turns el n at rest)
+from-never : (e : Endian) (turns : ℕ) (el : Option «Type») (n at : ℕ) (rest : List ℕ) → Never 14 (subscripts_from e turns el n at rest)
 unfolding subscripts_from
 from-never e zero el n at rest = end-never el n
 from-never e (suc turns) el n at rest =
-    let next : Element → ℕ → ℕ → Said Dimensions = λ el' n' used. subscripts_from e turns el' n' (at + used) (drop used rest) in
+    let next : Option «Type» → ℕ → ℕ → Said Dimensions = λ el' n' used. subscripts_from e turns el' n' (at + used) (drop used rest) in
     elim (eqb (length rest) 0) as (λ b. Never {A = Dimensions} 14 (elim b [ true ↦ at_end el n | false ↦ next_subscript e rest >>= step next el n at ])) [
       | true ↦ end-never el n
       | false ↦ never-then (next_subscript e rest) (step next el n at) (subscript-never e rest)
@@ -143,4 +139,4 @@ from-never e (suc turns) el n at rest =
 
 pub subscripts-never : (e : Endian) (block : List ℕ) → Never 14 (count_subscripts e block)
 unfolding count_subscripts whole_block
-subscripts-never e block = never-then _ _ (from-never e (length block) sofar.Nothing 0 0 block) (λ d. never-gives _)
+subscripts-never e block = never-then _ _ (from-never e (length block) None 0 0 block) (λ d. never-gives _)

@@ -1,8 +1,8 @@
 -- No second answer fits: of any two results that meet a public function's contract for the same arguments, and what they leave in lent memory, the one is the
 -- other. Written and held against the source by .ci/promises.
 use Rattle.lent.specs.OneAnswer.{One, OneAnswer, OneRoom}
-use Rattle.format.proofs.Laws.Said.{one_answer}
-use Rattle.blocks.proofs.Laws.Back.{located-back, variable-location-back, modifiers-back, typed-back, subscript-back, array-read-back, subscripts-back}
+use Rattle.format.proofs.Laws.Said.{one_answer, said-back, counted-back}
+use Rattle.blocks.proofs.Laws.Back.{variable-location-back, subscript-back}
 use Rattle.blocks.proofs.location as location
 use Rattle.blocks.proofs.modifiers as modifiers
 use Rattle.blocks.proofs.types as types
@@ -12,11 +12,11 @@ use Rattle.blocks.proofs.producer as producer
 
 -- `location::process_offset`
 pub only-process-offset : OneAnswer location.process_offset.Kinds.ps location.process_offset.Kinds.r location.process_offset.Reads.Post
-only-process-offset κs a z z' e e' p q = one_answer located-back p q
+only-process-offset κs a z z' e e' p q = one_answer said-back p q
 
 -- `location::process_address`
 pub only-process-address : OneAnswer location.process_address.Kinds.ps location.process_address.Kinds.r location.process_address.Reads.Post
-only-process-address κs a z z' e e' p q = one_answer located-back p q
+only-process-address κs a z z' e e' p q = one_answer said-back p q
 
 -- `location::process_variable_location`
 pub only-process-variable-location : OneAnswer location.process_variable_location.Kinds.ps location.process_variable_location.Kinds.r location.process_variable_location.Reads.Post
@@ -24,11 +24,11 @@ only-process-variable-location κs a z z' e e' p q = one_answer variable-locatio
 
 -- `modifiers::process_modifiers`
 pub only-process-modifiers : OneAnswer modifiers.process_modifiers.Kinds.ps modifiers.process_modifiers.Kinds.r modifiers.process_modifiers.Reads.Post
-only-process-modifiers κs a z z' e e' p q = one_answer modifiers-back p q
+only-process-modifiers κs a z z' e e' p q = one_answer said-back p q
 
 -- `types::process_type`
 pub only-process-type : OneAnswer types.process_type.Kinds.ps types.process_type.Kinds.r types.process_type.Reads.Post
-only-process-type κs a z z' e e' p q = one_answer typed-back p q
+only-process-type κs a z z' e e' p q = one_answer said-back p q
 
 -- `types::modifiers_of`
 pub only-modifiers-of : One types.modifiers_of.Kinds.ps types.modifiers_of.Kinds.r (λ κs z e. z.now) types.modifiers_of.Reads.Post
@@ -40,11 +40,11 @@ only-next-subscript κs a z z' e e' p q = one_answer subscript-back p q
 
 -- `subscripts::count_subscripts`
 pub only-count-subscripts : OneAnswer subscripts.count_subscripts.Kinds.ps subscripts.count_subscripts.Kinds.r subscripts.count_subscripts.Reads.Post
-only-count-subscripts κs a z z' e e' p q = one_answer array-read-back p q
+only-count-subscripts κs a z z' e e' p q = one_answer said-back p q
 
 -- `subscripts::process_array_subscript_data`
 pub only-process-array-subscript-data : OneAnswer subscripts.process_array_subscript_data.Kinds.ps subscripts.process_array_subscript_data.Kinds.r subscripts.process_array_subscript_data.Reads.Post
-only-process-array-subscript-data κs a z z' e e' p q = one_answer subscripts-back p.answer_is q.answer_is
+only-process-array-subscript-data κs a z z' e e' p q = one_answer counted-back p.answer_is q.answer_is
 
 pub only-process-array-subscript-data-dims : OneRoom subscripts.process_array_subscript_data.Kinds.ps subscripts.process_array_subscript_data.Kinds.r (λ κs e. e.1.1.0.now) subscripts.process_array_subscript_data.Reads.Post
 only-process-array-subscript-data-dims κs a z z' e e' p q = cc

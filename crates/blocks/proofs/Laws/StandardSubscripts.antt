@@ -1,4 +1,5 @@
 -- What the standard writes as subscripts is read back: the element type, and the dimensions in their order.
+use Rattle.std.specs.Prelude.{Option, Some, None, Ok, Err}
 use Rattle.std.proofs.Common.{◌≡◌, ℕ, suc, ◌+◌, ◌-◌, ◌/◌, ◌%◌, ◌^◌, ◌<◌, ◌≤◌, true, List, [], ◌∷◌, ◌++◌, length, drop, sym, refl, ap, ◌∙◌, subst, add-zero, zero-add, arith, length-append, length-drop, drop_at, eq-eqb, ne_eqb, le-leb}
 use lib.Seq.{sets}
 use Rattle.lent.specs.Outcome.{outcome}
@@ -18,14 +19,12 @@ use Rattle.format.specs.SubscriptFormat.{subscript_formats, subscript_format_of}
 use Rattle.format.specs.Said.{gives, ◌>>=◌, must, ◌>>◌, in_room, fills_room}
 use Rattle.attributes.specs.End.{fixed_end, block_end, value_end}
 use Rattle.attributes.specs.Read.{ending, numbered, read_attribute}
-use Rattle.attributes.specs.declared.value.End.TheVariants.{At, Short}
-use Rattle.attributes.specs.declared.read.Attribute.TheVariants as attribute
+use Rattle.attributes.specs.declared.value.Unread.TheVariants.{Short}
 use Rattle.blocks.specs.Types.{known_number}
 use Rattle.blocks.specs.Subscript.{dimension, element, index_at, one_more, const_bound, element_as, element_type_at, subscript_as, next_subscript}
 use Rattle.blocks.specs.Subscripts.{array_of, dimension_words, Dimensions, element_or, at_end, before, raised, step, subscripts_from, whole_block, process_array_subscript_data}
 use Rattle.blocks.specs.Standard.{type_at, said_from, FromZero, told_of, element_at}
-use Rattle.blocks.specs.declared.subscripts.Element.{Element}
-use Rattle.blocks.specs.declared.subscripts.Element.TheVariants as sofar
+use Rattle.blocks.specs.declared.types.Type.{«Type»}
 use Rattle.blocks.proofs.Laws.Subscript.{begins-with}
 use Rattle.blocks.proofs.Laws.Subscripts.{at-end, one-turn}
 use Rattle.blocks.proofs.Laws.StandardTypes.{fundamental-known, fundamental-small, number_there, block-number, block-stands, as-data2, as-reference, as-block2, read_as}
@@ -40,37 +39,37 @@ known-type (mod_fund ms type on) = refl
 known-type (user key small) = refl
 known-type (mod_user ms key small) = refl
 
-fixed-ends : {s : List ℕ} {at : ℕ} {xs : List ℕ} (w : ℕ) → length xs ≡ w → Stands s at xs → fixed_end s at w ≡ At (at + length xs)
+fixed-ends : {s : List ℕ} {at : ℕ} {xs : List ℕ} (w : ℕ) → length xs ≡ w → Stands s at xs → fixed_end s at w ≡ Ok (at + length xs)
 unfolding fixed_end
 fixed-ends {s} {at} {xs} w p q =
     let inside : at + length xs ≤ length s = q.fits in
-    rw (inside-there s at w (omega arith)) (ap (λ (k : ℕ). At (at + k)) (sym p))
+    rw (inside-there s at w (omega arith)) (ap (λ (k : ℕ). Ok (at + k)) (sym p))
 
 pub block-length : (e : Endian) (w : ℕ) (xs : List ℕ) → length (block e w xs) ≡ w + length xs
 unfolding block
 block-length e w xs = length-append (bytes_of e w (length xs)) xs ∙ ap (λ (k : ℕ). k + length xs) (bytes-length e w (length xs))
 
 block-ends : (e : Endian) {s : List ℕ} {at : ℕ} (xs : List ℕ) → length xs < 256 ^ 2 → Stands s at (block e 2 xs)
-    → block_end e 2 s at ≡ At (at + length (block e 2 xs))
+    → block_end e 2 s at ≡ Ok (at + length (block e 2 xs))
 unfolding block_end
 block-ends e {s} {at} xs h q =
     let long : length (block e 2 xs) ≡ 2 + length xs = block-length e 2 xs in
     let place : at + 2 + length xs ≡ at + length (block e 2 xs) = omega arith in
-    number-answers (λ n. fixed_end s (at + 2) n) (Short at) e 2 s at (length xs) h (block-number e 2 xs q)
-    ∙ fixed-ends (length xs) refl (block-stands e 2 xs q) ∙ ap At place
+    number-answers (λ n. fixed_end s (at + 2) n) (Err (Short at)) e 2 s at (length xs) h (block-number e 2 xs q)
+    ∙ fixed-ends (length xs) refl (block-stands e 2 xs q) ∙ ap Ok place
 
 -- a value ends behind its bytes
 pub value-ends : (e : Endian) {s : List ℕ} {at : ℕ} {t : Typed} {kind : ℕ} {value : Value} {form : Form} {body : List ℕ} → Says e t kind value
-    → Written e form value body → kind % 16 ≡ form_number form → Stands s at body → value_end (form_of kind) e s at ≡ At (at + length body)
+    → Written e form value body → kind % 16 ≡ form_number form → Stands s at body → value_end (form_of kind) e s at ≡ Ok (at + length body)
 unfolding value_end form_of forms lookup
 value-ends e (fund type on) w p q = let is = as-data2 w p in fixed-ends 2 (ap length is.3 ∙ bytes-length e 2 is.0) q
 value-ends e (user key small) w p q = let is = as-reference w p in fixed-ends 4 (ap length is.3 ∙ bytes-length e 4 is.0) q
 value-ends e {s} {at} (mod_fund ms type on) w p q =
     let is = as-block2 w p in
-    subst (λ (u : List ℕ). block_end e 2 s at ≡ At (at + length u)) (sym is.3) (block-ends e is.0 is.1 (subst (Stands s at) is.3 q))
+    subst (λ (u : List ℕ). block_end e 2 s at ≡ Ok (at + length u)) (sym is.3) (block-ends e is.0 is.1 (subst (Stands s at) is.3 q))
 value-ends e {s} {at} (mod_user ms key small) w p q =
     let is = as-block2 w p in
-    subst (λ (u : List ℕ). block_end e 2 s at ≡ At (at + length u)) (sym is.3) (block-ends e is.0 is.1 (subst (Stands s at) is.3 q))
+    subst (λ (u : List ℕ). block_end e 2 s at ≡ Ok (at + length u)) (sym is.3) (block-ends e is.0 is.1 (subst (Stands s at) is.3 q))
 
 module _ {numbers : List ℕ} (e : Endian) (a : Attribute numbers e) where
   pub attribute-number : {s : List ℕ} {at : ℕ} → Stands s at (written_attribute numbers e a) → Stands s at (bytes_of e 2 a.kind)
@@ -83,10 +82,10 @@ module _ {numbers : List ℕ} (e : Endian) (a : Attribute numbers e) where
 
   module _ {t : Typed} (says : Says e t a.kind a.value) where
     pub attribute-read : {s : List ℕ} {at : ℕ} → Stands s at (written_attribute numbers e a)
-        → read_attribute [] e s at ≡ attribute.Read a.kind (at + 2) (at + 2 + length a.body)
+        → read_attribute [] e s at ≡ Ok (record { number = a.kind; value = at + 2; next = at + 2 + length a.body })
     unfolding read_attribute numbered ending
     attribute-read {s} {at} q =
-        number-answers (numbered [] e s at) (attribute.Short at) e 2 s at a.kind a.small (attribute-number q)
+        number-answers (numbered [] e s at) (Err (Short at)) e 2 s at a.kind a.small (attribute-number q)
         ∙ rw (known-type says, value-ends e says a.written a.has_form (attribute-value q))
 
     -- format 8
@@ -180,7 +179,7 @@ module _ {numbers : List ℕ} (e : Endian) (a : Attribute numbers e) {t : Typed}
   unfolding written_attribute
   attribute-length = length-append (bytes_of e 2 a.kind) a.body ∙ ap (λ (k : ℕ). k + length a.body) (bytes-length e 2 a.kind)
 
-  last-read : (turns : ℕ) (el : Element) (n at : ℕ) → length (8 ∷ written_attribute numbers e a) ≤ turns
+  last-read : (turns : ℕ) (el : Option «Type») (n at : ℕ) → length (8 ∷ written_attribute numbers e a) ≤ turns
       → subscripts_from e turns el n at (8 ∷ written_attribute numbers e a) ≡ gives (Comes t a.value n at [])
   unfolding step at_end element_or told_of ◌>>=◌
   last-read turns el n at h =
@@ -194,12 +193,12 @@ module _ {numbers : List ℕ} (e : Endian) (a : Attribute numbers e) {t : Typed}
       one-turn e el n at s turns (omega arith) h
       ∙ rw (
         element-read e a says,
-        at-end e (sofar.Is (raised at (type_at (said_from 3 a.value) t))) n (at + used) (drop used s) (turns - 1) nothing,
+        at-end e (Some (raised at (type_at (said_from 3 a.value) t))) n (at + used) (drop used s) (turns - 1) nothing,
         place,
         add-zero n,
       )
 
-  from-read : (dims : List Dimension) → FromZero dims → (turns : ℕ) (el : Element) (n at : ℕ) → length (written_subscripts e dims a) ≤ turns
+  from-read : (dims : List Dimension) → FromZero dims → (turns : ℕ) (el : Option «Type») (n at : ℕ) → length (written_subscripts e dims a) ≤ turns
       → subscripts_from e turns el n at (written_subscripts e dims a) ≡ gives (Comes t a.value n at dims)
   unfolding written_subscripts step before dimension_words told_of ◌>>=◌
   from-read [] f turns el n at h = last-read turns el n at h
@@ -219,7 +218,7 @@ module _ {numbers : List ℕ} (e : Endian) (a : Attribute numbers e) {t : Typed}
   module _ (dims : List Dimension) (f : FromZero dims) where
     pub whole-read : whole_block e (written_subscripts e dims a) ≡ gives (Comes t a.value 0 0 dims)
     unfolding whole_block
-    whole-read = from-read dims f (length (written_subscripts e dims a)) sofar.Nothing 0 0 (omega arith)
+    whole-read = from-read dims f (length (written_subscripts e dims a)) None 0 0 (omega arith)
 
     -- the theorem: with room enough the element type and the number of dimensions are told, and each index type and size is in the room
     pub subscripts-read : (room : List ℕ) → length dims ≤ length room / 2 → process_array_subscript_data e (written_subscripts e dims a) room

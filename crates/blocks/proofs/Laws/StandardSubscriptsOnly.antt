@@ -1,4 +1,5 @@
 -- A block of subscripts that is read, is `Plain` and has an element type with only the standard's numbers, is the written form of what was read.
+use Rattle.std.specs.Prelude.{Option, Some, None, Result, Ok, Err}
 use Rattle.std.proofs.Common.{◌≡◌, ℕ, zero, suc, ◌+◌, ◌-◌, ◌*◌, ◌^◌, ◌<◌, ◌≤◌, eqb, List, [], ◌∷◌, ◌++◌, length, get_or, drop, sym, refl, ap, ◌∙◌, subst, add-zero, add_assoc, zero-add, arith, length-append, length-drop, get_or-drop, drop-drop, eqb-true}
 use Rattle.numbers.proofs.Laws.Tests.{cond-all}
 use Rattle.numbers.specs.Value.{value_of, there}
@@ -23,19 +24,17 @@ use Rattle.attributes.specs.End.{fixed_end, block_end, value_end}
 use Rattle.attributes.specs.Read.{ending, numbered, read_attribute}
 use Rattle.attributes.specs.Ahead.{ReadInside}
 use Rattle.attributes.proofs.Laws.Inside.{read-inside}
-use Rattle.attributes.specs.declared.value.End.{End}
-use Rattle.attributes.specs.declared.value.End.TheVariants as end
 use Rattle.attributes.specs.declared.read.Attribute as reader
-use Rattle.attributes.specs.declared.read.Attribute.TheVariants as attribute
+use Rattle.attributes.specs.declared.value.Unread.{Unread}
+use Rattle.attributes.specs.declared.value.Unread.TheVariants.{Short}
 use Rattle.blocks.specs.Types.{number_in, known_number, process_type}
 use Rattle.blocks.specs.Subscript.{Part, dimension, element, index_at, one_more, const_bound, element_as, element_type_at, subscript_as, next_subscript}
-use Rattle.blocks.specs.Subscripts.{Array, array_of, dimension_words, Dimensions, element_or, at_end, before, raised, step, subscripts_from, whole_block}
+use Rattle.blocks.specs.Subscripts.{array_of, dimension_words, Dimensions, element_or, at_end, before, raised, step, subscripts_from, whole_block}
 use Rattle.blocks.specs.Standard.{type_at, said_from, type_numbers, SaysAt, StandardKind, OfStandard, alike, FromZero, told_of, element_at, type_bytes, Plain, ends, more}
 use Rattle.blocks.specs.declared.types.TypeKind.{TypeKind}
 use Rattle.blocks.specs.declared.types.TypeKind.TheVariants.{Fundamental, UserDefined}
 use Rattle.blocks.specs.declared.types.Type.{«Type»}
-use Rattle.blocks.specs.declared.subscripts.Element.{Element}
-use Rattle.blocks.specs.declared.subscripts.Element.TheVariants as sofar
+use Rattle.blocks.specs.declared.subscripts.Array.{Array}
 use Rattle.blocks.proofs.Laws.Placed.{stands-split, stands-within}
 use Rattle.blocks.proofs.Laws.Subscripts.{at-end, one-turn}
 use Rattle.blocks.proofs.Laws.StandardTypes.{fundamental-small, body_stands}
@@ -74,51 +73,57 @@ module _ (e : Endian) (block : List ℕ) (at : ℕ) where
 
 -- ---- the attribute of an element type
 
--- its number is what its two bytes say
-abbrev NumberIs : ℕ → reader.Attribute → Type 0
-NumberIs m (attribute.Read n value next) = m ≡ n
-NumberIs m (attribute.Short field) = Unit
-NumberIs m (attribute.Unknown field) = Unit
+-- one that was read
+abbrev read : ℕ → ℕ → ℕ → Result reader.Attribute Unread
+read n value next = Ok (record { number = n; value = value; next = next })
 
-ending-number : (n value : ℕ) (x : End) → NumberIs n (ending n value x)
+-- its number is what its two bytes say
+abbrev NumberIs : ℕ → Result reader.Attribute Unread → Type 0
+NumberIs m (Ok a) = m ≡ a.number
+NumberIs m (Err why) = Unit
+
+ending-number : (n value : ℕ) (x : Result ℕ Unread) → NumberIs n (ending n value x)
 unfolding ending
-ending-number n value (end.At next) = refl
-ending-number n value (end.Short field) = tt
+ending-number n value (Ok next) = refl
+ending-number n value (Err why) = tt
 
 module _ (e : Endian) (s : List ℕ) (at : ℕ) where
   number_is : NumberIs (value_of e 2 s at) (read_attribute [] e s at)
   unfolding read_attribute numbered
   number_is =
       let m : ℕ = value_of e 2 s at in
-      read_all (numbered [] e s at) (attribute.Short at) e 2 s at (NumberIs m)
+      read_all (numbered [] e s at) (Err (Short at)) e 2 s at (NumberIs m)
       (λ t. cond-all (NumberIs m) (known [] m) (λ k. ending-number m (at + 2) (value_end (form_of m) e s (at + 2))) (λ k. tt)) (λ t. tt)
 
-  read_number : {n value next : ℕ} → read_attribute [] e s at ≡ attribute.Read n value next → value_of e 2 s at ≡ n
+  read_number : {n value next : ℕ} → read_attribute [] e s at ≡ read n value next → value_of e 2 s at ≡ n
   read_number p = subst (NumberIs (value_of e 2 s at)) p number_is
 
-same_end : {n value next next' : ℕ} → attribute.Read n value next ≡ attribute.Read n value next' → next ≡ next'
-same_end p = cc
+same_read : {a b : reader.Attribute} → ◌≡◌ {A = Result reader.Attribute Unread} (Ok a) (Ok b) → a ≡ b
+same_read p = cc
+
+same_end : {n value next next' : ℕ} → read n value next ≡ read n value next' → next ≡ next'
+same_end p = ap (λ (a : reader.Attribute). a.next) (same_read p)
 
 -- ---- where it ends
 
 -- a value of so many bytes ends behind them
-abbrev EndsAfter : ℕ → ℕ → End → Type 0
-EndsAfter at n (end.At next) = next ≡ at + n
-EndsAfter at n (end.Short field) = Unit
+abbrev EndsAfter : ℕ → ℕ → Result ℕ Unread → Type 0
+EndsAfter at n (Ok next) = next ≡ at + n
+EndsAfter at n (Err why) = Unit
 
 fixed-after : (s : List ℕ) (at w : ℕ) → EndsAfter at w (fixed_end s at w)
 unfolding fixed_end
 fixed-after s at w = cond-all (EndsAfter at w) (there s at w) (λ k. refl) (λ k. tt)
 
-from-length : (at w n : ℕ) (x : End) → EndsAfter (at + w) n x → EndsAfter at (w + n) x
-from-length at w n (end.At next) p = p ∙ add_assoc at w n
-from-length at w n (end.Short field) p = tt
+from-length : (at w n : ℕ) (x : Result ℕ Unread) → EndsAfter (at + w) n x → EndsAfter at (w + n) x
+from-length at w n (Ok next) p = p ∙ add_assoc at w n
+from-length at w n (Err why) p = tt
 
 block-after : (e : Endian) (s : List ℕ) (at : ℕ) → EndsAfter at (2 + value_of e 2 s at) (block_end e 2 s at)
 unfolding block_end
 block-after e s at =
     let n : ℕ = value_of e 2 s at in
-    read_all (λ n. fixed_end s (at + 2) n) (end.Short at) e 2 s at (EndsAfter at (2 + n))
+    read_all (λ n. fixed_end s (at + 2) n) (Err (Short at)) e 2 s at (EndsAfter at (2 + n))
     (λ t. from-length at 2 n (fixed_end s (at + 2) n) (fixed-after s (at + 2) n)) (λ t. tt)
 
 -- by the number of a type's attribute
@@ -146,24 +151,23 @@ says-number (user key small) = record { index = 2; inside = omega arith; stands 
 says-number (mod_user ms key small) = record { index = 3; inside = omega arith; stands = refl }
 
 -- an attribute that was read ends where its value does
-abbrev ReadAfter : Endian → List ℕ → ℕ → reader.Attribute → Type 0
-ReadAfter e s at (attribute.Read n value next) = OnList n type_numbers → next ≡ at + 2 + type_bytes e s n (at + 2)
-ReadAfter e s at (attribute.Short field) = Unit
-ReadAfter e s at (attribute.Unknown field) = Unit
+abbrev ReadAfter : Endian → List ℕ → ℕ → Result reader.Attribute Unread → Type 0
+ReadAfter e s at (Ok a) = OnList a.number type_numbers → a.next ≡ at + 2 + type_bytes e s a.number (at + 2)
+ReadAfter e s at (Err why) = Unit
 
-ending-after : (e : Endian) (s : List ℕ) (at n : ℕ) (x : End) → (OnList n type_numbers → EndsAfter (at + 2) (type_bytes e s n (at + 2)) x)
+ending-after : (e : Endian) (s : List ℕ) (at n : ℕ) (x : Result ℕ Unread) → (OnList n type_numbers → EndsAfter (at + 2) (type_bytes e s n (at + 2)) x)
     → ReadAfter e s at (ending n (at + 2) x)
 unfolding ending
-ending-after e s at n (end.At next) f = f
-ending-after e s at n (end.Short field) f = tt
+ending-after e s at n (Ok next) f = f
+ending-after e s at n (Err why) f = tt
 
-read-after : (e : Endian) (s : List ℕ) (at : ℕ) {n value next : ℕ} → read_attribute [] e s at ≡ attribute.Read n value next → OnList n type_numbers
+read-after : (e : Endian) (s : List ℕ) (at : ℕ) {n value next : ℕ} → read_attribute [] e s at ≡ read n value next → OnList n type_numbers
     → next ≡ at + 2 + type_bytes e s n (at + 2)
 unfolding read_attribute numbered
 read-after e s at p =
     let m : ℕ = value_of e 2 s at in
     let after : ReadAfter e s at (read_attribute [] e s at) =
-    read_all (numbered [] e s at) (attribute.Short at) e 2 s at (ReadAfter e s at)
+    read_all (numbered [] e s at) (Err (Short at)) e 2 s at (ReadAfter e s at)
     (λ t. cond-all (ReadAfter e s at) (known [] m) (λ k. ending-after e s at m (value_end (form_of m) e s (at + 2)) (kind-after e s (at + 2))) (λ k. tt))
     (λ t. tt)
     in
@@ -180,25 +184,24 @@ record ElementFrom (e : Endian) (s : List ℕ) (p : Part) : Type 0 where
   used : ℕ
   is : p ≡ element of used
   number : ℕ
-  reads : read_attribute [] e s 1 ≡ attribute.Read number 3 used
+  reads : read_attribute [] e s 1 ≡ read number 3 used
   gave : process_type (alike e) s number 3 ≡ gives of
 
-element-steps : (e : Endian) (s : List ℕ) {p : Part} (a : reader.Attribute) → read_attribute [] e s 1 ≡ a → element_as e s a ≡ gives p
+element-steps : (e : Endian) (s : List ℕ) {p : Part} (a : Result reader.Attribute Unread) → read_attribute [] e s 1 ≡ a → element_as e s a ≡ gives p
     → ElementFrom e s p
 unfolding element_as
-element-steps e s {p} (attribute.Read number value next) r gave =
-    let inside : ReadInside [] s 1 number value next = read-inside [] e s 1 r in
-    let step = step-gave (process_type (alike e) s number value) _ gave in
+element-steps e s {p} (Ok a) r gave =
+    let inside : ReadInside [] s 1 a.number a.value a.next = read-inside [] e s 1 r in
+    let step = step-gave (process_type (alike e) s a.number a.value) _ gave in
     record {
       of = step.0;
-      used = next;
+      used = a.next;
       is = given_is (sym step.2);
-      number = number;
-      reads = r ∙ ap (λ (v : ℕ). attribute.Read number v next) inside.value_place;
-      gave = ap (process_type (alike e) s number) (sym inside.value_place) ∙ step.1;
+      number = a.number;
+      reads = r ∙ ap (λ (v : ℕ). read a.number v a.next) inside.value_place;
+      gave = ap (process_type (alike e) s a.number) (sym inside.value_place) ∙ step.1;
     }
-element-steps e s (attribute.Short field) r gave = absurd (given-refused (sym gave))
-element-steps e s (attribute.Unknown field) r gave = absurd (given-refused (sym gave))
+element-steps e s (Err why) r gave = absurd (given-refused (sym gave))
 
 -- ---- by format
 
@@ -382,36 +385,36 @@ module _ (e : Endian) {block : List ℕ} (small : Bytes block) where
         ([], attribute_of e s rest f is.2, is.0, is.2.says, tt, element-written e s rest f is.2 (first_byte at byte) last-used)
 
   -- a turn at a dimension, and what it left to read
-  dimension-turn : (at : ℕ) → get_or block at 0 ≡ 0 → (turns : ℕ) (el : Element) (n : ℕ) {d : Dimensions}
+  dimension-turn : (at : ℕ) → get_or block at 0 ≡ 0 → (turns : ℕ) (el : Option «Type») (n : ℕ) {d : Dimensions}
       → subscripts_from e turns el n at (drop at block) ≡ gives d → 0 < length (drop at block) → length (drop at block) ≤ turns
       → (p : Part) × DimensionFrom e (drop at block) p
       × (y : Dimensions) × (subscripts_from e (turns - 1) el (suc n) (at + 11) (drop (at + 11) block) ≡ gives y) × (y.array ≡ d.array)
   unfolding step
   dimension-turn at byte turns el n p some h =
       let s : List ℕ = drop at block in
-      let next : Element → ℕ → ℕ → Said Dimensions = λ el' n' used. subscripts_from e (turns - 1) el' n' (at + used) (drop used s) in
+      let next : Option «Type» → ℕ → ℕ → Said Dimensions = λ el' n' used. subscripts_from e (turns - 1) el' n' (at + used) (drop used s) in
       let turn = step-gave (next_subscript e s) (step next el n at) (sym (one-turn e el n at s turns some h) ∙ p) in
       let f = dimension-steps e s (format-zero e s turn.1 (first_byte at byte)) in
       let words : List ℕ = dimension_words f.index (one_more (value_of e 4 s 7)) in
       let others = before-gave words (next el (suc n) 11) (ap (step next el n at) (sym f.is) ∙ turn.2) in
       (turn.0, f, others.0, ap (subscripts_from e (turns - 1) el (suc n) (at + 11)) (sym (drop-drop 11 at block)) ∙ others.1, others.2)
 
-  from-written : {at : ℕ} → Plain e block at → (turns : ℕ) (el : Element) (n : ℕ) {d : Dimensions}
+  from-written : {at : ℕ} → Plain e block at → (turns : ℕ) (el : Option «Type») (n : ℕ) {d : Dimensions}
       → subscripts_from e turns el n at (drop at block) ≡ gives d → length (drop at block) ≤ turns → OfStandard e block d.array.element
       → WrittenAs e (drop at block)
   unfolding step at_end element_or ◌>>=◌
   from-written (ends at byte all) turns el n {d} p h standard =
       let s : List ℕ = drop at block in
-      let next : Element → ℕ → ℕ → Said Dimensions = λ el' n' used. subscripts_from e (turns - 1) el' n' (at + used) (drop used s) in
+      let next : Option «Type» → ℕ → ℕ → Said Dimensions = λ el' n' used. subscripts_from e (turns - 1) el' n' (at + used) (drop used s) in
       let some : 0 < length s = omega (arith, length-drop at block) in
       let turn = step-gave (next_subscript e s) (step next el n at) (sym (one-turn e el n at s turns some h) ∙ p) in
       let f = element-steps e s (read_attribute [] e s 1) refl (format-eight e s turn.1 (first_byte at byte)) in
       let of : «Type» = raised at f.of in
       let used : ℕ = f.used in
       let nothing : length (drop used s) ≡ 0 = length-drop used s ∙ omega (arith, last-used at byte all f) in
-      let rest : next (sofar.Is of) n used ≡ gives d = ap (step next el n at) (sym f.is) ∙ turn.2 in
+      let rest : next (Some of) n used ≡ gives d = ap (step next el n at) (sym f.is) ∙ turn.2 in
       let end : record { array = array_of of n; words = [] } ≡ d =
-      given_is (sym (at-end e (sofar.Is of) n (at + used) (drop used s) (turns - 1) nothing) ∙ rest)
+      given_is (sym (at-end e (Some of) n (at + used) (drop used s) (turns - 1) nothing) ∙ rest)
       in
       last_written at byte all f (subst (λ (x : Dimensions). OfStandard e block x.array.element) (sym end) standard)
   from-written (more at byte on bounded rest) turns el n {d} p h standard =
@@ -430,7 +433,7 @@ pub subscripts-only : (e : Endian) {block : List ℕ} → Bytes block → Plain 
     × (d ≡ record { array = array_of (type_at (said_from (element_at dims) a.value) t) (length dims); words = told_of dims })
 unfolding whole_block
 subscripts-only e {block} small plain {d} p standard =
-    let w = from-written e small plain (length block) sofar.Nothing 0 p (omega arith) standard in (
+    let w = from-written e small plain (length block) None 0 p (omega arith) standard in (
       w.0,
       w.1,
       w.2,
@@ -473,7 +476,7 @@ module _ {numbers : List ℕ} (e : Endian) (a : Attribute numbers e) {t : Typed}
       let attribute : Stands block (at + 1) (written_attribute numbers e a) = back-stands block at (8 ∷ []) (written_attribute numbers e a) q in
       let number : value_of e 2 block (at + 1) ≡ a.kind = number_read e 2 block (at + 1) a.kind a.small (attribute-number e a attribute) in
       let three : at + 1 + 2 ≡ at + 3 = omega arith in
-      let value : value_end (form_of a.kind) e block (at + 3) ≡ end.At (at + 3 + length a.body) =
+      let value : value_end (form_of a.kind) e block (at + 3) ≡ Ok (at + 3 + length a.body) =
       value-ends e says a.written a.has_form (subst (λ (k : ℕ). Stands block k a.body) three (attribute-value e a attribute))
       in
       let same : at + 3 + length a.body ≡ at + 3 + type_bytes e block a.kind (at + 3) =

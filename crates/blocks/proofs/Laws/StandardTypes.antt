@@ -1,4 +1,5 @@
 -- What the standard writes as a type is read back, and nothing else that has only its numbers.
+use Rattle.std.specs.Prelude.{Some}
 use Rattle.std.proofs.Common.{◌≡◌, ℕ, zero, suc, ◌+◌, ◌-◌, ◌/◌, ◌%◌, ◌^◌, ◌<◌, ◌≤◌, Bool, true, ◌&&◌, eqb, List, [], ◌∷◌, ◌++◌, length, get_or, take, sym, refl, ap, ◌∙◌, subst, le_of_suc-le-suc, not-suc-le-zero, add-zero, zero-add, arith, length-append, take_at, ne_eqb, eqb-true, le-leb}
 use mathlib.Core.Bool.{and-eq-true_iff}
 use Rattle.numbers.specs.Value.{value_of}
@@ -15,7 +16,6 @@ use Rattle.format.specs.Modifier.{modifier_of}
 use Rattle.format.specs.Modifier as format
 use Rattle.format.specs.Said.{Said, gives, refuse, must, ◌>>=◌, ◌>>◌}
 use Rattle.format.proofs.Laws.Said.{must-passed}
-use Rattle.format.specs.declared.fund_type.FundType.TheVariants.{Known}
 use Rattle.format.specs.declared.refusal.Reason.TheVariants as reason
 use Rattle.attributes.specs.Parts.{part_at, block_at}
 use Rattle.blocks.specs.Modifiers.{is_known, is_pointer, all_known, any_pointer, process_modifiers}
@@ -56,12 +56,12 @@ module _ {n : ℕ} (on : OnList n fundamental_types) where
   pub fundamental-small : n < 256
   fundamental-small = let z : n / 256 ≡ 0 = eqb-true (n / 256) 0 both-pass.1 in omega arith
 
-  pub fundamental-known : fund_type_of n ≡ Known n
+  pub fundamental-known : fund_type_of n ≡ Some n
   unfolding fund_type_of
   fundamental-known = rw both-pass.0
 
   -- `parse_int` leaves it as it is
-  pub fundamental-parsed : parse_int n ≡ Known n
+  pub fundamental-parsed : parse_int n ≡ Some n
   unfolding parse_int
   fundamental-parsed =
       let z : n / 256 ≡ 0 = eqb-true (n / 256) 0 both-pass.1 in

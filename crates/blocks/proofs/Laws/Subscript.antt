@@ -1,11 +1,12 @@
 -- What follows from `Subscript`, for each way that the code comes to an answer; and that a subscript takes at least a byte, all of them inside the block.
-use Rattle.std.proofs.Common.{◌≡◌, ℕ, ◌+◌, ◌-◌, ◌%◌, ◌^◌, ◌<◌, ◌≤◌, true, List, [], length, get_or, drop, sym, refl, ap, ◌∙◌, subst, lt_of_not-le, arith, length-drop, length-take-le, le-ltb, lt-ltb, eq-eqb, ne_eqb}
+use Rattle.std.proofs.Common.{Result, Ok, Err, ◌≡◌, ℕ, ◌+◌, ◌-◌, ◌%◌, ◌^◌, ◌<◌, ◌≤◌, true, List, [], length, get_or, drop, sym, refl, ap, ◌∙◌, subst, lt_of_not-le, arith, length-drop, length-take-le, lt-ltb, eq-eqb, ne_eqb, false}
 use native.Mathlib.Decide.{dec_le}
 use Rattle.numbers.specs.Value.{there}
 use Rattle.numbers.proofs.Laws.Value.{there-inside}
 use Rattle.numbers.specs.declared.Endian.{Endian}
+use Rattle.format.specs.FundType.{fund_type_of}
 use Rattle.format.specs.SubscriptFormat.{subscript_format_of}
-use Rattle.format.specs.Said.{Said, gives, refuse, refuses, ◌>>=◌}
+use Rattle.format.specs.Said.{Said, gives, refuse, refuses, refusal, ◌>>=◌}
 use Rattle.format.proofs.Laws.Said.{must-passed, must-failed, Of, of-next, of_test}
 use Rattle.format.specs.declared.subscript_format.SubscriptFormat.{SubscriptFormat}
 use Rattle.format.specs.declared.subscript_format.SubscriptFormat.TheVariants.{FundTypeConstConst, FundTypeConstLocation, FundTypeLocationConst, FundTypeLocationLocation, UserTypeConstConst, UserTypeConstLocation, UserTypeLocationConst, UserTypeLocationLocation, ElementType, Unknown}
@@ -15,14 +16,45 @@ use Rattle.attributes.specs.Read.{read_attribute}
 use Rattle.attributes.specs.Ahead.{ReadInside}
 use Rattle.attributes.proofs.Laws.Inside.{read-inside}
 use Rattle.attributes.specs.declared.read.Attribute.{Attribute}
-use Rattle.attributes.specs.declared.read.Attribute.TheVariants as attribute
-use Rattle.blocks.specs.Location.{process_offset}
-use Rattle.blocks.specs.Subscript.{Part, dimension, element, one_more, const_bound, location_size, location_bound, element_as, element_type_at, subscript_as, next_subscript, UsesInside}
-use Rattle.blocks.specs.Inside.Subscript.{sized_dimension, sized_by}
-use Rattle.blocks.specs.Types.{process_type, ModifiersInside}
+use Rattle.attributes.specs.declared.value.Unread.{Unread}
+use Rattle.blocks.specs.Subscript.{Part, said_subscript, dimension, element, index_at, one_more, const_bound, location_size, location_bound, element_as, element_type_at, subscript_as, next_subscript, UsesInside}
+use Rattle.blocks.specs.Inside.Subscript.{low_bound, known_index, high_bound, high_location, sized_dimension, sized_by}
+use Rattle.blocks.specs.Types.{number_in, process_type, ModifiersInside}
+use Rattle.format.specs.declared.refusal.Refusal.{Refusal}
+use Rattle.blocks.specs.declared.subscript.Subscript.TheVariants.{Dimension, Element}
 use Rattle.blocks.specs.declared.types.Type.{«Type»}
 use Rattle.blocks.proofs.Laws.Number.{of_number}
+use Rattle.blocks.proofs.Laws.Steps.{steps}
 use Rattle.blocks.proofs.Laws.Types.{modifiers-inside}
+
+-- ---- what an answer says
+
+pub said-dimension : (index size used : ℕ) → said_subscript (Ok (Dimension index size used)) ≡ gives (dimension index size used)
+unfolding said_subscript
+said-dimension index size used = refl
+
+pub said-element : (t : «Type») (used : ℕ) → said_subscript (Ok (Element t used)) ≡ gives (element t used)
+unfolding said_subscript
+said-element t used = refl
+
+pub said-none : (why : Refusal) → said_subscript (Err why) ≡ refusal why
+unfolding said_subscript
+said-none why = refl
+
+-- ---- where the code goes on in a function of its own
+
+module _ (e : Endian) (block : List ℕ) where
+  pub index-known : index_at e block ≡ (number_in e 2 block 1 >>= (λ number. known_index e block (fund_type_of number)))
+  unfolding index_at known_index low_bound
+  index-known = refl
+
+  pub const-high : const_bound e block ≡ (index_at e block >>= high_bound e block)
+  unfolding const_bound high_bound
+  const-high = refl
+
+  pub location-high : location_bound e block ≡ (index_at e block >>= high_location e block)
+  unfolding location_bound high_location sized_by
+  location-high = refl
 
 -- ---- format 0
 
@@ -35,19 +67,7 @@ one_more_lem high h =
       | no k ↦ let l : high < 0xFFFFFFFF = lt_of_not-le k in rw (ne_eqb high 0xFFFFFFFF (λ z. omega arith)) (omega arith)
     ]
 
-pub wrapped : (index : ℕ) {high size : ℕ} → high < 2 ^ 32 → size ≡ (high + 1) % 2 ^ 32 → gives (dimension index size 11) ≡ gives (dimension index (one_more high) 11)
-wrapped index {high} h p = ap (λ (k : ℕ). gives (dimension index k 11)) (p ∙ one_more_lem high h)
-
 -- ---- format 1
-
-module _ (e : Endian) (location : List ℕ) where
-  pub size_none : length location ≡ 0 → gives 0 ≡ location_size e location
-  unfolding location_size
-  size_none z = rw (eq-eqb (length location) 0 z)
-
-  pub size-offset : {z : Said ℕ} → (length location ≡ 0 → ⊥) → z ≡ process_offset e location → z ≡ location_size e location
-  unfolding location_size
-  size-offset some h = h ∙ rw (ne_eqb (length location) 0 some)
 
 length_part : (s : List ℕ) (from n : ℕ) → there s from n ≡ true → length (part_at s from n) ≡ n
 unfolding part_at
@@ -56,28 +76,25 @@ length_part s from n h =
     let left : length (drop from s) ≡ length s - from = length-drop from s in
     rw h (length-take-le n (drop from s) (omega arith))
 
-pub sized-there : (e : Endian) (block : List ℕ) (index n : ℕ) {location : List ℕ} {z : Said Part} → there block 9 n ≡ true → location ≡ part_at block 9 n
-    → z ≡ sized_dimension e index location → z ≡ sized_by e block index n
-unfolding sized_by sized_dimension
-sized-there e block index n h p q =
-    must-passed refl _ _ _ h
-    (q ∙ ap (sized_dimension e index) p
-    ∙ ap (λ (k : ℕ). location_size e (part_at block 9 n) >>= (λ size. gives (dimension index size (9 + k)))) (length_part block 9 n h))
+module _ (e : Endian) (block : List ℕ) (index n : ℕ) where
+  pub sized-there : there block 9 n ≡ true → sized_by e block index n ≡ sized_dimension e index (part_at block 9 n)
+  unfolding sized_by sized_dimension
+  sized-there h =
+      sym
+      (must-passed refl _ _ _ h
+      (ap (λ (k : ℕ). location_size e (part_at block 9 n) >>= (λ size. gives (dimension index size (9 + k)))) (length_part block 9 n h)))
 
--- ---- format 8
+  pub sized-missing : there block 9 n ≡ false → sized_by e block index n ≡ refuse reason.Block 0
+  unfolding sized_by
+  sized-missing h = sym (must-failed refl _ _ _ h refl)
 
-module _ (e : Endian) (block : List ℕ) {told : Attribute} (is : told ≡ read_attribute [] e block 1) where
-  pub element-of : {told' : Attribute} {z : Said Part} → told ≡ told' → z ≡ element_as e block told' → z ≡ element_type_at e block
-  unfolding element_type_at
-  element-of q h = h ∙ ap (element_as e block) (sym q ∙ is)
+-- what the code's steps stand on
+pub ruleset parts =
+    (steps, said-dimension, said-element, said-none, index-known, const-high, location-high, one_more_lem, sized-there, sized-missing)
 
 -- ---- the subscript that a block begins with
 
 module _ (e : Endian) (block : List ℕ) where
-  pub no-subscript : {z : Said Part} → length block ≡ 0 → z ≡ refuse reason.Block 0 → z ≡ next_subscript e block
-  unfolding next_subscript
-  no-subscript none p = must-failed refl _ _ _ (le-ltb 0 (length block) (omega arith)) p
-
   pub begins-with : {format : SubscriptFormat} {z : Said Part} → (length block ≡ 0 → ⊥) → format ≡ subscript_format_of (get_or block 0 0)
       → z ≡ subscript_as e block format → z ≡ next_subscript e block
   unfolding next_subscript
@@ -111,14 +128,13 @@ module _ (e : Endian) (block : List ℕ) where
       (λ n t. of_test (Takes block) _ _ _ _
       (λ h. let k : 9 + n ≤ length block = there-inside block 9 n h in of-next (Takes block) _ _ (λ size. (omega arith, omega arith)))))
 
-  element-takes : (a : Attribute) → read_attribute [] e block 1 ≡ a → Of (Takes block) (element_as e block a)
+  element-takes : (a : Result Attribute Unread) → read_attribute [] e block 1 ≡ a → Of (Takes block) (element_as e block a)
   unfolding element_as
-  element-takes (attribute.Read number value next) p =
-      let inside : ReadInside [] block 1 number value next = read-inside [] e block 1 p in
-      of-gave (Takes block) (process_type _ block number value) _
-      (λ t q. (omega (arith, inside.forward), inside.inside, modifiers-inside _ block value number q))
-  element-takes (attribute.Short field) p = tt
-  element-takes (attribute.Unknown field) p = tt
+  element-takes (Ok a) p =
+      let inside : ReadInside [] block 1 a.number a.value a.next = read-inside [] e block 1 p in
+      of-gave (Takes block) (process_type _ block a.number a.value) _
+      (λ t q. (omega (arith, inside.forward), inside.inside, modifiers-inside _ block a.value a.number q))
+  element-takes (Err why) p = tt
 
   as-takes : (f : SubscriptFormat) → Of (Takes block) (subscript_as e block f)
   unfolding subscript_as element_type_at

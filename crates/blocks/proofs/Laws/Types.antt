@@ -1,52 +1,48 @@
 -- What follows from `Types`, for each way that the code comes to an answer; and that the modifiers of a type are inside.
-use Rattle.std.proofs.Common.{◌≡◌, ℕ, ◌+◌, ◌-◌, ◌<◌, ◌≤◌, false, eqb, List, [], length, take, sym, refl, ap, ◌∙◌, subst, arith, length-take-le, ne_eqb, le-leb, leb-false, leb-true}
+use Rattle.std.proofs.Common.{◌≡◌, ℕ, ◌+◌, ◌-◌, ◌<◌, ◌≤◌, true, eqb, List, [], length, take, sym, refl, ap, ◌∙◌, subst, arith, length-take-le, le-leb, leb-true}
 use borrow.Author.Tests.{lt-leb}
 use Rattle.numbers.proofs.Laws.Tests.{cond-all}
 use Rattle.numbers.specs.Value.{value_of, there}
-use Rattle.numbers.proofs.Laws.Value.{reads_short, not_there, there-inside, read_all}
+use Rattle.numbers.proofs.Laws.Value.{reads, reads_short, not_there, there-inside, read_all}
 use Rattle.numbers.proofs.Laws.Stands.{part_length}
-use Rattle.numbers.proofs.Laws.Read.{Says}
+use Rattle.numbers.proofs.Laws.Written.{inside-there}
 use Rattle.numbers.specs.declared.Endian.{Endian}
 use Rattle.format.specs.FundType.{parse_int}
-use Rattle.format.specs.Said.{Said, gives, refuse, must, ◌>>◌}
+use Rattle.format.specs.Said.{Said, gives, refuse, must, ◌>>=◌, ◌>>◌}
 use Rattle.format.proofs.Laws.Said.{must-passed, must-failed, Of, of-next, of_test}
 use Rattle.format.specs.declared.refusal.Reason.TheVariants as reason
 use Rattle.attributes.specs.Parts.{part_at, block_at}
 use Rattle.attributes.specs.declared.decode.Endians.{Endians}
 use Rattle.blocks.specs.Modifiers.{process_modifiers}
-use Rattle.blocks.specs.Types.{known_number, modified, fundamental, fund_type, user_def_type, last_bytes, mod_fund_type, mod_ud_type, process_type, ModifiersInside}
+use Rattle.blocks.specs.Types.{number_in, known_number, modified, fundamental, fund_type, user_def_type, last_bytes, mod_fund_type, mod_ud_type, process_type, ModifiersInside}
 use Rattle.blocks.specs.declared.types.TypeKind.{TypeKind}
 use Rattle.blocks.specs.declared.types.TypeKind.TheVariants.{Fundamental, UserDefined}
 use Rattle.blocks.specs.declared.types.Type.{«Type»}
 use Rattle.blocks.proofs.Laws.Number.{number-none, of_number}
+use Rattle.blocks.proofs.Laws.Steps.{steps}
 
 -- ---- a block whose last w bytes say the type
 
 module _ (w : ℕ) (e : Endian) (block : List ℕ) (type : List ℕ → ℕ → Said «Type») where
-  pub last-there : {n : ℕ} → w ≤ length block → Says e w block (length block - w) n → type (take (length block - w) block) n ≡ last_bytes w e block type
+  pub last-missing : length block < w → last_bytes w e block type ≡ refuse reason.Block 0
   unfolding last_bytes
-  last-there h q = must-passed refl _ _ _ (le-leb w (length block) h) (ap (type (take (length block - w) block)) (sym q.is_value))
-
-  pub last-missing : {z : Said «Type»} → length block < w → z ≡ refuse reason.Block 0 → z ≡ last_bytes w e block type
-  unfolding last_bytes
-  last-missing h p = must-failed refl _ _ _ (lt-leb w (length block) h) p
+  last-missing h = sym (must-failed refl _ _ _ (lt-leb w (length block) h) refl)
 
   -- they are there where the block is long enough
-  pub last-short : {z : Said «Type»} → there block (length block - w) w ≡ false → z ≡ refuse reason.Block 0 → z ≡ last_bytes w e block type
-  unfolding there
-  last-short h p = let k : length block < length block - w + w = leb-false (length block - w + w) (length block) h in last-missing (omega arith) p
+  pub last-number : w ≤ length block → last_bytes w e block type ≡ (number_in e w block (length block - w) >>= type (take (length block - w) block))
+  unfolding last_bytes number_in ◌>>=◌
+  last-number h =
+      let there_is : there block (length block - w) w ≡ true = inside-there block (length block - w) w (omega arith) in
+      sym
+      (must-passed refl _ _ _ (le-leb w (length block) h)
+      (ap (λ (d : Said ℕ). d >>= type (take (length block - w) block)) (sym (reads gives (refuse reason.Block 0) e w block (length block - w) there_is refl))))
 
--- ---- by number
+-- what a block of modifiers stands on
+pub ruleset last = (steps, last-missing, last-number)
+
+-- ---- past the end
 
 module _ (ends : Endians) (s : List ℕ) (at : ℕ) where
-  pub type_of : {number n : ℕ} {z : Said «Type»} → number ≡ n → z ≡ process_type ends s n at → z ≡ process_type ends s number at
-  type_of p h = h ∙ ap (λ (x : ℕ). process_type ends s x at) (sym p)
-
-  pub no-type : (number : ℕ) {z : Said «Type»} → (number ≡ 0x55 → ⊥) → (number ≡ 0x63 → ⊥) → (number ≡ 0x72 → ⊥) → (number ≡ 0x83 → ⊥)
-      → z ≡ refuse reason.Block 0 → z ≡ process_type ends s number at
-  unfolding process_type
-  no-type number a b c d p = p ∙ rw (ne_eqb number 0x55 a, ne_eqb number 0x63 b, ne_eqb number 0x72 c, ne_eqb number 0x83 d)
-
   none : Said «Type»
   none = refuse reason.Block 0
 

@@ -1,20 +1,12 @@
 -- The last lines of what a dimension says, where the code has a function for them.
-use Rattle.std.specs.Prelude.{ℕ, ◌+◌, List, length, ◌==◌}
+use Rattle.std.specs.Prelude.{ℕ, ◌+◌, List, length, ◌==◌, Option}
 use Rattle.numbers.specs.Value.{there}
 use Rattle.numbers.specs.declared.Endian.{Endian}
-use Rattle.format.specs.Said.{Said, gives, refusal, must, ◌>>=◌, ◌>>◌}
-use Rattle.format.specs.declared.fund_type.FundType.{FundType}
+use Rattle.format.specs.Said.{Said, gives, must, ◌>>=◌, ◌>>◌}
 use Rattle.format.specs.declared.refusal.Reason.TheVariants as reason
 use Rattle.attributes.specs.Parts.{part_at}
 use Rattle.blocks.specs.Types.{number_in, known_number}
 use Rattle.blocks.specs.Subscript.{Part, dimension, one_more, location_size}
-use Rattle.blocks.specs.declared.subscript.Index.{Index}
-use Rattle.blocks.specs.declared.subscript.Index.TheVariants.{Is, Refused}
-
--- what an answer says
-unfoldable pub said_index : Index → Said ℕ
-said_index (Is index) = gives index
-said_index (Refused why) = refusal why
 
 -- the low bound, with the index type that was read
 unfoldable pub low_bound : Endian → List ℕ → ℕ → Said ℕ
@@ -24,7 +16,7 @@ low_bound e block index = do
   gives index
 
 -- is the index type known?
-unfoldable pub known_index : Endian → List ℕ → FundType → Said ℕ
+unfoldable pub known_index : Endian → List ℕ → (Option ℕ) → Said ℕ
 known_index e block type = do
   index ← known_number type
   low_bound e block index

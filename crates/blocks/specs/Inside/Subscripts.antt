@@ -1,10 +1,11 @@
 -- What the walk over a block of subscripts leaves in a room: the words in their order, as far as they fit.
-use Rattle.std.specs.Prelude.{◌≡◌, ℕ, List}
+use Rattle.format.specs.declared.refusal.Refusal.{Refusal}
+use Rattle.std.specs.Prelude.{◌≡◌, ℕ, List, Result}
 use Rattle.std.proofs.lemmas.List.Edits.{sets}
 use Rattle.numbers.specs.declared.Endian.{Endian}
-use Rattle.format.specs.Said.{Said, gives, refuses}
-use Rattle.blocks.specs.declared.subscripts.ArrayRead.{ArrayRead}
-use Rattle.blocks.specs.Subscripts.{Dimensions, said_array_read, whole_block, count_subscripts}
+use Rattle.format.specs.Said.{said, Said, gives, refuses}
+use Rattle.blocks.specs.declared.subscripts.Array.{Array}
+use Rattle.blocks.specs.Subscripts.{Dimensions, whole_block, count_subscripts}
 
 -- the words of a block that is read are in the room; of one that is refused nothing is said
 abbrev pub Stored : Said Dimensions → List ℕ → List ℕ → Type 0
@@ -12,6 +13,6 @@ Stored (gives d) room room' = room' ≡ sets room 0 d.words
 Stored (refuses number place counts) room room' = Unit
 
 -- what the walk answers, and what it leaves
-pub record Walked (e : Endian) (block : List ℕ) (r : ArrayRead) (room room' : List ℕ) : Type 0 where
-  pub answer_is : said_array_read r ≡ count_subscripts e block
+pub record Walked (e : Endian) (block : List ℕ) (r : Result Array Refusal) (room room' : List ℕ) : Type 0 where
+  pub answer_is : said r ≡ count_subscripts e block
   pub room_is : Stored (whole_block e block) room room'

@@ -1,10 +1,7 @@
 use Rattle.blocks.proofs.Laws.Modifiers.{modifiers_from}
 use Rattle.blocks.specs.Modifiers.{process_modifiers}
-use Rattle.std.proofs.Common.{◌≡◌, ◌-◌, length, drop}
+use Rattle.std.proofs.Common.{◌≡◌, drop}
 use Rattle.blocks.proofs.modifiers.process_modifiers.Given as goal
 
-abbrev pub invariant-loop-i : goal.invariant-loop-i
-invariant-loop-i l = modifiers_from l.pointer (drop l.i l.block) ≡ process_modifiers l.block
-
-abbrev pub decreases-loop-i : goal.decreases-loop-i
-decreases-loop-i l = length l.block - l.i
+abbrev pub invariant-loop-byte : goal.invariant-loop-byte
+invariant-loop-byte l = modifiers_from l.pointer (drop l.byte-index l.block) ≡ process_modifiers l.block
