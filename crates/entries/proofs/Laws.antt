@@ -4,7 +4,7 @@
 -- `Index` are steps on the way. `Filled`: a table that was read passes the table test; `KnownRun`, `RowsRead` lead to it. `Unerased`: with erased
 -- entries left out no row is erased. `WantedCall`: the byte that 4 to 6 tell, of both public calls; over `Wanted` (what refuses an entry is a field, and
 -- the byte its first), `WantedOnly` (the converse), `WantedExactly` (the converse of the whole section) and `WantedPlace` (where the byte lies). `Back`:
--- what is said leads back to the enum. `Only`: no second answer fits.
+-- what is said leads back to the answer. `Only`: no second answer fits.
 pub mod Head
 pub mod Run
 pub mod Entry

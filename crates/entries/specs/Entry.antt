@@ -1,5 +1,5 @@
 -- One entry (rules 1 to 4): a row and its attributes, and where reading stopped; of an erased root also what stands inside it.
-use Rattle.std.specs.Prelude.{ℕ, zero, suc, ◌+◌, Bool, true, false, cond, List, [], ◌∷◌, length}
+use Rattle.std.specs.Prelude.{Result, Ok, Err, ℕ, zero, suc, ◌+◌, Bool, true, false, cond, List, [], ◌∷◌, length}
 use Rattle.entries.specs.declared.entry.Mode.{Mode}
 use Rattle.entries.specs.Source.{Source}
 use Rattle.numbers.specs.Value.{read_at}
@@ -15,7 +15,8 @@ use Rattle.tables.specs.declared.row.Attr.{Attr}
 use Rattle.entries.specs.Head.{head_at}
 use Rattle.entries.specs.Run.{AttrsRead, read_run}
 use Rattle.entries.specs.declared.head.Head.{Head}
-use Rattle.entries.specs.declared.head.Head.TheVariants.{Null, Skipped, Root, Ordinary, Unread}
+use Rattle.entries.specs.declared.head.Head.TheVariants.{Null, Skipped, Root, Ordinary}
+use Rattle.entries.specs.declared.head.HeadError.{HeadError}
 
 -- what reading an entry comes to: its row (none for padding that is stepped over), its attributes, where reading stopped; of an erased root also the
 -- data endianness inside it and where it ends. A refusal's place is the entry's key
@@ -60,10 +61,10 @@ module _ (r : Source) where
   attributes e root end at = placed at (read_run r e root end (suc (length r.section)) false (at + 6))
 
   -- by what it begins with; a root wants one more level
-  unfoldable pub entry_from : ℕ → Mode → ℕ → ℕ → Head → Said Entry
-  entry_from levels m at a (Null place) = gives (next (row m.erased false m.endian at tag.padding a [] ∷ []) [] place)
-  entry_from levels m at a (Skipped place) = gives (next [] [] place)
-  entry_from levels m at a (Root end) =
+  unfoldable pub entry_from : ℕ → Mode → ℕ → ℕ → Result Head HeadError → Said Entry
+  entry_from levels m at a (Ok (Null place)) = gives (next (row m.erased false m.endian at tag.padding a [] ∷ []) [] place)
+  entry_from levels m at a (Ok (Skipped place)) = gives (next [] [] place)
+  entry_from levels m at a (Ok (Root end)) =
       elim levels [
         | zero ↦ refuse reason.Nested at
         | suc l ↦ do
@@ -71,10 +72,10 @@ module _ (r : Source) where
           run ← attributes e true end at
           gives (inside (row true true e at (root_kind run.high) a run.attrs) run.attrs run.stopped e end)
       ]
-  entry_from levels m at a (Ordinary kind end) = do
+  entry_from levels m at a (Ok (Ordinary kind end)) = do
     run ← attributes m.endian false end at
     gives (next (row m.erased false m.endian at kind a run.attrs ∷ []) run.attrs run.stopped)
-  entry_from levels m at a (Unread why byte) = unread why at byte
+  entry_from levels m at a (Err field) = unread field.why at field.byte
 
   -- the entry at `at`, whose attributes begin with number a of the table
   unfoldable pub read_entry : Bool → ℕ → Mode → ℕ → ℕ → Said Entry

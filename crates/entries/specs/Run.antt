@@ -1,5 +1,5 @@
 -- An entry's attributes: one after the other while the place is before the entry's end. The last one may overrun it.
-use Rattle.std.specs.Prelude.{ℕ, zero, suc, Bool, true, false, not, ◌&&◌, ◌||◌, List, [], ◌∷◌, ltb, eqb}
+use Rattle.std.specs.Prelude.{Result, Ok, Err, ℕ, zero, suc, Bool, true, false, not, ◌&&◌, ◌||◌, List, [], ◌∷◌, ltb, eqb}
 use Rattle.entries.specs.Source.{Source}
 use Rattle.format.specs.Settings.{plays}
 use Rattle.numbers.specs.Value.{read_at}
@@ -9,7 +9,8 @@ use Rattle.format.specs.Said.{Said, gives, unread, ◌>>=◌}
 use Rattle.format.specs.declared.refusal.Reason.TheVariants as reason
 use Rattle.attributes.specs.Read.{read_attribute}
 use Rattle.attributes.specs.declared.read.Attribute.{Attribute}
-use Rattle.attributes.specs.declared.read.Attribute.TheVariants.{Read, Short, Unknown}
+use Rattle.attributes.specs.declared.value.Unread.{Unread}
+use Rattle.attributes.specs.declared.value.Unread.TheVariants as missing
 use Rattle.tables.specs.declared.row.Attr.{Attr}
 
 -- what reading attributes comes to: the attributes, whether a HighPc was among them, and where reading stopped. A refusal's place and
@@ -27,17 +28,21 @@ ran attrs high stopped = record { attrs = attrs; high = high; stopped = stopped 
 abbrev pub attr : ℕ → ℕ → Attr
 attr n value = record { number = n; value = value }
 
+-- an attribute that was read, in short
+abbrev pub found : ℕ → ℕ → ℕ → Result Attribute Unread
+found n value next = Ok (record { number = n; value = value; next = next })
+
 -- after a HighPc an erased root's attributes end at the first number that is not MwGlobalRef; where no number is there, reading goes on and is short
 unfoldable pub run_ends : ℕ → List ℕ → Endian → Bool → ℕ → Bool
 run_ends global s e high at = high && not (read_at (plays global) true e 2 s at)
 
 -- what was read, and then what follows it
-unfoldable pub read_on : Attribute → (ℕ → ℕ → Said AttrsRead) → Said AttrsRead
-read_on (Read n value next) follow = do
-  later ← follow n next
-  gives (ran (attr n value ∷ later.attrs) later.high later.stopped)
-read_on (Short field) follow = unread reason.Short field field
-read_on (Unknown field) follow = unread reason.Attribute field field
+unfoldable pub read_on : Result Attribute Unread → (ℕ → ℕ → Said AttrsRead) → Said AttrsRead
+read_on (Ok a) follow = do
+  later ← follow a.number a.next
+  gives (ran (attr a.number a.value ∷ later.attrs) later.high later.stopped)
+read_on (Err (missing.Short field)) follow = unread reason.Short field field
+read_on (Err (missing.Unknown field)) follow = unread reason.Attribute field field
 
 -- the attributes from `at` up to `end`; at most as many as the first number, which is never reached. Only an erased root looks for a HighPc
 unfoldable pub read_run : Source → Endian → Bool → ℕ → ℕ → Bool → ℕ → Said AttrsRead

@@ -1,5 +1,9 @@
 -- The public calls: settings, a section, lent tables.
-use Rattle.std.specs.Prelude.{ℕ, false, List, [], ◌∷◌, length, ltb}
+use Rattle.entries.specs.declared.section.CountError.{CountError}
+use Rattle.entries.specs.declared.section.CountError.TheVariants as count
+use Rattle.entries.specs.declared.section.SectionError.{SectionError}
+use Rattle.entries.specs.declared.section.SectionError.TheVariants as section
+use Rattle.std.specs.Prelude.{Result, Ok, Err, ℕ, false, List, [], ◌∷◌, length, ltb}
 use Rattle.entries.specs.Source.{source, mode}
 use Rattle.lent.specs.Outcome.{Outcomes}
 use Rattle.format.specs.Limits.{section_limit, erased_limit}
@@ -12,23 +16,19 @@ use Rattle.tables.specs.Row.{rows_words, attrs_words}
 use Rattle.tables.specs.Unit.{with_units}
 use Rattle.tables.specs.declared.row.Counts.{Counts}
 use Rattle.entries.specs.Walk.{Entries, read_tags}
-use Rattle.entries.specs.declared.section.Count.{Count}
-use Rattle.entries.specs.declared.section.Count.TheVariants as count
-use Rattle.entries.specs.declared.section.Section.{Section}
-use Rattle.entries.specs.declared.section.Section.TheVariants.{Read, Refused, Unread, Room}
 
 -- what counting says
-unfoldable pub said_count : Count → Said Counts
-said_count (count.Counted counts) = gives counts
-said_count (count.Refused why) = refusal why
-said_count (count.Unread why byte) = unread why.reason why.place byte
+unfoldable pub said_count : Result Counts CountError → Said Counts
+said_count (Ok counts) = gives counts
+said_count (Err (count.Refused why)) = refusal why
+said_count (Err (count.Unread why byte)) = unread why.reason why.place byte
 
 -- what reading says
-unfoldable pub said_section : Section → Said Counts
-said_section (Read counts) = gives counts
-said_section (Refused why) = refusal why
-said_section (Unread why byte) = unread why.reason why.place byte
-said_section (Room counts) = wanting (counts.rows ∷ counts.attrs ∷ [])
+unfoldable pub said_section : Result Counts SectionError → Said Counts
+said_section (Ok counts) = gives counts
+said_section (Err (section.Refused why)) = refusal why
+said_section (Err (section.Unread why byte)) = unread why.reason why.place byte
+said_section (Err (section.Room counts)) = wanting (counts.rows ∷ counts.attrs ∷ [])
 
 -- the whole section, from its first byte to its last: outside erased data, in section endianness, sixteen levels allowed
 unfoldable pub whole_walk : Settings → List ℕ → List ℕ → Said Entries

@@ -1,12 +1,10 @@
 -- What a section that the standard wrote comes to in a table, and what the typed decoders answer there. How it is written stands in the crate
 -- `standard`, which knows nothing of the reader.
+use Rattle.std.specs.Prelude.{Some}
 use Rattle.std.specs.Prelude.{ℕ, ◌+◌, ◌*◌, ◌%◌, ◌<◌, ◌≡◌, true, false, cond, List, [], ◌∷◌, ◌++◌, length, eqb}
 use Rattle.lent.specs.Filled.{Filled}
 use Rattle.numbers.specs.declared.Endian.{Endian}
 use Rattle.numbers.specs.declared.Endian.TheVariants.{Big, Little}
-use Rattle.numbers.specs.declared.unsigned.Read16.TheVariants as read16
-use Rattle.numbers.specs.declared.unsigned.Read32.TheVariants as read32
-use Rattle.numbers.specs.declared.unsigned.Read64.TheVariants as read64
 use Rattle.standard.specs.Numbers.{OnList, attributes, tags, padding_tag, Form, ADDR, REF, BLOCK2, BLOCK4, DATA2, DATA4, DATA8, STRING, form_number}
 use Rattle.standard.specs.Entries.{Value, number, bytes, Attribute, written_attribute, Die, null, padding, entry, written_die, written_dies, values_of}
 use Rattle.format.specs.Limits.{section_limit}
@@ -79,13 +77,13 @@ both e = record { section = e; «data» = e }
 
 -- of a value of a form at a place
 pub data Decoded (e : Endian) (s : List ℕ) (at : ℕ) : Form → Value → Type 0 where
-  address : (n : ℕ) → address_at (both e) s at ≡ read32.Value n → Decoded e s at ADDR (number n)
-  reference : (n : ℕ) → reference_at (both e) s at ≡ read32.Value n → Decoded e s at REF (number n)
+  address : (n : ℕ) → address_at (both e) s at ≡ Some n → Decoded e s at ADDR (number n)
+  reference : (n : ℕ) → reference_at (both e) s at ≡ Some n → Decoded e s at REF (number n)
   block2 : (xs : List ℕ) → block_at e 2 s at ≡ xs → Decoded e s at BLOCK2 (bytes xs)
   block4 : (xs : List ℕ) → block_at e 4 s at ≡ xs → Decoded e s at BLOCK4 (bytes xs)
-  data2 : (n : ℕ) → data2_at (both e) s at ≡ read16.Value n → Decoded e s at DATA2 (number n)
-  data4 : (n : ℕ) → data4_at (both e) s at ≡ read32.Value n → Decoded e s at DATA4 (number n)
-  data8 : (n : ℕ) → data8_at (both e) s at ≡ read64.Value n → Decoded e s at DATA8 (number n)
+  data2 : (n : ℕ) → data2_at (both e) s at ≡ Some n → Decoded e s at DATA2 (number n)
+  data4 : (n : ℕ) → data4_at (both e) s at ≡ Some n → Decoded e s at DATA4 (number n)
+  data8 : (n : ℕ) → data8_at (both e) s at ≡ Some n → Decoded e s at DATA8 (number n)
   string : (xs : List ℕ) → text_at s at ≡ xs → Decoded e s at STRING (bytes xs)
 
 -- of all attributes of a table, in order: the decoder of each one's form answers its value

@@ -14,12 +14,11 @@ use Rattle.format.specs.declared.settings.Settings.{Settings}
 use Rattle.format.specs.declared.form_kind.FormKind.{FormKind}
 use Rattle.format.specs.declared.form_kind.FormKind.TheVariants.{Addr, Ref, Block2, Block4, Data2, Data4, Data8, String}
 use Rattle.attributes.specs.Read.{read_attribute}
-use Rattle.attributes.specs.declared.read.Attribute.TheVariants.{Read}
 use Rattle.tables.specs.declared.row.Row.{Row}
 use Rattle.tables.specs.declared.row.Attr.{Attr}
 use Rattle.tables.specs.declared.row.Counts.{Counts}
 use Rattle.entries.specs.Source.{Source, source, mode}
-use Rattle.entries.specs.Run.{run_ends}
+use Rattle.entries.specs.Run.{found, run_ends}
 use Rattle.entries.specs.Entry.{next, inside, root_endian, read_entry}
 use Rattle.entries.specs.Walk.{Entries, read_tags}
 use Rattle.entries.specs.declared.entry.Mode.{Mode}
@@ -82,7 +81,7 @@ module _ (r : Source) (erased : Bool) (levels : ℕ) (m : Mode) (key : ℕ) wher
   pub data ReadUpTo (root : Bool) (e : Endian) : Bool → ℕ → Type 0 where
     none_yet : ReadUpTo root e false (key + 6)
     one_more : {high : Bool} {at n value next : ℕ} → ReadUpTo root e high at → GoesOn e high at
-        → read_attribute r.vendors e r.section at ≡ Read n value next → ReadUpTo root e (high || (root && eqb n number.high_pc)) next
+        → read_attribute r.vendors e r.section at ≡ found n value next → ReadUpTo root e (high || (root && eqb n number.high_pc)) next
 
   -- an attribute begins at a place, read in this endianness: all before it were read
   pub record AttributeAt (e : Endian) (at : ℕ) : Type 0 where

@@ -1,16 +1,18 @@
 // One entry: its row and its attributes are stored; an erased root's inside is left to the walk, and units until all rows are read.
-ghost use Rattle.std.specs.Prelude.{◌≡◌, ◌+◌, ◌≤◌, length};
-ghost use Rattle.entries.specs.Source.{source};
+ghost use Rattle.entries.specs.Inside.Handed.{source_of};
+ghost use Rattle.std.specs.Prelude.{◌≡◌, ◌+◌, ◌≤◌, length, Ok};
 ghost use Rattle.entries.specs.Entry.{flip, little_flag, flag_of, flags_of, attributes, root_endian, entry_from, read_entry};
-ghost use Rattle.entries.specs.Inside.Promise.{Ready, farthest, NullReady, NullRead, kind_of, BodyReady, BodyRead, said_look, EntryRead};
+ghost use Rattle.entries.specs.Inside.Promise.{Ready, farthest, NullReady, NullRead, kind_of, BodyReady, BodyRead, said_read, unread_at, EntryRead};
 
 use crate::head::{Head, head_at};
-use crate::run::{AttrsRead, read_run};
+use crate::run::read_run;
+use crate::source::Source;
+use attributes::value::Unread;
 use format::attribute_kind::is_known;
 use format::refusal::Reason;
 use format::tag_kind::{LOCAL_VARIABLE, PADDING, SUBROUTINE};
 use numbers::Endian;
-use numbers::unsigned::{Read16, u16_at};
+use numbers::number::number_at;
 use tables::row::Row;
 use tables::store::put_row;
 use tables::unit::NO_UNIT;
@@ -21,13 +23,6 @@ pub struct State {
     pub at: usize,
     pub rows: usize,
     pub attrs: usize,
-}
-
-// What stays the same through a whole reading: the erased flag, and the number that plays MwGlobalRef.
-#[derive(Clone, Copy)]
-pub struct Fixed {
-    pub erased: bool,
-    pub global: u16,
 }
 
 // How the entries around are read: as erased or not, in which data endianness.
@@ -42,12 +37,40 @@ pub enum Entry {
     Next(State),
     // A root was read: its inside follows, in this endianness, up to this end.
     Inside(State, Endian, usize),
-    // Refusals 4 to 6: the first byte of the field that could not be read or was not known.
-    Unread(Reason, usize),
-    // A root where no further level is allowed: refusal 7.
-    Nested,
 }
 
+// Why entries were not read, with the innermost entry's key: a root where no further level is allowed, refusal 7; or 4 to 6, and the first byte of the
+// field that could not be read or was not known.
+#[derive(Clone, Copy)]
+pub enum EntryError {
+    Nested(usize),
+    Unread {
+        why: Reason,
+        key: usize,
+        byte: usize,
+    },
+}
+
+// What the attribute that could not be read says of its entry.
+#[tactic(auto, unfolding(crate::specs::Inside::Promise::unread_at))]
+fn unread_at(key: usize, why: Unread) -> EntryError
+    ensures { result ≡ unread_at key why }
+{
+    match why {
+        Unread::Short(byte) => EntryError::Unread {
+            why: Reason::Short,
+            key,
+            byte,
+        },
+        Unread::Unknown(byte) => EntryError::Unread {
+            why: Reason::Attribute,
+            key,
+            byte,
+        },
+    }
+}
+
+#[tactic(auto, unfolding(crate::specs::Entry::flip))]
 fn flipped(e: Endian) -> Endian
     ensures { result ≡ flip e }
 {
@@ -57,6 +80,7 @@ fn flipped(e: Endian) -> Endian
     }
 }
 
+#[tactic(auto, unfolding(crate::specs::Entry::little_flag))]
 fn little_flag(e: Endian) -> u32
     ensures { result ≡ little_flag e }
 {
@@ -66,12 +90,14 @@ fn little_flag(e: Endian) -> u32
     }
 }
 
+#[tactic(auto, unfolding(crate::specs::Entry::flag_of))]
 fn flag(on: bool, value: u32) -> u32
     ensures { result ≡ flag_of on value }
 {
     if on { value } else { 0 }
 }
 
+#[tactic(auto, unfolding(crate::specs::Entry::flags_of, crate::specs::Entry::flag_of, crate::specs::Entry::little_flag))]
 fn flags_of(erased: bool, root: bool, e: Endian) -> u32
     ensures { result ≡ flags_of erased root e }
 {
@@ -79,6 +105,7 @@ fn flags_of(erased: bool, root: bool, e: Endian) -> u32
 }
 
 // An entry's own kind; of a root a subroutine if a HighPc was read, else a local variable.
+#[tactic(auto, unfolding(crate::specs::Entry::root_kind, crate::specs::Inside::Promise::kind_of))]
 fn kind_of(root: bool, kind: u16, high: bool) -> u16
     ensures { result ≡ kind_of root kind high }
 {
@@ -99,120 +126,88 @@ pub struct Shape {
     pub end: usize,
 }
 
-#[derive(Clone, Copy)]
-pub enum Body {
-    Read(State),
-    Unread(Reason, usize),
-}
-
 // The attributes of the entry at a state's place are read and stored, then its row.
 fn read_body(
-    s: &[u8],
-    vendors: &[u16],
-    global: u16,
+    r: &Source<'_>,
     rows: &mut [u32],
     attrs: &mut [u32],
     shape: Shape,
     from: State,
-) -> Body
-    requires { BodyReady s.now from }
-    ensures { BodyRead s.now from shape (attributes (source vendors.now global s.now) shape.endian shape.root
+) -> Result<State, EntryError>
+    requires { BodyReady r.now.section.now from }
+    ensures { BodyRead r.now.section.now from shape (attributes (source_of r.now) shape.endian shape.root
         shape.end from.at) result rows.old rows.new attrs.old attrs.new }
 {
     let e = shape.endian;
-    match read_run(
-        s,
-        vendors,
-        global,
-        attrs,
-        e,
-        shape.root,
-        shape.end,
-        from.at + 6,
-        from.attrs,
-    ) {
-        AttrsRead::Ran { at, attrs: n, high } => {
-            let row = Row {
-                key: from.at as u32,
-                kind: kind_of(shape.root, shape.kind, high) as u32,
-                flags: flags_of(shape.erased, shape.root, e),
-                first: from.attrs as u32,
-                count: (n - from.attrs) as u32,
-                unit: NO_UNIT,
-            };
-            put_row(rows, from.rows, row);
-            Body::Read(State {
-                at,
-                rows: from.rows + 1,
-                attrs: n,
-            })
-        }
-        AttrsRead::Unread(why, byte) => Body::Unread(why, byte),
-    }
+    let run = read_run(r, attrs, e, shape.root, shape.end, from.at + 6, from.attrs).map_err(
+        |why| unread_at(from.at, why),
+    )?;
+    let row = Row {
+        key: from.at as u32,
+        kind: kind_of(shape.root, shape.kind, run.high) as u32,
+        flags: flags_of(shape.erased, shape.root, e),
+        first: from.attrs as u32,
+        count: (run.attrs - from.attrs) as u32,
+        unit: NO_UNIT,
+    };
+    put_row(rows, from.rows, row);
+    Ok(State {
+        at: run.at,
+        rows: from.rows + 1,
+        attrs: run.attrs,
+    })
 }
 
-// The data endianness of a root; or where the two bytes to look at, which are not there, would begin.
-#[derive(Clone, Copy)]
-pub enum Look {
-    Is(Endian),
-    Short(usize),
-}
-
-fn root_endian(s: &[u8], vendors: &[u16], mode: Mode, at: usize) -> Look
-    requires { at + 6 ≤ length s.now }
-    ensures { said_look at result ≡ root_endian vendors.now s.now mode.erased mode.endian at }
+// The data endianness of a root; short where the two bytes to look at are not there.
+#[tactic(auto, unfolding(numbers::specs::Value::read_at, crate::specs::Entry::root_endian, crate::specs::Inside::Promise::said_read))]
+fn root_endian(r: &Source<'_>, mode: Mode, at: usize) -> Result<Endian, EntryError>
+    requires { at + 6 ≤ length r.now.section.now }
+    ensures { said_read result ≡ root_endian r.now.vendors.now r.now.section.now mode.erased mode.endian at }
 {
     let e = mode.endian;
     if mode.erased {
-        return Look::Is(e);
+        return Ok(e);
     }
-    match u16_at(s, at + 6, e) {
-        Read16::Value(n) => {
-            if is_known(n, vendors) {
-                Look::Is(e)
-            } else {
-                Look::Is(flipped(e))
-            }
-        }
-        Read16::Short => Look::Short(at + 6),
+    let place = at + 6;
+    let n = number_at::<u16>(r.section, place, e).ok_or(EntryError::Unread {
+        why: Reason::Short,
+        key: at,
+        byte: place,
+    })?;
+    if is_known(n, r.vendors) {
+        Ok(e)
+    } else {
+        Ok(flipped(e))
     }
 }
 
 // An erased root: one more level is wanted, its data endianness is looked for, its own attributes are read; its inside follows.
 fn read_root(
-    s: &[u8],
-    vendors: &[u16],
-    global: u16,
+    r: &Source<'_>,
     rows: &mut [u32],
     attrs: &mut [u32],
     levels: usize,
     mode: Mode,
     end: usize,
     from: State,
-) -> Entry
-    requires { BodyReady s.now from × (end ≤ farthest) }
-    ensures { EntryRead s.now from (entry_from (source vendors.now global s.now) levels mode from.at
-        from.attrs (Head.Root end)) result rows.old rows.new attrs.old attrs.new }
+) -> Result<Entry, EntryError>
+    requires { BodyReady r.now.section.now from × (end ≤ farthest) }
+    ensures { EntryRead r.now.section.now from (entry_from (source_of r.now) levels mode from.at
+        from.attrs (Ok (Head.Root end))) result rows.old rows.new attrs.old attrs.new }
 {
     if levels == 0 {
-        return Entry::Nested;
+        return Err(EntryError::Nested(from.at));
     }
-    match root_endian(s, vendors, mode, from.at) {
-        Look::Is(e) => {
-            let shape = Shape {
-                erased: true,
-                root: true,
-                endian: e,
-                kind: PADDING,
-                end,
-            };
-            match read_body(s, vendors, global, rows, attrs, shape, from) {
-                Body::Read(state) => Entry::Inside(state, e, end),
-                Body::Unread(why, byte) => Entry::Unread(why, byte),
-            }
-        }
-        Look::Short(byte) => Entry::Unread(Reason::Short, byte),
-    }
+    let e = root_endian(r, mode, from.at)?;
+    let shape = Shape {
+        erased: true,
+        root: true,
+        endian: e,
+        kind: PADDING,
+        end,
+    };
+    let state = read_body(r, rows, attrs, shape, from)?;
+    Ok(Entry::Inside(state, e, end))
 }
 
 // A null entry: a row of kind Padding, with no attributes.
@@ -239,19 +234,17 @@ fn read_null(rows: &mut [u32], mode: Mode, place: usize, from: State) -> Entry
 
 // An ordinary entry.
 fn read_ordinary(
-    s: &[u8],
-    vendors: &[u16],
-    global: u16,
+    r: &Source<'_>,
     rows: &mut [u32],
     attrs: &mut [u32],
     mode: Mode,
     kind: u16,
     end: usize,
     from: State,
-) -> Entry
-    requires { BodyReady s.now from }
-    ensures { EntryRead s.now from (entry_from (source vendors.now global s.now) 0 mode from.at
-        from.attrs (Head.Ordinary kind end)) result rows.old rows.new attrs.old attrs.new }
+) -> Result<Entry, EntryError>
+    requires { BodyReady r.now.section.now from }
+    ensures { EntryRead r.now.section.now from (entry_from (source_of r.now) 0 mode from.at
+        from.attrs (Ok (Head.Ordinary kind end))) result rows.old rows.new attrs.old attrs.new }
 {
     let e = mode.endian;
     let shape = Shape {
@@ -261,40 +254,38 @@ fn read_ordinary(
         kind,
         end,
     };
-    match read_body(s, vendors, global, rows, attrs, shape, from) {
-        Body::Read(state) => Entry::Next(state),
-        Body::Unread(why, byte) => Entry::Unread(why, byte),
-    }
+    let state = read_body(r, rows, attrs, shape, from)?;
+    Ok(Entry::Next(state))
 }
 
 // The entry at a state's place.
 pub(crate) fn read_entry(
-    s: &[u8],
-    vendors: &[u16],
-    fixed: Fixed,
+    r: &Source<'_>,
     rows: &mut [u32],
     attrs: &mut [u32],
     levels: usize,
     mode: Mode,
     from: State,
-) -> Entry
-    requires { Ready s.now from }
-    ensures { EntryRead s.now from (read_entry (source vendors.now fixed.global s.now) fixed.erased levels mode
+) -> Result<Entry, EntryError>
+    requires { Ready r.now.section.now from }
+    ensures { EntryRead r.now.section.now from (read_entry (source_of r.now) r.now.erased levels mode
         from.at from.attrs) result rows.old rows.new attrs.old attrs.new }
 {
-    let global = fixed.global;
-    let e = mode.endian;
-    match head_at(fixed.erased, s, e, from.at) {
-        Head::Null(place) => read_null(rows, mode, place, from),
-        Head::Skipped(place) => Entry::Next(State {
+    let head = head_at(r.erased, r.section, mode.endian, from.at).map_err(
+        |field| EntryError::Unread {
+            why: field.why,
+            key: from.at,
+            byte: field.byte,
+        },
+    )?;
+    match head {
+        Head::Null(place) => Ok(read_null(rows, mode, place, from)),
+        Head::Skipped(place) => Ok(Entry::Next(State {
             at: place,
             rows: from.rows,
             attrs: from.attrs,
-        }),
-        Head::Root(end) => read_root(s, vendors, global, rows, attrs, levels, mode, end, from),
-        Head::Ordinary { kind, end } => read_ordinary(
-            s, vendors, global, rows, attrs, mode, kind, end, from,
-        ),
-        Head::Unread(why, byte) => Entry::Unread(why, byte),
+        })),
+        Head::Root(end) => read_root(r, rows, attrs, levels, mode, end, from),
+        Head::Ordinary { kind, end } => read_ordinary(r, rows, attrs, mode, kind, end, from),
     }
 }

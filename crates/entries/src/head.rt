@@ -6,7 +6,7 @@ ghost use Rattle.entries.specs.Inside.Promise.{HeadRead};
 use format::refusal::Reason;
 use format::tag_kind::{PADDING, is_tag};
 use numbers::Endian;
-use numbers::unsigned::{Read16, Read32, u16_at, u32_at};
+use numbers::number::number_at;
 
 #[derive(Clone, Copy)]
 pub enum Head {
@@ -16,10 +16,16 @@ pub enum Head {
     // An erased root, and an ordinary entry of some kind: where it ends.
     Root(usize),
     Ordinary { kind: u16, end: usize },
-    // A field that could not be read, or a tag that is not known: its first byte.
-    Unread(Reason, usize),
 }
 
+// Why an entry's head was not read: its size or its tag is not all there, or its tag is not known; and the first byte of that field.
+#[derive(Clone, Copy)]
+pub struct HeadError {
+    pub why: Reason,
+    pub byte: usize,
+}
+
+#[tactic(auto, unfolding(crate::specs::Head::null_end))]
 fn null_end(at: usize, size: u32) -> usize
     requires { at < 2 ^ 63 }
     ensures { result ≡ null_end at size }
@@ -31,43 +37,49 @@ fn null_end(at: usize, size: u32) -> usize
     }
 }
 
-fn tag_head(erased: bool, end: usize, place: usize, kind: u16) -> Head
+#[tactic(auto, unfolding(crate::specs::Head::tag_head))]
+fn tag_head(erased: bool, end: usize, place: usize, kind: u16) -> Result<Head, HeadError>
     ensures { result ≡ tag_head erased end place kind }
 {
-    if is_tag(kind) {
-        if kind == PADDING {
-            if erased {
-                Head::Root(end)
-            } else {
-                Head::Skipped(end)
-            }
+    if !is_tag(kind) {
+        return Err(HeadError {
+            why: Reason::Tag,
+            byte: place,
+        });
+    }
+    if kind == PADDING {
+        if erased {
+            Ok(Head::Root(end))
         } else {
-            Head::Ordinary { kind, end }
+            Ok(Head::Skipped(end))
         }
     } else {
-        Head::Unread(Reason::Tag, place)
+        Ok(Head::Ordinary { kind, end })
     }
 }
 
-fn size_head(erased: bool, s: &[u8], e: Endian, at: usize, size: u32) -> Head
+fn size_head(erased: bool, s: &[u8], e: Endian, at: usize, size: u32) -> Result<Head, HeadError>
     requires { at + 4 ≤ length s.now }
     ensures { HeadRead s.now at (size_head erased s.now e at size) result }
 {
     if size < 8 {
-        return Head::Null(null_end(at, size));
+        return Ok(Head::Null(null_end(at, size)));
     }
-    match u16_at(s, at + 4, e) {
-        Read16::Value(kind) => tag_head(erased, at + size as usize, at + 4, kind),
-        Read16::Short => Head::Unread(Reason::Short, at + 4),
-    }
+    let tag_at = at + 4;
+    let kind = number_at::<u16>(s, tag_at, e).ok_or(HeadError {
+        why: Reason::Short,
+        byte: tag_at,
+    })?;
+    tag_head(erased, at + size as usize, tag_at, kind)
 }
 
 // The head of the entry at a place.
-pub(crate) fn head_at(erased: bool, s: &[u8], e: Endian, at: usize) -> Head
+pub(crate) fn head_at(erased: bool, s: &[u8], e: Endian, at: usize) -> Result<Head, HeadError>
     ensures { HeadRead s.now at (head_at erased s.now e at) result }
 {
-    match u32_at(s, at, e) {
-        Read32::Value(size) => size_head(erased, s, e, at, size),
-        Read32::Short => Head::Unread(Reason::Short, at),
-    }
+    let size = number_at::<u32>(s, at, e).ok_or(HeadError {
+        why: Reason::Short,
+        byte: at,
+    })?;
+    size_head(erased, s, e, at, size)
 }

@@ -1,84 +1,106 @@
 -- What follows from `Entry`, for each way that the code comes to an entry.
+use Rattle.std.specs.Prelude.{Result, Ok, Err}
 use Prim.Native.Nat.{ℕ, zero, suc, ◌+◌, ◌-◌, ◌^◌, ◌≤◌, ◌<◌}
 use native.Mathlib.Nat.{add-zero}
 use native.Mathlib.Omega.{arith}
 use mathlib.Core.Path.{◌≡◌, refl, sym, ap, ap₂, ◌∙◌, subst}
-use mathlib.Core.Bool.{Bool, true, false, cond}
+use mathlib.Core.Bool.{Bool, true, false}
 use mathlib.Core.List.{List}
 use lib.ListN.{length}
 use Rattle.entries.specs.Source.{source, mode}
-use Rattle.numbers.specs.Value.{read_at}
 use Rattle.numbers.specs.declared.Endian.{Endian}
-use Rattle.numbers.specs.declared.Endian.TheVariants.{Big, Little}
-use Rattle.format.specs.Known.{known}
 use Rattle.format.specs.TagKind as tag
 use Rattle.format.specs.Said.{Said, gives, refuses, refuse, unread, ◌>>=◌, placed}
-use Rattle.format.proofs.Laws.Said.{case-said}
-use Rattle.format.specs.declared.refusal.Reason.{Reason}
+use Rattle.format.proofs.Laws.Said.{case-said, given_is, given-refused}
 use Rattle.format.specs.declared.refusal.Reason.TheVariants as reason
 use Rattle.tables.specs.Row.{row_words, rows_words, attrs_words, put_row}
 use Rattle.tables.specs.Unit.{no_unit}
 use Rattle.tables.specs.declared.row.Attr.{Attr}
+use Rattle.attributes.specs.declared.value.Unread.{Unread}
+use Rattle.attributes.specs.declared.value.Unread.TheVariants as missing
 use Rattle.entries.specs.Head.{head_at}
 use Rattle.entries.specs.Run.{AttrsRead, ran}
-use Rattle.entries.specs.Entry.{Entry, flip, little_flag, flag_of, flags_of, attributes, root_endian, entry_from, read_entry}
-use Rattle.entries.specs.Inside.Promise.{kind_of, ordinary, rooted, HeadBounds, HeadRead, RunRead, RunStored, RunStores, said_run, run_answer, farthest, Ready, advanced, NullRead, BodyReady, said_body, body_answer, BodyStores, BodyRead, said_look, said_entry, entry_answer, EntryStores, EntryRead}
+use Rattle.entries.proofs.Laws.Run.{ran_to}
+use Rattle.entries.specs.Entry.{Entry, flags_of, attributes, root_endian, entry_from, read_entry}
+use Rattle.entries.specs.Inside.Promise.{kind_of, ordinary, rooted, HeadBounds, HeadRead, RunRead, RunStored, RunStores, said_run, run_answer, farthest, Ready, said_read, unread_at}
+use Rattle.entries.specs.Inside.Promise.{advanced, NullRead, BodyReady, body_answer, BodyStores, BodyRead, entry_answer, EntryStores, EntryRead}
 use Rattle.entries.specs.declared.head.Head.{Head}
 use Rattle.entries.specs.declared.head.Head.TheVariants as head
-use Rattle.entries.specs.declared.run.AttrsRead.TheVariants as run
+use Rattle.entries.specs.declared.run.AttrsRead as run
 use Rattle.entries.specs.declared.entry.State.{State}
 use Rattle.entries.specs.declared.entry.Shape.{Shape}
-use Rattle.entries.specs.declared.entry.Body.TheVariants as body
-use Rattle.entries.specs.declared.entry.Look.TheVariants as look
+use Rattle.entries.specs.declared.entry.EntryError.{EntryError}
+use Rattle.entries.specs.declared.entry.EntryError.TheVariants as error
 use Rattle.entries.specs.declared.entry.Entry.TheVariants as entry
+use Rattle.entries.specs.declared.head.HeadError.{HeadError}
 
--- ---- flags and kinds
+-- ---- an error: what it says of whatever was to be read
 
-pub flag_small : (on : Bool) (v : ℕ) → flag_of on v ≤ v
-unfolding flag_of
-flag_small true v = omega arith
-flag_small false v = omega arith
+err-gives : {A : Type 0} (why : EntryError) {x : A} → said_read (Err why) ≡ gives x → ⊥
+unfolding said_read
+err-gives (error.Nested key) p = given-refused (sym p)
+err-gives (error.Unread why key byte) p = given-refused (sym p)
 
-pub little-small : (e : Endian) → little_flag e ≤ 4
-unfolding little_flag
-little-small Big = omega arith
-little-small Little = omega arith
+err-refuses : {A B : Type 0} (why : EntryError) {number place : ℕ} {told : List ℕ} → said_read {A = A} (Err why) ≡ refuses number place told
+    → refuses number place told ≡ said_read {A = B} (Err why)
+unfolding said_read
+err-refuses {A} (error.Nested key) {number} {place} {told} p = let same : ◌≡◌ {A = Said A} (refuse reason.Nested key) (refuses number place told) = p in cc
+err-refuses {A} (error.Unread why key byte) {number} {place} {told} p = let same : ◌≡◌ {A = Said A} (unread why key byte) (refuses number place told) = p in cc
+
+-- what would have followed it
+pub err-bind : {A B : Type 0} (why : EntryError) (next : A → Said B) → (said_read (Err why) >>= next) ≡ said_read (Err why)
+unfolding said_read ◌>>=◌
+err-bind (error.Nested key) next = refl
+err-bind (error.Unread why key byte) next = refl
+
+-- so what is answered of what was said tells that
+pub told-error : {A B : Type 0} (what : Said A) (answer : A → B) {r : Result B EntryError} {why : EntryError} → said_read r ≡ (what >>= (λ x. gives (answer x)))
+    → r ≡ Err why → what ≡ said_read (Err why)
+unfolding ◌>>=◌
+told-error (gives x) answer {why = why} a t = absurd (err-gives why (case-said said_read a t))
+told-error (refuses number place told) answer {why = why} a t = err-refuses why (case-said said_read a t)
 
 -- ---- the attributes, then the row
 
 -- a run that was read told what it is
-told-ran : (what : Said AttrsRead) (attrs : ℕ) {r : run.the_data} {place n : ℕ} {high : Bool} → ((key : ℕ) → said_run key r ≡ run_answer attrs (placed key what))
-    → r ≡ run.Ran place n high → (xs : List Attr) × (what ≡ gives (ran xs high place)) × (n ≡ attrs + length xs)
+told-ran : (what : Said AttrsRead) (attrs : ℕ) {r : Result run.AttrsRead Unread} {x : run.AttrsRead}
+    → ((key : ℕ) → said_run key r ≡ run_answer attrs (placed key what)) → r ≡ Ok x
+    → (xs : List Attr) × (what ≡ gives (ran xs x.high x.at)) × (x.attrs ≡ attrs + length xs)
 unfolding said_run placed ◌>>=◌
-told-ran (gives x) attrs {place = place} {n} {high} a t =
-    let same : gives (run.Ran place n high) ≡ gives (run.Ran x.stopped (attrs + length x.attrs) x.high) = case-said (said_run 0) (a 0) t in
-    let stopped : x.stopped ≡ place = cc in
-    let seen : x.high ≡ high = cc in
-    (x.attrs, ap₂ (λ (h : Bool) (p : ℕ). gives (ran x.attrs h p)) seen stopped, cc)
-told-ran (refuses number field counts) attrs {place = place} {n} {high} a t =
-    let same : gives (run.Ran place n high) ≡ refuses number 0 counts = case-said (said_run 0) (a 0) t in
-    let z : ◌≡◌ {A = ℕ} 0 1 = cc in
-    absurd (omega arith)
+told-ran (gives y) attrs {x = x} a t =
+    let same : gives x ≡ gives (ran_to y.stopped (attrs + length y.attrs) y.high) = case-said (said_run 0) (a 0) t in
+    let is : x ≡ ran_to y.stopped (attrs + length y.attrs) y.high = given_is same in (
+      y.attrs,
+      ap₂ (λ (h : Bool) (p : ℕ). gives (ran y.attrs h p)) (ap (λ (z : run.AttrsRead). z.high) (sym is)) (ap (λ (z : run.AttrsRead). z.at) (sym is)),
+      ap (λ (z : run.AttrsRead). z.attrs) is,
+    )
+told-ran (refuses number field counts) attrs {x = x} a t =
+    let same : gives x ≡ refuses number 0 counts = case-said (said_run 0) (a 0) t in
+    absurd (given-refused same)
 
 -- and one that was refused is told at any place
-pub told-failed : (what : Said AttrsRead) (attrs : ℕ) {r : run.the_data} {why : Reason} {byte : ℕ} → ((key : ℕ) → said_run key r ≡ run_answer attrs (placed key what))
-    → r ≡ run.Unread why byte → (key : ℕ) → placed key what ≡ unread why key byte
-unfolding said_run placed ◌>>=◌
-told-failed (gives x) attrs {why = why} {byte} a t key =
-    let same : unread why 0 byte ≡ gives (run.Ran x.stopped (attrs + length x.attrs) x.high) = case-said (said_run 0) (a 0) t in
-    let z : ◌≡◌ {A = ℕ} 0 1 = cc in
-    absurd (omega arith)
-told-failed (refuses number field counts) attrs {why = why} {byte} a t key =
-    let same : ◌≡◌ {A = Said run.the_data} (unread why key byte) (refuses number key counts) = case-said (said_run key) (a key) t in
+pub told-failed : (what : Said AttrsRead) (attrs : ℕ) {r : Result run.AttrsRead Unread} (why : Unread)
+    → ((key : ℕ) → said_run key r ≡ run_answer attrs (placed key what)) → r ≡ Err why → (key : ℕ) → placed key what ≡ said_read (Err (unread_at key why))
+unfolding said_run said_read unread_at placed ◌>>=◌
+told-failed (gives x) attrs (missing.Short byte) a t key = absurd (given-refused (sym (case-said (said_run 0) (a 0) t)))
+told-failed (gives x) attrs (missing.Unknown byte) a t key = absurd (given-refused (sym (case-said (said_run 0) (a 0) t)))
+told-failed (refuses number field counts) attrs (missing.Short byte) a t key =
+    let same : ◌≡◌ {A = Said run.AttrsRead} (unread reason.Short key byte) (refuses number key counts) = case-said (said_run key) (a key) t in
+    cc
+told-failed (refuses number field counts) attrs (missing.Unknown byte) a t key =
+    let same : ◌≡◌ {A = Said run.AttrsRead} (unread reason.Attribute key byte) (refuses number key counts) = case-said (said_run key) (a key) t in
     cc
 
 module _ (s : List ℕ) (from : State) (ready : BodyReady s from) (shape : Shape) (what : Said AttrsRead) {rows₀ rows₁ attrs₀ attrs₁ : List ℕ} where
-  pub body-read : {r : run.the_data} {place n flags kind : ℕ} {high : Bool} → RunRead s (from.at + 6) from.attrs what r attrs₀ attrs₁ → r ≡ run.Ran place n high
-      → kind ≡ kind_of shape.root shape.kind high → flags ≡ flags_of shape.erased shape.root shape.endian
-      → rows₁ ≡ put_row rows₀ from.rows (record { key = from.at; kind = kind; flags = flags; first = from.attrs; count = n - from.attrs; unit = no_unit })
-      → BodyRead s from shape (placed from.at what) (body.Read (record { at = place; rows = from.rows + 1; attrs = n })) rows₀ rows₁ attrs₀ attrs₁
-  unfolding said_body placed ◌>>=◌ rows_words row_words
-  body-read {r} {place} {n} {flags} {kind} {high} q t k f w =
+  pub body-read : {r : Result run.AttrsRead Unread} {x : run.AttrsRead} {flags kind : ℕ} → RunRead s (from.at + 6) from.attrs what r attrs₀ attrs₁ → r ≡ Ok x
+      → kind ≡ kind_of shape.root shape.kind x.high → flags ≡ flags_of shape.erased shape.root shape.endian
+      → rows₁ ≡ put_row rows₀ from.rows (record { key = from.at; kind = kind; flags = flags; first = from.attrs; count = x.attrs - from.attrs; unit = no_unit })
+      → BodyRead s from shape (placed from.at what) (Ok (record { at = x.at; rows = from.rows + 1; attrs = x.attrs })) rows₀ rows₁ attrs₀ attrs₁
+  unfolding said_read placed ◌>>=◌ rows_words row_words
+  body-read {r} {x} {flags} {kind} q t k f w =
+      let place : ℕ = x.at in
+      let n : ℕ = x.attrs in
+      let high : Bool = x.high in
       let told = told-ran what from.attrs q.answer t in
       let xs : List Attr = told.0 in
       let is : placed from.at what ≡ gives (ran xs high place) = ap (placed from.at) told.1 in
@@ -114,24 +136,31 @@ module _ (s : List ℕ) (from : State) (ready : BodyReady s from) (shape : Shape
             );
       }
 
-  pub body_refused : {r : run.the_data} {why : Reason} {byte : ℕ} → RunRead s (from.at + 6) from.attrs what r attrs₀ attrs₁ → r ≡ run.Unread why byte
-      → BodyRead s from shape (placed from.at what) (body.Unread why byte) rows₀ rows₁ attrs₀ attrs₁
-  unfolding said_body ◌>>=◌
-  body_refused q t =
-      let is = told-failed what from.attrs q.answer t from.at in
+  pub body_refused : (why : Unread) {r : Result run.AttrsRead Unread} → RunRead s (from.at + 6) from.attrs what r attrs₀ attrs₁ → r ≡ Err why
+      → {z : Result State EntryError} → z ≡ Err (unread_at from.at why) → BodyRead s from shape (placed from.at what) z rows₀ rows₁ attrs₀ attrs₁
+  unfolding said_read unread_at ◌>>=◌
+  body_refused (missing.Short byte) q t {z} p =
+      let is : placed from.at what ≡ unread reason.Short from.at byte = told-failed what from.attrs (missing.Short byte) q.answer t from.at in
       record {
-        answer = ap (λ (w : Said AttrsRead). body_answer from w) (sym is);
+        answer = ap said_read p ∙ ap (λ (w : Said AttrsRead). body_answer from w) (sym is);
+        stores = subst (λ (u : Said AttrsRead). BodyStores s from shape u rows₀ rows₁ attrs₀ attrs₁) (sym is) tt;
+      }
+  body_refused (missing.Unknown byte) q t {z} p =
+      let is : placed from.at what ≡ unread reason.Attribute from.at byte = told-failed what from.attrs (missing.Unknown byte) q.answer t from.at in
+      record {
+        answer = ap said_read p ∙ ap (λ (w : Said AttrsRead). body_answer from w) (sym is);
         stores = subst (λ (u : Said AttrsRead). BodyStores s from shape u rows₀ rows₁ attrs₀ attrs₁) (sym is) tt;
       }
 
 -- a count of attributes fits: it is at most the place
-pub run-few : (s : List ℕ) (at attrs : ℕ) (what : Said AttrsRead) {r : run.the_data} {place n : ℕ} {high : Bool} {table₀ table₁ : List ℕ} → length s < 2 ^ 32
-    → RunRead s at attrs what r table₀ table₁ → r ≡ run.Ran place n high → (attrs ≤ n) × (n < 2 ^ 32)
-run-few s at attrs what {place = place} {n} {high} {table₀} {table₁} small q t =
+pub run-few : (s : List ℕ) (at attrs : ℕ) (what : Said AttrsRead) {r : Result run.AttrsRead Unread} {x : run.AttrsRead} {table₀ table₁ : List ℕ}
+    → length s < 2 ^ 32
+    → RunRead s at attrs what r table₀ table₁ → r ≡ Ok x → (attrs ≤ x.attrs) × (x.attrs < 2 ^ 32)
+run-few s at attrs what {x = x} {table₀} {table₁} small q t =
     let told = told-ran what attrs q.answer t in
     let xs : List Attr = told.0 in
-    let count : n ≡ attrs + length xs = told.2 in
-    let stored : RunStored s at attrs xs place table₀ table₁ = subst (λ (u : Said AttrsRead). RunStores s at attrs u table₀ table₁) told.1 q.stores in
+    let count : x.attrs ≡ attrs + length xs = told.2 in
+    let stored : RunStored s at attrs xs x.at table₀ table₁ = subst (λ (u : Said AttrsRead). RunStores s at attrs u table₀ table₁) told.1 q.stores in
     (omega arith, omega (arith, stored.few, stored.here))
 
 -- ---- an ordinary entry and an erased root
@@ -143,48 +172,28 @@ abbrev pub root_shape : Endian → ℕ → Shape
 root_shape e end = record { erased = true; root = true; endian = e; kind = tag.padding; end = end }
 
 module _ (s : List ℕ) (from : State) {rows₀ rows₁ attrs₀ attrs₁ : List ℕ} where
-  pub ordinary-read : (is_erased : Bool) (e : Endian) (kind end : ℕ) (what : Said AttrsRead) {b : body.the_data} {to : State}
-      → BodyRead s from (ordinary_shape is_erased e kind end) what b rows₀ rows₁ attrs₀ attrs₁ → b ≡ body.Read to
-      → EntryRead s from (what >>= (λ run. gives (ordinary is_erased e from.at kind from.attrs run))) (entry.Next to) rows₀ rows₁ attrs₀ attrs₁
-  unfolding said_body kind_of said_entry entry_answer ◌>>=◌
+  pub ordinary-read : (is_erased : Bool) (e : Endian) (kind end : ℕ) (what : Said AttrsRead) {b : Result State EntryError} {to : State}
+      → BodyRead s from (ordinary_shape is_erased e kind end) what b rows₀ rows₁ attrs₀ attrs₁ → b ≡ Ok to
+      → EntryRead s from (what >>= (λ run. gives (ordinary is_erased e from.at kind from.attrs run))) (Ok (entry.Next to)) rows₀ rows₁ attrs₀ attrs₁
+  unfolding said_read kind_of entry_answer ◌>>=◌
   ordinary-read is_erased e kind end (gives x) {b} {to} q t =
-      let same : gives to ≡ gives (advanced from 1 (length x.attrs) x.stopped) = case-said (said_body from.at) q.answer t in
-      let is : to ≡ advanced from 1 (length x.attrs) x.stopped = cc in
-      record { answer = ap (λ (state : State). gives (entry.Next state)) is; stores = q.stores }
-  ordinary-read is_erased e kind end (refuses number place counts) {b} {to} q t =
-      let same : gives to ≡ refuses number place counts = case-said (said_body from.at) q.answer t in
-      let z : ◌≡◌ {A = ℕ} 0 1 = cc in
-      absurd (omega arith)
+      record { answer = ap (λ (state : State). gives (entry.Next state)) (given_is (case-said said_read q.answer t)); stores = q.stores }
+  ordinary-read is_erased e kind end (refuses number place counts) {b} {to} q t = absurd (given-refused (case-said said_read q.answer t))
 
-  pub rooted-read : (e : Endian) (end : ℕ) (what : Said AttrsRead) {b : body.the_data} {to : State} → end ≤ farthest
-      → BodyRead s from (root_shape e end) what b rows₀ rows₁ attrs₀ attrs₁ → b ≡ body.Read to
-      → EntryRead s from (what >>= (λ run. gives (rooted e from.at end from.attrs run))) (entry.Inside to e end) rows₀ rows₁ attrs₀ attrs₁
-  unfolding said_body kind_of said_entry entry_answer ◌>>=◌
+  pub rooted-read : (e : Endian) (end : ℕ) (what : Said AttrsRead) {b : Result State EntryError} {to : State} → end ≤ farthest
+      → BodyRead s from (root_shape e end) what b rows₀ rows₁ attrs₀ attrs₁ → b ≡ Ok to
+      → EntryRead s from (what >>= (λ run. gives (rooted e from.at end from.attrs run))) (Ok (entry.Inside to e end)) rows₀ rows₁ attrs₀ attrs₁
+  unfolding said_read kind_of entry_answer ◌>>=◌
   rooted-read e end (gives x) {b} {to} near q t =
-      let same : gives to ≡ gives (advanced from 1 (length x.attrs) x.stopped) = case-said (said_body from.at) q.answer t in
-      let is : to ≡ advanced from 1 (length x.attrs) x.stopped = cc in
-      record { answer = ap (λ (state : State). gives (entry.Inside state e end)) is; stores = (q.stores.0, q.stores.1, near) }
-  rooted-read e end (refuses number place counts) {b} {to} near q t =
-      let same : gives to ≡ refuses number place counts = case-said (said_body from.at) q.answer t in
-      let z : ◌≡◌ {A = ℕ} 0 1 = cc in
-      absurd (omega arith)
-
-  -- what refuses the attributes refuses the entry
-  pub body-stops : (shape : Shape) (entry_of : AttrsRead → Entry) (what : Said AttrsRead) {b : body.the_data} {why : Reason} {byte : ℕ}
-      → BodyRead s from shape what b rows₀ rows₁ attrs₀ attrs₁ → b ≡ body.Unread why byte
-      → EntryRead s from (what >>= (λ run. gives (entry_of run))) (entry.Unread why byte) rows₀ rows₁ attrs₀ attrs₁
-  unfolding said_body said_entry ◌>>=◌
-  body-stops shape entry_of (gives x) {b} {why} {byte} q t =
-      let same : unread why from.at byte ≡ gives (advanced from 1 (length x.attrs) x.stopped) = case-said (said_body from.at) q.answer t in
-      let z : ◌≡◌ {A = ℕ} 0 1 = cc in
-      absurd (omega arith)
-  body-stops shape entry_of (refuses number place counts) {b} {why} {byte} q t =
-      let same : ◌≡◌ {A = Said State} (unread why from.at byte) (refuses number place counts) = case-said (said_body from.at) q.answer t in
-      record { answer = cc; stores = tt }
+      record {
+        answer = ap (λ (state : State). gives (entry.Inside state e end)) (given_is (case-said said_read q.answer t));
+        stores = (q.stores.0, q.stores.1, near);
+      }
+  rooted-read e end (refuses number place counts) {b} {to} near q t = absurd (given-refused (case-said said_read q.answer t))
 
   -- a refusal that the entry is by its definition
-  refused : {what : Said Entry} {r : entry.the_data} {number place : ℕ} {told : List ℕ} → what ≡ refuses number place told
-      → said_entry from.at r ≡ refuses number place told → EntryRead s from what r rows₀ rows₁ attrs₀ attrs₁
+  refused : {what : Said Entry} {r : Result entry.the_data EntryError} {number place : ℕ} {told : List ℕ} → what ≡ refuses number place told
+      → said_read r ≡ refuses number place told → EntryRead s from what r rows₀ rows₁ attrs₀ attrs₁
   unfolding ◌>>=◌
   refused p q =
       record {
@@ -192,63 +201,48 @@ module _ (s : List ℕ) (from : State) {rows₀ rows₁ attrs₀ attrs₁ : List
         stores = subst (λ (w : Said Entry). EntryStores s from w rows₀ rows₁ attrs₀ attrs₁) (sym p) tt;
       }
 
-  pub stopped : {what : Said Entry} (why : Reason) {byte : ℕ} → what ≡ unread why from.at byte
-      → EntryRead s from what (entry.Unread why byte) rows₀ rows₁ attrs₀ attrs₁
-  unfolding said_entry
-  stopped why p = refused p refl
+  pub stopped : (why : EntryError) {what : Said Entry} {z : Result entry.the_data EntryError} → what ≡ said_read (Err why) → z ≡ Err why
+      → EntryRead s from what z rows₀ rows₁ attrs₀ attrs₁
+  unfolding said_read
+  stopped (error.Nested key) p q = refused p (ap said_read q)
+  stopped (error.Unread why key byte) p q = refused p (ap said_read q)
 
-  pub too-deep : {what : Said Entry} → what ≡ refuse reason.Nested from.at → EntryRead s from what entry.Nested rows₀ rows₁ attrs₀ attrs₁
-  unfolding said_entry
-  too-deep p = refused p refl
+  -- what refuses the attributes refuses the entry
+  pub body-stops : (shape : Shape) (entry_of : AttrsRead → Entry) (what : Said AttrsRead) {b : Result State EntryError} {why : EntryError}
+      {z : Result entry.the_data EntryError} → BodyRead s from shape what b rows₀ rows₁ attrs₀ attrs₁ → b ≡ Err why → z ≡ Err why
+      → EntryRead s from (what >>= (λ run. gives (entry_of run))) z rows₀ rows₁ attrs₀ attrs₁
+  body-stops shape entry_of what {why = why} q t p =
+      stopped why
+      (ap (λ (w : Said AttrsRead). w >>= (λ run. gives (entry_of run)))
+      (told-error what (λ x. advanced from 1 (length x.attrs) x.stopped) q.answer t) ∙ err-bind why _) p
 
   -- the same entry under another name
-  pub renamed : {what what' : Said Entry} {r : entry.the_data} → what ≡ what' → EntryRead s from what' r rows₀ rows₁ attrs₀ attrs₁
+  pub renamed : {what what' : Said Entry} {r : Result entry.the_data EntryError} → what ≡ what' → EntryRead s from what' r rows₀ rows₁ attrs₀ attrs₁
       → EntryRead s from what r rows₀ rows₁ attrs₀ attrs₁
   renamed {r = r} p q = subst (λ (w : Said Entry). EntryRead s from w r rows₀ rows₁ attrs₀ attrs₁) (sym p) q
 
 -- ---- by head
 
 module _ (vendors : List ℕ) (global : ℕ) (s : List ℕ) (is_erased : Bool) (e : Endian) (at a end : ℕ) where
-  pub nested : (levels : ℕ) → levels ≡ 0 → entry_from (source vendors global s) levels (mode is_erased e) at a (head.Root end) ≡ refuse reason.Nested at
-  unfolding entry_from
+  pub nested : (levels : ℕ) → levels ≡ 0 → entry_from (source vendors global s) levels (mode is_erased e) at a (Ok (head.Root end))
+      ≡ said_read (Err (error.Nested at))
+  unfolding entry_from said_read
   nested levels h = rw h
 
-  pub root_is : (levels : ℕ) {r : look.the_data} {inner : Endian} → (levels ≡ 0 → ⊥) → said_look at r ≡ root_endian vendors s is_erased e at → r ≡ look.Is inner
-      → entry_from (source vendors global s) levels (mode is_erased e) at a (head.Root end)
+  pub root_is : (levels : ℕ) {r : Result Endian EntryError} {inner : Endian} → (levels ≡ 0 → ⊥) → said_read r ≡ root_endian vendors s is_erased e at
+      → r ≡ Ok inner
+      → entry_from (source vendors global s) levels (mode is_erased e) at a (Ok (head.Root end))
       ≡ (attributes (source vendors global s) inner true end at >>= (λ run. gives (rooted inner at end a run)))
-  unfolding entry_from said_look ◌>>=◌
+  unfolding entry_from said_read ◌>>=◌
   root_is zero h is t = absurd (h refl)
-  root_is (suc l) h is t = rw (← case-said (said_look at) is t)
+  root_is (suc l) h is t = rw (← case-said said_read is t)
 
-  pub root-short : (levels : ℕ) {r : look.the_data} {byte : ℕ} → (levels ≡ 0 → ⊥) → said_look at r ≡ root_endian vendors s is_erased e at → r ≡ look.Short byte
-      → entry_from (source vendors global s) levels (mode is_erased e) at a (head.Root end) ≡ unread reason.Short at byte
-  unfolding entry_from said_look ◌>>=◌
-  root-short zero h is t = absurd (h refl)
-  root-short (suc l) h is t = rw (← case-said (said_look at) is t)
-
--- the data endianness of a root
-module _ (vendors s : List ℕ) (e : Endian) (at : ℕ) where
-  pub endian-inside : {is_erased : Bool} → is_erased ≡ true → said_look at (look.Is e) ≡ root_endian vendors s is_erased e at
-  unfolding root_endian said_look
-  endian-inside h = rw h
-
-  pub endian-known : {is_erased : Bool} (n : ℕ) → is_erased ≡ false → known vendors n ≡ true
-      → gives (cond (known vendors n) e (flip e)) ≡ read_at (λ k. gives (cond (known vendors k) e (flip e))) (unread reason.Short at (at + 6)) e 2 s (at + 6)
-      → said_look at (look.Is e) ≡ root_endian vendors s is_erased e at
-  unfolding root_endian said_look
-  endian-known n h k p = rw h (ap (λ (b : Bool). gives (cond b e (flip e))) (sym k) ∙ p)
-
-  pub endian-flipped : {is_erased : Bool} (n : ℕ) {other : Endian} → is_erased ≡ false → known vendors n ≡ false → other ≡ flip e
-      → gives (cond (known vendors n) e (flip e)) ≡ read_at (λ k. gives (cond (known vendors k) e (flip e))) (unread reason.Short at (at + 6)) e 2 s (at + 6)
-      → said_look at (look.Is other) ≡ root_endian vendors s is_erased e at
-  unfolding root_endian said_look
-  endian-flipped n h k f p = rw h (ap gives f ∙ ap (λ (b : Bool). gives (cond b e (flip e))) (sym k) ∙ p)
-
-  pub endian-short : {is_erased : Bool} → is_erased ≡ false
-      → unread reason.Short at (at + 6) ≡ read_at (λ k. gives (cond (known vendors k) e (flip e))) (unread reason.Short at (at + 6)) e 2 s (at + 6)
-      → said_look at (look.Short (at + 6)) ≡ root_endian vendors s is_erased e at
-  unfolding root_endian said_look
-  endian-short h p = rw h p
+  pub root-stops : (levels : ℕ) {r : Result Endian EntryError} {why : EntryError} → (levels ≡ 0 → ⊥) → said_read r ≡ root_endian vendors s is_erased e at
+      → r ≡ Err why
+      → entry_from (source vendors global s) levels (mode is_erased e) at a (Ok (head.Root end)) ≡ said_read (Err why)
+  unfolding entry_from
+  root-stops zero h is t = absurd (h refl)
+  root-stops (suc l) {why = why} h is t = rw (← case-said said_read is t) (err-bind why _)
 
 -- ---- a null entry, and padding that is stepped over
 
@@ -264,12 +258,13 @@ null_read from is_erased e place {rows₀ = rows₀} f w =
     }
 
 module _ (vendors : List ℕ) (global : ℕ) (s : List ℕ) (levels : ℕ) (is_erased : Bool) (e : Endian) (from : State) (ready : Ready s from) (place : ℕ) where
-  pub entry-null : {r : entry.the_data} {rows₀ rows₁ attrs₀ : List ℕ} → HeadBounds s from.at (head.Null place) → NullRead from is_erased e place r rows₀ rows₁
-      → EntryRead s from (entry_from (source vendors global s) levels (mode is_erased e) from.at from.attrs (head.Null place)) r rows₀ rows₁ attrs₀ attrs₀
-  unfolding entry_from said_entry entry_answer ◌>>=◌ attrs_words
+  pub entry-null : {r : entry.the_data} {rows₀ rows₁ attrs₀ : List ℕ} → HeadBounds s from.at (Ok (head.Null place))
+      → NullRead from is_erased e place r rows₀ rows₁
+      → EntryRead s from (entry_from (source vendors global s) levels (mode is_erased e) from.at from.attrs (Ok (head.Null place))) (Ok r) rows₀ rows₁ attrs₀ attrs₀
+  unfolding entry_from said_read entry_answer ◌>>=◌ attrs_words
   entry-null b q =
       record {
-        answer = ap (said_entry from.at) q.answer;
+        answer = ap gives q.answer;
         stores = (
           record {
             row_cells = q.words;
@@ -283,10 +278,10 @@ module _ (vendors : List ℕ) (global : ℕ) (s : List ℕ) (levels : ℕ) (is_e
         );
       }
 
-  pub entry-skipped : {rows₀ attrs₀ : List ℕ} → HeadBounds s from.at (head.Skipped place)
-      → EntryRead s from (entry_from (source vendors global s) levels (mode is_erased e) from.at from.attrs (head.Skipped place))
-      (entry.Next (record { at = place; rows = from.rows; attrs = from.attrs })) rows₀ rows₀ attrs₀ attrs₀
-  unfolding entry_from said_entry entry_answer ◌>>=◌ attrs_words rows_words
+  pub entry-skipped : {rows₀ attrs₀ : List ℕ} → HeadBounds s from.at (Ok (head.Skipped place))
+      → EntryRead s from (entry_from (source vendors global s) levels (mode is_erased e) from.at from.attrs (Ok (head.Skipped place)))
+      (Ok (entry.Next (record { at = place; rows = from.rows; attrs = from.attrs }))) rows₀ rows₀ attrs₀ attrs₀
+  unfolding entry_from said_read entry_answer ◌>>=◌ attrs_words rows_words
   entry-skipped b =
       record {
         answer =
@@ -305,10 +300,11 @@ module _ (vendors : List ℕ) (global : ℕ) (s : List ℕ) (levels : ℕ) (is_e
       }
 
 -- what an entry is goes by its head
-pub at_head : (vendors : List ℕ) (global : ℕ) (s : List ℕ) (erased : Bool) (levels : ℕ) (is_erased : Bool) (e : Endian) (at a : ℕ) {r h : Head}
-    → r ≡ head_at erased s e at → r ≡ h → read_entry (source vendors global s) erased levels (mode is_erased e) at a ≡ entry_from (source vendors global s) levels (mode is_erased e) at a h
+pub at_head : (vendors : List ℕ) (global : ℕ) (s : List ℕ) (erased : Bool) (levels : ℕ) (is_erased : Bool) (e : Endian) (at a : ℕ) {r h : Result Head HeadError}
+    → r ≡ head_at erased s e at → r ≡ h
+    → read_entry (source vendors global s) erased levels (mode is_erased e) at a ≡ entry_from (source vendors global s) levels (mode is_erased e) at a h
 unfolding read_entry
 at_head vendors global s erased levels is_erased e at a p q = ap (entry_from (source vendors global s) levels (mode is_erased e) at a) (sym p ∙ q)
 
-pub head-bounds : (s : List ℕ) (at : ℕ) {what r h : Head} → HeadRead s at what r → r ≡ h → HeadBounds s at h
+pub head-bounds : (s : List ℕ) (at : ℕ) {what r h : Result Head HeadError} → HeadRead s at what r → r ≡ h → HeadBounds s at h
 head-bounds s at q t = subst (HeadBounds s at) t q.bounds

@@ -36,7 +36,8 @@ use Rattle.entries.specs.Filled.{KeysRise, TableFilled}
 -- ---- keys
 
 -- rows that were read have such keys
-rows-rise : {s vendors : List ℕ} {least run place : ℕ} {rs : List Row} {xs : List Attr} → RowsRead s vendors least run rs xs place → KeysRise (length s) least rs
+rows-rise : {s vendors : List ℕ} {least run place : ℕ} {rs : List Row} {xs : List Attr} → RowsRead s vendors least run rs xs place
+    → KeysRise (length s) least rs
 rows-rise (no_rows h) = tt
 rows-rise (more_rows h r later) = (h, r.fits, rows-rise later)
 
@@ -49,7 +50,8 @@ rise-few top least (r ∷ rs) h rise =
 
 -- they so rise in the rows that a walk gives, from the place where it began
 pub keys-rise : (vendors : List ℕ) (global : ℕ) (erased : Bool) (s : List ℕ) (levels : ℕ) (is_erased : Bool) (e : Endian) (end a at : ℕ) {rs : List Row}
-    {xs : List Attr} {place : ℕ} → read_tags (source vendors global s) erased levels (mode is_erased e) end a at ≡ gives (entries rs xs place) → KeysRise (length s) at rs
+    {xs : List Attr} {place : ℕ} → read_tags (source vendors global s) erased levels (mode is_erased e) end a at ≡ gives (entries rs xs place)
+    → KeysRise (length s) at rs
 keys-rise vendors global erased s levels is_erased e end a at whole =
     rows-rise (subst (WalkRows s vendors at a) whole (walk_rows s vendors global erased levels is_erased e end a at))
 

@@ -1,12 +1,13 @@
 -- What follows from `Head`, for each way that the code comes to a head.
+use Rattle.std.specs.Prelude.{Result, Ok}
 use Prim.Native.Nat.{ℕ, ◌+◌, ◌^◌, ◌≤◌, ◌<◌}
 use native.Mathlib.Omega.{arith}
 use mathlib.Core.Path.{◌≡◌, sym, ap, ◌∙◌, subst}
-use mathlib.Core.Bool.{Bool, true, false}
+use mathlib.Core.Bool.{Bool}
 use mathlib.Core.List.{List}
 use lib.ListN.{length}
 use lib.Dec.{leb, eqb}
-use borrow.Author.Tests.{le-leb, lt-leb, lt-ltb, le-ltb, eq-eqb, ne_eqb, leb-false}
+use borrow.Author.Tests.{lt-ltb, le-ltb, leb-false}
 use Rattle.numbers.proofs.Laws.Tests.{cond-all}
 use Rattle.numbers.specs.Value.{read_at}
 use Rattle.numbers.specs.declared.Endian.{Endian}
@@ -14,21 +15,14 @@ use Rattle.format.specs.Lookup.{is_on}
 use Rattle.format.specs.TagKind.{tags}
 use Rattle.format.specs.TagKind as tag
 use Rattle.format.specs.declared.refusal.Reason.TheVariants as reason
-use Rattle.entries.specs.Head.{null_end, tag_head, size_head, head_at}
+use Rattle.entries.specs.Head.{headless, null_end, tag_head, size_head, head_at}
 use Rattle.entries.specs.Inside.Promise.{HeadBounds, HeadRead}
 use Rattle.entries.specs.declared.head.Head.{Head}
-use Rattle.entries.specs.declared.head.Head.TheVariants.{Null, Skipped, Root, Ordinary, Unread}
+use Rattle.entries.specs.declared.head.Head.TheVariants.{Null}
+use Rattle.entries.specs.declared.head.HeadError.{HeadError}
 
 -- a null entry's end
 module _ (at size : ℕ) where
-  pub null-four : size ≤ 4 → at + 4 ≡ null_end at size
-  unfolding null_end
-  null-four h = rw (le-leb size 4 h)
-
-  pub null-stretched : 4 < size → at + size ≡ null_end at size
-  unfolding null_end
-  null-stretched h = rw (lt-leb size 4 h)
-
   null-bounds : size < 8 → (at + 4 ≤ null_end at size) × (null_end at size ≤ at + 8)
   unfolding null_end
   null-bounds h =
@@ -37,22 +31,6 @@ module _ (at size : ℕ) where
 
 -- a tag
 module _ (erased : Bool) (end place kind : ℕ) where
-  pub tag-root : is_on kind tags ≡ true → kind ≡ tag.padding → erased ≡ true → Root end ≡ tag_head erased end place kind
-  unfolding tag_head
-  tag-root m p h = rw (m, eq-eqb kind tag.padding p, h)
-
-  pub tag-skipped : is_on kind tags ≡ true → kind ≡ tag.padding → erased ≡ false → Skipped end ≡ tag_head erased end place kind
-  unfolding tag_head
-  tag-skipped m p h = rw (m, eq-eqb kind tag.padding p, h)
-
-  pub tag-ordinary : is_on kind tags ≡ true → (kind ≡ tag.padding → ⊥) → Ordinary kind end ≡ tag_head erased end place kind
-  unfolding tag_head
-  tag-ordinary m p = rw (m, ne_eqb kind tag.padding p)
-
-  pub tag-unknown : is_on kind tags ≡ false → Unread reason.Tag place ≡ tag_head erased end place kind
-  unfolding tag_head
-  tag-unknown m = rw m
-
   tag-bounds : (s : List ℕ) (at : ℕ) → at + 6 ≤ length s → at + 8 ≤ end → end ≤ at + 2 ^ 32 → HeadBounds s at (tag_head erased end place kind)
   unfolding tag_head
   tag-bounds s at h k l =
@@ -62,17 +40,17 @@ module _ (erased : Bool) (end place kind : ℕ) where
 
 -- a size
 module _ (erased : Bool) (s : List ℕ) (e : Endian) (at size : ℕ) (here : at + 4 ≤ length s) where
-  pub size-null : {end : ℕ} → size < 8 → end ≡ null_end at size → HeadRead s at (size_head erased s e at size) (Null end)
+  pub size-null : {end : ℕ} → size < 8 → end ≡ null_end at size → HeadRead s at (size_head erased s e at size) (Ok (Null end))
   unfolding size_head
   size-null {end} h p =
       let q : null_end at size ≡ end = sym p in
       let b = null-bounds at size h in
       let low : at + 4 ≤ end = subst (λ (n : ℕ). at + 4 ≤ n) q b.0 in
       let high : end ≤ at + 8 = subst (λ (n : ℕ). n ≤ at + 8) q b.1 in
-      record { answer = rw (lt-ltb size 8 h) (ap Null p); bounds = (here, low, high) }
+      record { answer = rw (lt-ltb size 8 h) (ap (λ (n : ℕ). Ok (Null n)) p); bounds = (here, low, high) }
 
-  pub size-tag : (kind : ℕ) {r : Head} → 8 ≤ size → size < 2 ^ 32 → at + 6 ≤ length s → r ≡ tag_head erased (at + size) (at + 4) kind
-      → tag_head erased (at + size) (at + 4) kind ≡ read_at (tag_head erased (at + size) (at + 4)) (Unread reason.Short (at + 4)) e 2 s (at + 4)
+  pub size-tag : (kind : ℕ) {r : Result Head HeadError} → 8 ≤ size → size < 2 ^ 32 → at + 6 ≤ length s → r ≡ tag_head erased (at + size) (at + 4) kind
+      → tag_head erased (at + size) (at + 4) kind ≡ read_at (tag_head erased (at + size) (at + 4)) (headless reason.Short (at + 4)) e 2 s (at + 4)
       → HeadRead s at (size_head erased s e at size) r
   unfolding size_head
   size-tag kind {r} h l k p q =
@@ -82,18 +60,19 @@ module _ (erased : Bool) (s : List ℕ) (e : Endian) (at size : ℕ) (here : at 
       }
 
   pub size-short : 8 ≤ size
-      → Unread reason.Short (at + 4) ≡ read_at (tag_head erased (at + size) (at + 4)) (Unread reason.Short (at + 4)) e 2 s (at + 4)
-      → HeadRead s at (size_head erased s e at size) (Unread reason.Short (at + 4))
+      → headless reason.Short (at + 4) ≡ read_at (tag_head erased (at + size) (at + 4)) (headless reason.Short (at + 4)) e 2 s (at + 4)
+      → {z : Result Head HeadError} → z ≡ headless reason.Short (at + 4) → HeadRead s at (size_head erased s e at size) z
   unfolding size_head
-  size-short h p = record { answer = rw (le-ltb size 8 h) p; bounds = tt }
+  size-short h p q = record { answer = q ∙ rw (le-ltb size 8 h) p; bounds = subst (HeadBounds s at) (sym q) tt }
 
 -- a head that was read after its size
-pub head-sized : (erased : Bool) (s : List ℕ) (e : Endian) (at size : ℕ) {r : Head} → HeadRead s at (size_head erased s e at size) r
-    → size_head erased s e at size ≡ read_at (size_head erased s e at) (Unread reason.Short at) e 4 s at → HeadRead s at (head_at erased s e at) r
+pub head-sized : (erased : Bool) (s : List ℕ) (e : Endian) (at size : ℕ) {r : Result Head HeadError} → HeadRead s at (size_head erased s e at size) r
+    → size_head erased s e at size ≡ read_at (size_head erased s e at) (headless reason.Short at) e 4 s at → HeadRead s at (head_at erased s e at) r
 unfolding head_at
 head-sized erased s e at size h p = record { answer = h.answer ∙ p; bounds = h.bounds }
 
 pub head-short : (erased : Bool) (s : List ℕ) (e : Endian) (at : ℕ)
-    → Unread reason.Short at ≡ read_at (size_head erased s e at) (Unread reason.Short at) e 4 s at → HeadRead s at (head_at erased s e at) (Unread reason.Short at)
+    → headless reason.Short at ≡ read_at (size_head erased s e at) (headless reason.Short at) e 4 s at
+    → {z : Result Head HeadError} → z ≡ headless reason.Short at → HeadRead s at (head_at erased s e at) z
 unfolding head_at
-head-short erased s e at p = record { answer = p; bounds = tt }
+head-short erased s e at p q = record { answer = q ∙ p; bounds = subst (HeadBounds s at) (sym q) tt }

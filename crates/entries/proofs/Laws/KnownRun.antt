@@ -1,4 +1,5 @@
 -- Attributes that were read are known, and their values end inside.
+use Rattle.std.specs.Prelude.{Result, Ok, Err}
 use Prim.Native.Nat.{ℕ, zero, suc, ◌+◌, ◌≤◌}
 use native.Mathlib.Nat.{le_refl}
 use native.Mathlib.Omega.{arith}
@@ -19,11 +20,9 @@ use Rattle.attributes.specs.End.{value_end}
 use Rattle.attributes.specs.Ahead.{Ahead}
 use Rattle.attributes.proofs.Laws.Inside.{value-ahead}
 use Rattle.attributes.specs.Read.{ending, numbered, read_attribute}
-use Rattle.attributes.specs.declared.value.End.{End}
-use Rattle.attributes.specs.declared.value.End.TheVariants.{At}
-use Rattle.attributes.specs.declared.value.End.TheVariants as end
 use Rattle.attributes.specs.declared.read.Attribute.{Attribute}
-use Rattle.attributes.specs.declared.read.Attribute.TheVariants.{Read, Short, Unknown}
+use Rattle.attributes.specs.declared.value.Unread.{Unread}
+use Rattle.attributes.specs.declared.value.Unread.TheVariants as missing
 use Rattle.tables.proofs.Laws.Held.{AttrKnown}
 use Rattle.tables.specs.declared.row.Attr.{Attr}
 use Rattle.entries.specs.Run.{AttrsRead, ran, attr, read_on, run_ends, read_run}
@@ -34,10 +33,9 @@ pub data AllKnown (s vendors : List ℕ) (e : Endian) : List Attr → Type 0 whe
   more_known : {a : Attr} {xs : List Attr} → AttrKnown s vendors e a → AllKnown s vendors e xs → AllKnown s vendors e (a ∷ xs)
 
 -- an attribute that was read is such, and reading moved forward
-abbrev AttributeKnown : List ℕ → List ℕ → Endian → ℕ → Attribute → Type 0
-AttributeKnown s vendors e at (Read n value next) = AttrKnown s vendors e (attr n value) × (at ≤ next)
-AttributeKnown s vendors e at (Short field) = Unit
-AttributeKnown s vendors e at (Unknown field) = Unit
+abbrev AttributeKnown : List ℕ → List ℕ → Endian → ℕ → Result Attribute Unread → Type 0
+AttributeKnown s vendors e at (Ok a) = AttrKnown s vendors e (attr a.number a.value) × (at ≤ a.next)
+AttributeKnown s vendors e at (Err why) = Unit
 
 -- so is each that was read one after the other
 abbrev pub RunKnown : List ℕ → List ℕ → Endian → ℕ → Said AttrsRead → Type 0
@@ -50,17 +48,17 @@ by-test true f g = f refl
 by-test false f g = g refl
 
 module _ (s vendors : List ℕ) (e : Endian) where
-  ending-known : (at n : ℕ) (told : End) → known vendors n ≡ true → value_end (form_of n) e s (at + 2) ≡ told → Ahead s (at + 2 + 1) told
+  ending-known : (at n : ℕ) (told : Result ℕ Unread) → known vendors n ≡ true → value_end (form_of n) e s (at + 2) ≡ told → Ahead s (at + 2 + 1) told
       → AttributeKnown s vendors e at (ending n (at + 2) told)
   unfolding ending
-  ending-known at n (At next) k p ahead = (record { is_known = k; next = next; ends = p }, omega arith)
-  ending-known at n (end.Short field) k p ahead = tt
+  ending-known at n (Ok next) k p ahead = (record { is_known = k; next = next; ends = p }, omega arith)
+  ending-known at n (Err why) k p ahead = tt
 
   attribute-known : (at : ℕ) → AttributeKnown s vendors e at (read_attribute vendors e s at)
   unfolding read_attribute numbered
   attribute-known at =
       let n : ℕ = value_of e 2 s at in
-      read_all (numbered vendors e s at) (Short at) e 2 s at (AttributeKnown s vendors e at)
+      read_all (numbered vendors e s at) (Err (missing.Short at)) e 2 s at (AttributeKnown s vendors e at)
       (λ t. cond-all (AttributeKnown s vendors e at) (known vendors n)
       (λ k. ending-known at n (value_end (form_of n) e s (at + 2)) k refl (value-ahead (form_of n) e s (at + 2))) (λ k. tt)) (λ t. tt)
 
@@ -70,12 +68,13 @@ module _ (s vendors : List ℕ) (e : Endian) where
   first-known (gives later) x forward others = (more_known x others.0, omega (arith, others.1))
   first-known (refuses number place counts) x forward others = tt
 
-  on-known : (at : ℕ) (x : Attribute) (k : ℕ → ℕ → Said AttrsRead) → AttributeKnown s vendors e at x → ((n next : ℕ) → RunKnown s vendors e next (k n next))
+  on-known : (at : ℕ) (x : Result Attribute Unread) (k : ℕ → ℕ → Said AttrsRead) → AttributeKnown s vendors e at x
+      → ((n next : ℕ) → RunKnown s vendors e next (k n next))
       → RunKnown s vendors e at (read_on x k)
   unfolding read_on
-  on-known at (Read n value next) k x others = first-known (k n next) x.0 x.1 (others n next)
-  on-known at (Short field) k x others = tt
-  on-known at (Unknown field) k x others = tt
+  on-known at (Ok a) k x others = first-known (k a.number a.next) x.0 x.1 (others a.number a.next)
+  on-known at (Err (missing.Short field)) k x others = tt
+  on-known at (Err (missing.Unknown field)) k x others = tt
 
   module _ (global : ℕ) (root : Bool) (end : ℕ) where
     -- after a number, a HighPc may have been seen

@@ -1,4 +1,5 @@
 -- What the rows of a walk are like: keys rise by 4 or more and lie inside, kinds are tags, runs follow each other, attributes are known.
+use Rattle.std.specs.Prelude.{Result, Ok}
 use Prim.Native.Nat.{ℕ, zero, suc, ◌+◌, ◌≤◌, ◌<◌}
 use native.Mathlib.Nat.{le_refl, le_trans, add-zero, add_assoc}
 use native.Mathlib.Omega.{arith}
@@ -22,7 +23,7 @@ use Rattle.format.specs.declared.refusal.Reason.TheVariants as reason
 use Rattle.tables.specs.Row.{endian_of}
 use Rattle.tables.specs.declared.row.Row.{Row}
 use Rattle.tables.specs.declared.row.Attr.{Attr}
-use Rattle.entries.specs.Head.{null_end, tag_head, size_head, head_at}
+use Rattle.entries.specs.Head.{headless, null_end, tag_head, size_head, head_at}
 use Rattle.entries.specs.Run.{AttrsRead}
 use Rattle.entries.specs.Entry.{Entry, next, inside, row, flag_of, flags_of, little_flag, root_kind, attributes, entry_from, read_entry}
 use Rattle.entries.specs.Inside.Promise.{ordinary, rooted}
@@ -31,7 +32,8 @@ use Rattle.entries.proofs.Laws.Walk.{join}
 use Rattle.entries.proofs.Laws.KnownRun.{AllKnown, none_known, RunKnown, by-test, run-known}
 use Rattle.format.proofs.Laws.Said.{placed-keeps}
 use Rattle.entries.specs.declared.head.Head.{Head}
-use Rattle.entries.specs.declared.head.Head.TheVariants.{Null, Root, Unread}
+use Rattle.entries.specs.declared.head.Head.TheVariants.{Null, Root}
+use Rattle.entries.specs.declared.head.HeadError.{HeadError}
 
 -- a row whose run begins at `run`, and its own attributes
 pub record RowRead (s vendors : List ℕ) (run : ℕ) (r : Row) (own : List Attr) : Type 0 where
@@ -153,14 +155,14 @@ module _ (s vendors : List ℕ) (at a : ℕ) where
 
     -- an erased root, where one more level is allowed
     root-begins : (levels : ℕ) (is_erased : Bool) (e : Endian) (end : ℕ) → at + 4 ≤ length s
-        → EntryRows s vendors at a (entry_from (source vendors global s) levels (mode is_erased e) at a (Root end))
+        → EntryRows s vendors at a (entry_from (source vendors global s) levels (mode is_erased e) at a (Ok (Root end)))
     unfolding entry_from
     root-begins zero is_erased e end room = tt
     root-begins (suc l) is_erased e end room = root-rows end _ room
 
     module _ (levels : ℕ) (is_erased : Bool) (e : Endian) where
       -- by what it begins with
-      abbrev HeadRows : Head → Type 0
+      abbrev HeadRows : Result Head HeadError → Type 0
       HeadRows h = EntryRows s vendors at a (entry_from (source vendors global s) levels (mode is_erased e) at a h)
 
       tag-rows : (erased : Bool) (size kind : ℕ) → 8 ≤ size → at + 4 ≤ length s → HeadRows (tag_head erased (at + size) (at + 4) kind)
@@ -172,7 +174,7 @@ module _ (s vendors : List ℕ) (at a : ℕ) where
           (λ p. ordinary-rows is_erased e kind (attributes (source vendors global s) e false (at + size) at) room k (attributes-known e false (at + size))))
           (λ k. tt)
 
-      null-rows : (size : ℕ) → at + 4 ≤ length s → HeadRows (Null (null_end at size))
+      null-rows : (size : ℕ) → at + 4 ≤ length s → HeadRows (Ok (Null (null_end at size)))
       unfolding entry_from null_end tags is_on
       null-rows size room =
           let forward : at + 4 ≤ null_end at size =
@@ -185,10 +187,10 @@ module _ (s vendors : List ℕ) (at a : ℕ) where
       unfolding entry_from read_entry head_at size_head
       entry-rows erased =
           let size : ℕ = value_of e 4 s at in
-          read_all (size_head erased s e at) (Unread reason.Short at) e 4 s at HeadRows
+          read_all (size_head erased s e at) (headless reason.Short at) e 4 s at HeadRows
           (λ t. let room : at + 4 ≤ length s = there-inside s at 4 t in
           cond-all HeadRows (ltb size 8) (λ few. null-rows size room)
-          (λ some. read_all (tag_head erased (at + size) (at + 4)) (Unread reason.Short (at + 4)) e 2 s (at + 4) HeadRows
+          (λ some. read_all (tag_head erased (at + size) (at + 4)) (headless reason.Short (at + 4)) e 2 s (at + 4) HeadRows
           (λ u. tag-rows erased size (value_of e 2 s (at + 4)) (ltb-false size 8 some) room) (λ u. tt)))
           (λ t. tt)
 

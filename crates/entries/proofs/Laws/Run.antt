@@ -1,47 +1,79 @@
 -- What follows from `Run`: the loop over an entry's attributes. Its invariant says what was read so far, and that what is left comes to the whole.
 use Prim.Native.Nat.{ℕ, zero, suc, ◌+◌, ◌*◌, ◌-◌, ◌^◌, ◌≤◌, ◌<◌}
 use native.Mathlib.Omega.{arith}
+use Rattle.std.specs.Prelude.{Option, Some, None, Result, Ok, Err, IsErrAnd, ok_or}
+use Rattle.std.proofs.lemmas.Option.{none-some}
+use Rattle.std.specs.Result.{MatchResult}
+use Rattle.std.proofs.lemmas.Result.{err_from_is_err_and}
 use mathlib.Core.Path.{◌≡◌, refl, sym, ap, ap₂, ◌∙◌, subst}
-use mathlib.Core.Bool.{Bool, true, false, not, ◌&&◌, ◌||◌}
+use mathlib.Core.Bool.{Bool, true, false, ◌&&◌, ◌||◌}
 use mathlib.Core.List.{List, [], ◌∷◌, ◌++◌, append_assoc, append-nil}
 use lib.ListN.{length, length-append}
 use lib.Seq.{sets, length-sets}
 use lib.Dec.{ltb, eqb}
 use borrow.Author.Tests.{lt-ltb, le-ltb}
 use Rattle.entries.specs.Source.{source}
-use Rattle.numbers.specs.Value.{read_at}
 use Rattle.numbers.specs.declared.Endian.{Endian}
 use Rattle.format.specs.AttributeKind as number
 use Rattle.format.specs.Said.{Said, gives, refuses, unread, ◌>>=◌, placed}
-use Rattle.format.specs.declared.refusal.Reason.{Reason}
 use Rattle.format.specs.declared.refusal.Reason.TheVariants as reason
 use Rattle.attributes.specs.Read.{read_attribute}
 use Rattle.attributes.specs.Ahead.{ReadInside}
 use Rattle.attributes.proofs.Laws.Inside.{read-inside}
-use Rattle.attributes.specs.declared.read.Attribute.TheVariants.{Read, Short, Unknown}
+use Rattle.attributes.specs.declared.read.Attribute.{Attribute}
+use Rattle.attributes.specs.declared.value.Unread.{Unread}
+use Rattle.attributes.specs.declared.value.Unread.TheVariants as missing
 use Rattle.tables.specs.Row.{attr_width, attr_words, attrs_words, put_attr}
 use Rattle.tables.proofs.Laws.Row.{attrs-append}
 use Rattle.tables.specs.declared.row.Attr.{Attr}
-use Rattle.format.specs.Settings.{plays}
 use Rattle.entries.specs.Run.{AttrsRead, ran, attr, run_ends, read_on, read_run}
 use Rattle.entries.specs.Inside.Promise.{RunReady, RunStores, RunRead, said_run, run_answer}
-use Rattle.entries.specs.declared.run.AttrsRead.TheVariants as run
+use Rattle.entries.specs.declared.run.AttrsRead as run
 
--- ---- does the run end here?
+-- what a `?` returns
+pub exit-is : {A E : Type 0} {why : E} (z : Result A E) → IsErrAnd z (λ e. e ≡ why) → z ≡ Err why
+exit-is z exits = let x = err_from_is_err_and z exits in x.1 ∙ ap Err x.2
 
-module _ (global : ℕ) (s : List ℕ) (e : Endian) (at : ℕ) where
-  pub ends-not-high : {high : Bool} → high ≡ false → false ≡ run_ends global s e high at
-  unfolding run_ends
-  ends-not-high h = rw h
+-- what an `ok_or` was made of
+module _ {A E : Type 0} (o : Option A) (why : E) {r : Result A E} (is : r ≡ ok_or o why) where
+  pub kept-some : {x : A} → r ≡ Ok x → o ≡ Some x
+  kept-some {x} was = go o (sym was ∙ is)
+    where
+      go : (o : Option A) → Ok x ≡ ok_or o why → o ≡ Some x
+      go None p = cc
+      go (Some y) p = cc
 
-  pub ends_read : {high : Bool} (n : ℕ) {p : Bool} → high ≡ true → p ≡ plays global n → plays global n ≡ read_at (plays global) true e 2 s at
-      → not p ≡ run_ends global s e high at
-  unfolding run_ends
-  ends_read n h p q = rw (h, p, q)
+  pub told-none : {d : E} → r ≡ Err d → (o ≡ None) × (d ≡ why)
+  told-none {d} was = go o (sym was ∙ is)
+    where
+      go : (o : Option A) → Err d ≡ ok_or o why → (o ≡ None) × (d ≡ why)
+      go None p = (refl, cc)
+      go (Some y) p = let none : None ≡ Some y = cc in absurd (none-some y none)
 
-  pub ends-short : {high : Bool} → high ≡ true → true ≡ read_at (plays global) true e 2 s at → false ≡ run_ends global s e high at
-  unfolding run_ends
-  ends-short h q = rw (h, ← q)
+-- what a `map_err` was made of
+module _ {A E D : Type 0} (o : Result A E) (post : E → D → Type 0) {r : Result A D} (is : MatchResult o (λ x. r ≡ Ok x) (λ e. IsErrAnd r (post e))) where
+  pub mapped-ok : {x : A} → r ≡ Ok x → o ≡ Ok x
+  mapped-ok {x} was = go o is
+    where
+      go : (o : Result A E) → MatchResult o (λ x. r ≡ Ok x) (λ e. IsErrAnd r (post e)) → o ≡ Ok x
+      go (Ok y) p = cc
+      go (Err e) p = let d = err_from_is_err_and r p in let same : Ok x ≡ Err d.0 = sym was ∙ d.1 in cc
+
+  pub mapped-err : {d : D} → r ≡ Err d → (e : E) × (o ≡ Err e) × post e d
+  mapped-err {d} was = go o is
+    where
+      go : (o : Result A E) → MatchResult o (λ x. r ≡ Ok x) (λ e. IsErrAnd r (post e)) → (e : E) × (o ≡ Err e) × post e d
+      go (Ok y) p = let same : Err d ≡ Ok y = sym was ∙ p in cc
+      go (Err e) p = let x = err_from_is_err_and r p in let same : x.0 ≡ d = cc in (e, refl, subst (λ (y : D). post e y) same x.2)
+
+-- what reading comes to at an attribute that is not read
+abbrev cut : Unread → Said AttrsRead
+cut (missing.Short field) = unread reason.Short field field
+cut (missing.Unknown field) = unread reason.Attribute field field
+
+-- what the code answers where it was read
+abbrev pub ran_to : ℕ → ℕ → Bool → run.AttrsRead
+ran_to place n high = record { at = place; attrs = n; high = high }
 
 -- ---- attributes read before others
 
@@ -99,25 +131,22 @@ module _ (vendors : List ℕ) (global : ℕ) (s : List ℕ) (e : Endian) (root :
       }
 
   -- one turn of the definition
-  turn-read : (f : ℕ) (high : Bool) (place : ℕ) {m v next : ℕ} → place < end → run_ends global s e high place ≡ false
-      → read_attribute vendors e s place ≡ Read m v next
+  turn-read : (f : ℕ) (high : Bool) (place : ℕ) {a : Attribute} → place < end → run_ends global s e high place ≡ false
+      → read_attribute vendors e s place ≡ Ok a
       → read_run (source vendors global s) e root end (suc f) high place
-      ≡ before (attr m v ∷ []) (read_run (source vendors global s) e root end f (high || (root && eqb m number.high_pc)) next)
+      ≡ before (attr a.number a.value ∷ []) (read_run (source vendors global s) e root end f (high || (root && eqb a.number number.high_pc)) a.next)
   unfolding read_run read_on before
   turn-read f high place h k p = rw (lt-ltb place end h, k, p, read_run)
 
-  turn-failed : (f : ℕ) (high : Bool) (place field : ℕ) → place < end → run_ends global s e high place ≡ false
-      → read_attribute vendors e s place ≡ Short field → read_run (source vendors global s) e root end (suc f) high place ≡ unread reason.Short field field
+  turn-failed : (f : ℕ) (high : Bool) (place : ℕ) (why : Unread) → place < end → run_ends global s e high place ≡ false
+      → read_attribute vendors e s place ≡ Err why → read_run (source vendors global s) e root end (suc f) high place ≡ cut why
   unfolding read_run read_on
-  turn-failed f high place field h k p = rw (lt-ltb place end h, k, p, read_run)
-
-  turn-unknown : (f : ℕ) (high : Bool) (place field : ℕ) → place < end → run_ends global s e high place ≡ false
-      → read_attribute vendors e s place ≡ Unknown field → read_run (source vendors global s) e root end (suc f) high place ≡ unread reason.Attribute field field
-  unfolding read_run read_on
-  turn-unknown f high place field h k p = rw (lt-ltb place end h, k, p, read_run)
+  turn-failed f high place (missing.Short field) h k p = rw (lt-ltb place end h, k, p, read_run)
+  turn-failed f high place (missing.Unknown field) h k p = rw (lt-ltb place end h, k, p, read_run)
 
   -- where nothing is read any more, whatever turns are left
-  turn-ends : (t : ℕ) (high : Bool) (place : ℕ) → run_ends global s e high place ≡ true → read_run (source vendors global s) e root end t high place ≡ gives (ran [] high place)
+  turn-ends : (t : ℕ) (high : Bool) (place : ℕ) → run_ends global s e high place ≡ true
+      → read_run (source vendors global s) e root end t high place ≡ gives (ran [] high place)
   unfolding read_run
   turn-ends zero high place k = refl
   turn-ends (suc f) high place k = go (ltb place end) refl
@@ -138,21 +167,21 @@ module _ (vendors : List ℕ) (global : ℕ) (s : List ℕ) (e : Endian) (root :
     one_left (suc f) h = (f, refl)
 
     -- an attribute was read and stored
-    pub again : {m v next : ℕ} {table₁ : List ℕ} → place < end → run_ends global s e high place ≡ false → read_attribute vendors e s place ≡ Read m v next
-        → table₁ ≡ put_attr table n (attr m v) → Loop at attrs table₀ table₁ next (n + 1) (high || (root && eqb m number.high_pc))
+    pub again : {a : Attribute} {table₁ : List ℕ} → place < end → run_ends global s e high place ≡ false → read_attribute vendors e s place ≡ Ok a
+        → table₁ ≡ put_attr table n (attr a.number a.value) → Loop at attrs table₀ table₁ a.next (n + 1) (high || (root && eqb a.number number.high_pc))
     unfolding attrs_words attr_words
-    again {m} {v} {next} h k p w =
+    again {a} h k p w =
         let left = one_left l.turns l.fuel in
         let f : ℕ = left.0 in
         let turns : l.turns ≡ suc f = left.1 in
-        let inside : ReadInside vendors s place m v next = read-inside vendors e s place p in
-        let value : v ≡ place + 2 = inside.value_place in
-        let ahead : v < next = inside.forward in
+        let inside : ReadInside vendors s place a.number a.value a.next = read-inside vendors e s place p in
+        let value : a.value ≡ place + 2 = inside.value_place in
+        let ahead : a.value < a.next = inside.forward in
         let fuel : length s < place + l.turns = l.fuel in
-        let count : length (l.xs ++ (attr m v ∷ [])) ≡ length l.xs + 1 = length-append l.xs (attr m v ∷ []) in
+        let count : length (l.xs ++ (attr a.number a.value ∷ [])) ≡ length l.xs + 1 = length-append l.xs (attr a.number a.value ∷ []) in
         record {
           turns = f;
-          xs = l.xs ++ (attr m v ∷ []);
+          xs = l.xs ++ (attr a.number a.value ∷ []);
           ready = l.ready;
           fuel = omega arith;
           here = inside.inside;
@@ -161,10 +190,10 @@ module _ (vendors : List ℕ) (global : ℕ) (s : List ℕ) (e : Endian) (root :
           count = omega (arith, l.count);
           words =
               w
-              ∙ ap₂ (λ (u : List ℕ) (i : ℕ). sets u (i * attr_width) (attrs_words (attr m v ∷ []))) l.words l.count
-              ∙ sym (attrs-append table₀ attrs l.xs (attr m v ∷ []));
+              ∙ ap₂ (λ (u : List ℕ) (i : ℕ). sets u (i * attr_width) (attrs_words (attr a.number a.value ∷ []))) l.words l.count
+              ∙ sym (attrs-append table₀ attrs l.xs (attr a.number a.value ∷ []));
           rest =
-              before-one l.xs (attr m v) (read_run (source vendors global s) e root end f (high || (root && eqb m number.high_pc)) next)
+              before-one l.xs (attr a.number a.value) (read_run (source vendors global s) e root end f (high || (root && eqb a.number number.high_pc)) a.next)
               ∙ ap (before l.xs) (sym (turn-read f high place h k p))
               ∙ ap (λ (t : ℕ). before l.xs (read_run (source vendors global s) e root end t high place)) (sym turns)
               ∙ l.rest;
@@ -174,58 +203,58 @@ module _ (vendors : List ℕ) (global : ℕ) (s : List ℕ) (e : Endian) (root :
     comes-to : {r : Said AttrsRead} → read_run (source vendors global s) e root end l.turns high place ≡ r → before l.xs r ≡ whole at
     comes-to p = ap (before l.xs) (sym p) ∙ l.rest
 
-    stopped : read_run (source vendors global s) e root end l.turns high place ≡ gives (ran [] high place) → RunRead s at attrs (whole at) (run.Ran place n high) table₀ table
+    stopped : read_run (source vendors global s) e root end l.turns high place ≡ gives (ran [] high place)
+        → RunRead s at attrs (whole at) (Ok (ran_to place n high)) table₀ table
     unfolding said_run placed ◌>>=◌
     stopped p =
         let all : gives (ran l.xs high place) ≡ whole at = sym (before_last l.xs high place) ∙ comes-to p in
         record {
-          answer = λ key. ap (λ (k : ℕ). gives (run.Ran place k high)) l.count ∙ ap (λ (w : Said AttrsRead). run_answer attrs (placed key w)) all;
+          answer = λ key. ap (λ (k : ℕ). gives (ran_to place k high)) l.count ∙ ap (λ (w : Said AttrsRead). run_answer attrs (placed key w)) all;
           stores =
               subst (λ (r : Said AttrsRead). RunStores s at attrs r table₀ table) all
               (record { words = l.words; few = omega (arith, l.count, l.few); forward = l.forward; here = l.here });
         }
 
     -- the entry's end is reached; an erased root's attributes end
-    pub done : end ≤ place → RunRead s at attrs (whole at) (run.Ran place n high) table₀ table
+    pub done : end ≤ place → RunRead s at attrs (whole at) (Ok (ran_to place n high)) table₀ table
     done h = stopped (turn-past l.turns high place h)
 
-    pub ends : run_ends global s e high place ≡ true → RunRead s at attrs (whole at) (run.Ran place n high) table₀ table
+    pub ends : run_ends global s e high place ≡ true → RunRead s at attrs (whole at) (Ok (ran_to place n high)) table₀ table
     ends k = stopped (turn-ends l.turns high place k)
 
-    refused : (why : Reason) (field : ℕ) → read_run (source vendors global s) e root end l.turns high place ≡ unread why field field
-        → RunRead s at attrs (whole at) (run.Unread why field) table₀ table
+    refused : (why : Unread) {z : Result run.AttrsRead Unread} → read_run (source vendors global s) e root end l.turns high place ≡ cut why → z ≡ Err why
+        → RunRead s at attrs (whole at) z table₀ table
     unfolding said_run placed before ◌>>=◌
-    refused why field p =
-        let all : unread why field field ≡ whole at = comes-to p in
+    refused (missing.Short field) p q =
+        let all : cut (missing.Short field) ≡ whole at = comes-to p in
         record {
-          answer = λ key. ap (λ (w : Said AttrsRead). run_answer attrs (placed key w)) all;
+          answer = λ key. ap (said_run key) q ∙ ap (λ (w : Said AttrsRead). run_answer attrs (placed key w)) all;
+          stores = subst (λ (r : Said AttrsRead). RunStores s at attrs r table₀ table) all tt;
+        }
+    refused (missing.Unknown field) p q =
+        let all : cut (missing.Unknown field) ≡ whole at = comes-to p in
+        record {
+          answer = λ key. ap (said_run key) q ∙ ap (λ (w : Said AttrsRead). run_answer attrs (placed key w)) all;
           stores = subst (λ (r : Said AttrsRead). RunStores s at attrs r table₀ table) all tt;
         }
 
-    pub short : {field : ℕ} → place < end → run_ends global s e high place ≡ false → read_attribute vendors e s place ≡ Short field
-        → RunRead s at attrs (whole at) (run.Unread reason.Short field) table₀ table
-    short {field} h k p =
+    pub failed : {why : Unread} → place < end → run_ends global s e high place ≡ false → read_attribute vendors e s place ≡ Err why
+        → {z : Result run.AttrsRead Unread} → z ≡ Err why → RunRead s at attrs (whole at) z table₀ table
+    failed {why} h k p q =
         let left = one_left l.turns l.fuel in
-        refused reason.Short field
-        (ap (λ (t : ℕ). read_run (source vendors global s) e root end t high place) left.1 ∙ turn-failed left.0 high place field h k p)
-
-    pub unknown : {field : ℕ} → place < end → run_ends global s e high place ≡ false → read_attribute vendors e s place ≡ Unknown field
-        → RunRead s at attrs (whole at) (run.Unread reason.Attribute field) table₀ table
-    unknown {field} h k p =
-        let left = one_left l.turns l.fuel in
-        refused reason.Attribute field
-        (ap (λ (t : ℕ). read_run (source vendors global s) e root end t high place) left.1 ∙ turn-unknown left.0 high place field h k p)
+        refused why
+        (ap (λ (t : ℕ). read_run (source vendors global s) e root end t high place) left.1 ∙ turn-failed left.0 high place why h k p) q
 
     -- the table keeps its length, and every turn goes forward
     pub kept : length table ≡ length table₀
     kept = ap length l.words ∙ length-sets table₀ (attrs * attr_width) (attrs_words l.xs)
 
-    pub value-small : {m v next : ℕ} → read_attribute vendors e s place ≡ Read m v next → v < 2 ^ 32
+    pub value-small : {a : Attribute} → read_attribute vendors e s place ≡ Ok a → a.value < 2 ^ 32
     value-small p =
         let inside = read-inside vendors e s place p in
         omega (arith, inside.forward, inside.inside, l.ready.small)
 
-    pub falls : {m v next : ℕ} → place < end → read_attribute vendors e s place ≡ Read m v next → end - next < end - place
+    pub falls : {a : Attribute} → place < end → read_attribute vendors e s place ≡ Ok a → end - a.next < end - place
     falls h p =
         let inside = read-inside vendors e s place p in
         omega (arith, inside.forward, inside.value_place)

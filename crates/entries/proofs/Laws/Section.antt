@@ -1,4 +1,6 @@
 -- What follows from `Section`, for each way that the public calls come to an answer.
+use Rattle.entries.specs.Inside.Handed.{not_counted, not_read}
+use Rattle.std.specs.Prelude.{Result, Ok, Err}
 use Prim.Native.Nat.{ℕ, ◌*◌, ◌≤◌, ◌<◌}
 use native.Mathlib.Nat.{zero-add}
 use native.Mathlib.Omega.{arith}
@@ -7,19 +9,17 @@ use mathlib.Core.Bool.{Bool, true, false}
 use mathlib.Core.List.{List, [], ◌∷◌}
 use lib.ListN.{length}
 use lib.Seq.{sets, length-sets}
-use lib.Dec.{leb, ltb}
-use borrow.Author.Tests.{le-leb, lt-leb, lt-ltb, le-ltb, ltb-true}
+use lib.Dec.{ltb}
+use borrow.Author.Tests.{lt-ltb, le-ltb, ltb-true}
 use Rattle.lent.specs.Outcome.{Outcomes, BothGiven, outcomes}
-use Rattle.format.specs.Limits.{section_limit, entry_limit, attribute_limit}
+use Rattle.format.specs.Limits.{section_limit}
 use Rattle.format.specs.Settings.{settings_hold}
-use Rattle.format.specs.Said.{Said, gives, refuses, refusal, unread, wanting, must, ◌>>=◌, ◌>>◌, in_rooms, fills_rooms}
+use Rattle.format.specs.Said.{Said, gives, refuses, wanting, must, ◌>>=◌, ◌>>◌, in_rooms, fills_rooms}
 use Rattle.format.proofs.Laws.Said.{case-said, must-gave, step-gave}
 use Rattle.format.specs.declared.settings.Settings.{Settings}
-use Rattle.format.specs.declared.refusal.Reason.{Reason}
 use Rattle.format.specs.declared.refusal.Reason.TheVariants as reason
-use Rattle.format.specs.declared.refusal.Refusal.{Refusal}
 use Rattle.lent.proofs.Laws.Stores.{sets_over}
-use Rattle.tables.specs.Row.{row_width, attr_width, rows_words, attrs_words, rows_from}
+use Rattle.tables.specs.Row.{row_width, rows_words, attrs_words, rows_from}
 use Rattle.tables.specs.Unit.{no_unit, with_units}
 use Rattle.tables.proofs.Laws.Row.{rows_long, rows_back}
 use Rattle.tables.proofs.Laws.Unit.{units-length}
@@ -27,34 +27,18 @@ use Rattle.tables.proofs.Laws.Holds.{fits_all}
 use Rattle.tables.specs.declared.row.Row.{Row}
 use Rattle.tables.specs.declared.row.Counts.{Counts}
 use Rattle.entries.specs.Walk.{Entries}
-use Rattle.entries.specs.Inside.Promise.{start, Stored, said_walk, walked, WalkStores, WalkRead}
+use Rattle.entries.specs.Inside.Promise.{start, Stored, said_read, walked, WalkStores, WalkRead}
+use Rattle.entries.proofs.Laws.Entry.{err-bind}
 use Rattle.entries.proofs.Laws.Walk.{told-walked, told-refused}
 use Rattle.tables.specs.Holds.{fitting}
-use Rattle.entries.specs.Section.{said_count, whole_walk, counts, counts_of, section_entries, read_debug_section, count_debug_section}
+use Rattle.entries.specs.Section.{said_count, said_section, whole_walk}
+use Rattle.entries.specs.Section.{counts, counts_of, section_entries, read_debug_section, count_debug_section}
+use Rattle.entries.specs.declared.section.CountError.{CountError}
+use Rattle.entries.specs.declared.section.CountError.TheVariants as count
+use Rattle.entries.specs.declared.section.SectionError.{SectionError}
 use Rattle.entries.specs.declared.entry.State.{State}
-use Rattle.entries.specs.declared.walk.Walk.TheVariants as walk
-use Rattle.entries.specs.declared.section.Count.{Count}
-use Rattle.entries.specs.declared.section.Count.TheVariants as count
-
--- ---- do the counts fit?
-
-module _ (c : Counts) (lent_rows lent_attrs : ℕ) where
-  pub too_many_rows : entry_limit < c.rows → false ≡ fitting c lent_rows lent_attrs
-  unfolding fitting
-  too_many_rows h = rw (lt-leb c.rows entry_limit h)
-
-  pub rows_short : c.rows ≤ entry_limit → lent_rows < c.rows * row_width → false ≡ fitting c lent_rows lent_attrs
-  unfolding fitting
-  rows_short h k = rw (le-leb c.rows entry_limit h, lt-leb (c.rows * row_width) lent_rows k)
-
-  pub too-many-attrs : c.rows ≤ entry_limit → c.rows * row_width ≤ lent_rows → attribute_limit < c.attrs → false ≡ fitting c lent_rows lent_attrs
-  unfolding fitting
-  too-many-attrs h k l = rw (le-leb c.rows entry_limit h, le-leb (c.rows * row_width) lent_rows k, lt-leb c.attrs attribute_limit l)
-
-  pub attrs-decide : c.rows ≤ entry_limit → c.rows * row_width ≤ lent_rows → c.attrs ≤ attribute_limit
-      → leb (c.attrs * attr_width) lent_attrs ≡ fitting c lent_rows lent_attrs
-  unfolding fitting
-  attrs-decide h k l = rw (le-leb c.rows entry_limit h, le-leb (c.rows * row_width) lent_rows k, le-leb c.attrs attribute_limit l)
+use Rattle.entries.specs.declared.entry.EntryError.{EntryError}
+use Rattle.entries.specs.declared.entry.EntryError.TheVariants as entry
 
 -- ---- units
 
@@ -69,6 +53,12 @@ units-over t rs h p =
 
 -- ---- what a section gave
 
+-- what was not read is counted as it was said
+not_counted_says : (why : EntryError) → said_count (Err (not_counted why)) ≡ said_read (Err why)
+unfolding said_count not_counted said_read
+not_counted_says (entry.Nested key) = refl
+not_counted_says (entry.Unread why key byte) = refl
+
 module _ (settings : Settings) (vendors sizes s : List ℕ) where
   -- it passed both tests
   pub section_gave : {all : Entries} → section_entries settings vendors sizes s ≡ gives all
@@ -81,13 +71,14 @@ module _ (settings : Settings) (vendors sizes s : List ℕ) where
 
   -- ---- counting
 
-  pub count-settings : {r : Count} → settings_hold settings vendors sizes ≡ false → r ≡ count.Refused (record { reason = reason.Settings; place = 0 })
+  pub count-settings : {r : Result Counts CountError} → settings_hold settings vendors sizes ≡ false
+      → r ≡ Err (count.Refused (record { reason = reason.Settings; place = 0 }))
       → said_count r ≡ count_debug_section settings vendors sizes s
   unfolding said_count count_debug_section section_entries must ◌>>◌ ◌>>=◌
   count-settings h p = rw h (ap said_count p)
 
   module _ (h : settings_hold settings vendors sizes ≡ true) where
-    pub count_long : {r : Count} → section_limit ≤ length s → r ≡ count.Refused (record { reason = reason.Long; place = 0 })
+    pub count_long : {r : Result Counts CountError} → section_limit ≤ length s → r ≡ Err (count.Refused (record { reason = reason.Long; place = 0 }))
         → said_count r ≡ count_debug_section settings vendors sizes s
     unfolding said_count count_debug_section section_entries must ◌>>◌ ◌>>=◌
     count_long k p = rw (h, le-ltb (length s) section_limit k) (ap said_count p)
@@ -97,8 +88,8 @@ module _ (settings : Settings) (vendors sizes s : List ℕ) where
     unfolding count_debug_section section_entries must ◌>>◌
     count-as k is = rw (h, lt-ltb (length s) section_limit k) (ap (λ (v : Said Entries). v >>= (λ all. gives (counts_of all))) (sym is))
 
-    module _ (k : length s < section_limit) {r : walk.the_data} (w : said_walk r ≡ walked start (whole_walk settings vendors s)) where
-      pub count-read : {to : State} → r ≡ walk.Walked to → said_count (count.Counted (counts to.rows to.attrs)) ≡ count_debug_section settings vendors sizes s
+    module _ (k : length s < section_limit) {r : Result State EntryError} (w : said_read r ≡ walked start (whole_walk settings vendors s)) where
+      pub count-read : {to : State} → r ≡ Ok to → said_count (Ok (counts to.rows to.attrs)) ≡ count_debug_section settings vendors sizes s
       unfolding said_count ◌>>=◌
       count-read {to} t =
           let told = told-walked start (whole_walk settings vendors s) w t in
@@ -106,15 +97,10 @@ module _ (settings : Settings) (vendors sizes s : List ℕ) where
           let m : to.attrs ≡ length told.0.attrs = ap (λ (x : State). x.attrs) told.2 ∙ zero-add (length told.0.attrs) in
           ap₂ (λ (i j : ℕ). gives (counts i j)) n m ∙ count-as k told.1
 
-      pub count-nested : {c : Count} {key : ℕ} → r ≡ walk.Nested key → c ≡ count.Refused (record { reason = reason.Nested; place = key })
-          → said_count c ≡ count_debug_section settings vendors sizes s
-      unfolding said_count said_walk ◌>>=◌
-      count-nested t p = ap said_count p ∙ count-as k (told-refused start (whole_walk settings vendors s) w t refl)
-
-      pub count-unread : {why : Reason} {key byte : ℕ} → r ≡ walk.Unread why key byte
-          → said_count (count.Unread (record { reason = why; place = key }) byte) ≡ count_debug_section settings vendors sizes s
-      unfolding said_count said_walk ◌>>=◌
-      count-unread t = count-as k (told-refused start (whole_walk settings vendors s) w t refl)
+      pub count-stopped : {why : EntryError} → r ≡ Err why → {z : Result Counts CountError} → z ≡ Err (not_counted why)
+          → said_count z ≡ count_debug_section settings vendors sizes s
+      count-stopped {why} t p =
+          ap said_count p ∙ not_counted_says why ∙ sym (err-bind why _) ∙ count-as k (told-refused start (whole_walk settings vendors s) w t)
 
   -- ---- what counting tells
 
@@ -123,7 +109,7 @@ module _ (settings : Settings) (vendors sizes s : List ℕ) where
     pub is : section_entries settings vendors sizes s ≡ gives all
     pub counts_are : counts_of all ≡ c
 
-  pub countable : {r : Count} {c : Counts} → said_count r ≡ count_debug_section settings vendors sizes s → r ≡ count.Counted c → Countable c
+  pub countable : {r : Result Counts CountError} {c : Counts} → said_count r ≡ count_debug_section settings vendors sizes s → r ≡ Ok c → Countable c
   unfolding said_count count_debug_section
   countable p t =
       let told = step-gave (section_entries settings vendors sizes s) _ (sym (case-said said_count p t)) in
@@ -136,7 +122,8 @@ module _ (settings : Settings) (vendors sizes s : List ℕ) where
 
   module _ (rows attrs : List ℕ) where
     -- what was read, by whether it fits
-    read-filled : {all : Entries} {fits : Bool} → section_entries settings vendors sizes s ≡ gives all → fitting (counts_of all) (length rows) (length attrs) ≡ fits
+    read-filled : {all : Entries} {fits : Bool} → section_entries settings vendors sizes s ≡ gives all
+        → fitting (counts_of all) (length rows) (length attrs) ≡ fits
         → read_debug_section settings vendors sizes s rows attrs
         ≡ fills_rooms fits (counts_of all) (length all.rows ∷ length all.attrs ∷ []) (rows_words (with_units all.rows)) (attrs_words all.attrs) rows attrs
     unfolding read_debug_section in_rooms
@@ -158,12 +145,12 @@ module _ (settings : Settings) (vendors sizes s : List ℕ) where
       fits-as f = ap (λ (x : Counts). fitting x (length rows) (length attrs)) told.counts_are ∙ f
 
       -- what was counted is what reading stored
-      told-stored : {r : walk.the_data} {rows₁ attrs₁ : List ℕ} → WalkRead start (whole_walk settings vendors s) r rows rows₁ attrs attrs₁
+      told-stored : {r : Result State EntryError} {rows₁ attrs₁ : List ℕ} → WalkRead start (whole_walk settings vendors s) r rows rows₁ attrs attrs₁
           → Stored start told.all.rows told.all.attrs told.all.stopped rows rows₁ attrs attrs₁
       told-stored {rows₁ = rows₁} {attrs₁} w =
           subst (λ (v : Said Entries). WalkStores start v rows rows₁ attrs attrs₁) (section_gave told.is).2 w.stores
 
-      pub read_done : {r : walk.the_data} {rows₁ rows₂ attrs₁ : List ℕ} → fitting c (length rows) (length attrs) ≡ true
+      pub read_done : {r : Result State EntryError} {rows₁ rows₂ attrs₁ : List ℕ} → fitting c (length rows) (length attrs) ≡ true
           → WalkRead start (whole_walk settings vendors s) r rows rows₁ attrs attrs₁ → rows₂ ≡ sets rows₁ 0 (rows_words (with_units (rows_from rows₁ 0 c.rows)))
           → BothGiven (read_debug_section settings vendors sizes s rows attrs) (gives c) rows₂ attrs₁
       read_done {r} {rows₁} {rows₂} {attrs₁} f w u =
@@ -177,7 +164,7 @@ module _ (settings : Settings) (vendors sizes s : List ℕ) where
           })
 
       -- the rows that were read are all there to be told their units
-      pub units-fit : {r : walk.the_data} {rows₁ attrs₁ : List ℕ} → fitting c (length rows) (length attrs) ≡ true
+      pub units-fit : {r : Result State EntryError} {rows₁ attrs₁ : List ℕ} → fitting c (length rows) (length attrs) ≡ true
           → WalkRead start (whole_walk settings vendors s) r rows rows₁ attrs attrs₁ → c.rows * row_width ≤ length rows₁
       units-fit {rows₁ = rows₁} {attrs₁} f w =
           let all : Stored start told.all.rows told.all.attrs told.all.stopped rows rows₁ attrs attrs₁ = told-stored w in
@@ -199,18 +186,21 @@ module _ (settings : Settings) (vendors sizes s : List ℕ) where
     refused_as (gives all) next p = let z : ◌≡◌ {A = ℕ} 0 1 = cc in absurd (omega arith)
     refused_as (refuses number place told) next p = ap (λ (x : Said Counts). outcomes x rows attrs) (sym p)
 
-    refused-too : {r x : Count} {number place : ℕ} {told : List ℕ} → said_count r ≡ count_debug_section settings vendors sizes s → r ≡ x
+    refused-too : {r x : Result Counts CountError} {number place : ℕ} {told : List ℕ} → said_count r ≡ count_debug_section settings vendors sizes s → r ≡ x
         → said_count x ≡ refuses number place told → BothGiven (read_debug_section settings vendors sizes s rows attrs) (refuses number place told) rows attrs
     unfolding count_debug_section read_debug_section
     refused-too p t k =
         outcome (refused_as (section_entries settings vendors sizes s) _ (sym k ∙ case-said said_count p t)) (record { answer_is = refl; first_is = refl; second_is = refl })
 
-    pub read-refused : {r : Count} {why : Refusal} → said_count r ≡ count_debug_section settings vendors sizes s → r ≡ count.Refused why
-        → BothGiven (read_debug_section settings vendors sizes s rows attrs) (refusal why) rows attrs
-    unfolding said_count
-    read-refused p t = refused-too p t refl
+    stopped_as : {r : Result Counts CountError} (why : CountError) → said_count r ≡ count_debug_section settings vendors sizes s → r ≡ Err why
+        → BothGiven (read_debug_section settings vendors sizes s rows attrs) (said_section (Err (not_read why))) rows attrs
+    unfolding said_count said_section not_read
+    stopped_as (count.Refused why) p t = refused-too p t refl
+    stopped_as (count.Unread why byte) p t = refused-too p t refl
 
-    pub read-unread : {r : Count} {why : Refusal} {byte : ℕ} → said_count r ≡ count_debug_section settings vendors sizes s → r ≡ count.Unread why byte
-        → BothGiven (read_debug_section settings vendors sizes s rows attrs) (unread why.reason why.place byte) rows attrs
-    unfolding said_count
-    read-unread p t = refused-too p t refl
+    pub read-stopped : {r : Result Counts CountError} {why : CountError} → said_count r ≡ count_debug_section settings vendors sizes s → r ≡ Err why
+        → {z : Result Counts SectionError} → z ≡ Err (not_read why)
+        → BothGiven (read_debug_section settings vendors sizes s rows attrs) (said_section z) rows attrs
+    read-stopped {why = why} p t q =
+        subst (λ (x : Result Counts SectionError). BothGiven (read_debug_section settings vendors sizes s rows attrs) (said_section x) rows attrs)
+        (sym q) (stopped_as why p t)

@@ -1,4 +1,5 @@
 -- The standard's tables, forms and extents against those that the reader goes by.
+use Rattle.std.specs.Prelude.{Result, Ok, Err}
 use Prim.Native.Nat.{ℕ, zero, suc, ◌+◌, ◌-◌, ◌%◌, ◌≤◌, ◌<◌}
 use native.Mathlib.Nat.{le_of_suc-le-suc, not-suc-le-zero}
 use native.Mathlib.Decide.{dec_le}
@@ -30,8 +31,8 @@ use Rattle.format.proofs.Laws.Computed.{below, below_at}
 use Rattle.format.proofs.Laws.Lookup.{member-index}
 use Rattle.attributes.specs.Text.{zero_from}
 use Rattle.attributes.specs.End.{fixed_end, block_end, text_end, value_end}
-use Rattle.attributes.specs.declared.value.End.{End}
-use Rattle.attributes.specs.declared.value.End.TheVariants.{At, Short}
+use Rattle.attributes.specs.declared.value.Unread.{Unread}
+use Rattle.attributes.specs.declared.value.Unread.TheVariants as missing
 use Rattle.entries.specs.Standard.{without, taken}
 use Rattle.entries.proofs.Laws.Index.{index_at, index-before}
 use Rattle.entries.proofs.Laws.KnownRun.{by-test}
@@ -121,7 +122,8 @@ kind_of DATA8 = Data8
 kind_of STRING = String
 
 -- its number there, and the name of that number
-form-named : (form : Form) → (reader.form_number (kind_of form) ≡ form_number form) × (lookup reader.forms Undefined (form_number form) ≡ kind_of form) × (1 ≤ form_number form)
+form-named : (form : Form)
+    → (reader.form_number (kind_of form) ≡ form_number form) × (lookup reader.forms Undefined (form_number form) ≡ kind_of form) × (1 ≤ form_number form)
 unfolding form_number reader.form_number lookup reader.forms
 form-named ADDR = (refl, refl, omega arith)
 form-named REF = (refl, refl, omega arith)
@@ -151,11 +153,11 @@ form-only n form p =
 -- ---- extents
 
 module _ (s : List ℕ) (at : ℕ) where
-  fixed_told : (w : ℕ) → at + w ≤ length s → fixed_end s at w ≡ At (at + w)
+  fixed_told : (w : ℕ) → at + w ≤ length s → fixed_end s at w ≡ Ok (at + w)
   unfolding fixed_end
   fixed_told w h = rw (inside-there s at w h)
 
-  block-told : (e : Endian) (w : ℕ) → at + w + value_of e w s at ≤ length s → block_end e w s at ≡ At (at + w + value_of e w s at)
+  block-told : (e : Endian) (w : ℕ) → at + w + value_of e w s at ≤ length s → block_end e w s at ≡ Ok (at + w + value_of e w s at)
   unfolding block_end fixed_end read_at
   block-told e w h = rw (inside-there s at w (omega arith), inside-there s (at + w) (value_of e w s at) h)
 
@@ -175,13 +177,13 @@ module _ (s : List ℕ) (at : ℕ) where
             (index-before 0 (drop at s) (z - at) (omega arith) (get_or-drop at s (z - at) 0 ∙ ap (λ (j : ℕ). get_or s j 0) place ∙ here))
       ]
 
-  text-told : (z : ℕ) → z < length s → zero_from s at ≡ z → text_end s at ≡ At (suc z)
+  text-told : (z : ℕ) → z < length s → zero_from s at ≡ z → text_end s at ≡ Ok (suc z)
   unfolding text_end
   text-told z h p = rw (p, lt-ltb z (length s) h)
 
 -- a value that ends inside is told to end there
 pub ends-told : {e : Endian} {s : List ℕ} {form : Form} {at next : ℕ} → ValueEnds e s form at next → next ≤ length s
-    → value_end (kind_of form) e s at ≡ At next
+    → value_end (kind_of form) e s at ≡ Ok next
 unfolding value_end
 ends-told {s = s} (exact.address at) h = fixed_told s at 4 h
 ends-told {s = s} (exact.reference at) h = fixed_told s at 4 h
@@ -193,9 +195,9 @@ ends-told {s = s} (exact.data8 at) h = fixed_told s at 8 h
 ends-told {s = s} (exact.string at z from before here) h = text-told s at z h (zero-found s at z from h before here)
 
 -- an end that was told, and one that a value has
-abbrev Told : List ℕ → (ℕ → Type 0) → End → Type 0
-Told s Ends (At next) = Ends next × (next ≤ length s)
-Told s Ends (Short field) = Unit
+abbrev Told : List ℕ → (ℕ → Type 0) → Result ℕ Unread → Type 0
+Told s Ends (Ok next) = Ends next × (next ≤ length s)
+Told s Ends (Err why) = Unit
 
 module _ (s : List ℕ) (Ends : ℕ → Type 0) where
   fixed-ends : (at w : ℕ) → Ends (at + w) → Told s Ends (fixed_end s at w)
@@ -205,7 +207,7 @@ module _ (s : List ℕ) (Ends : ℕ → Type 0) where
   block-ends : (at : ℕ) (e : Endian) (w : ℕ) → Ends (at + w + value_of e w s at) → Told s Ends (block_end e w s at)
   unfolding block_end
   block-ends at e w h =
-      read_all (λ n. fixed_end s (at + w) n) (Short at) e w s at (Told s Ends) (λ t. fixed-ends (at + w) (value_of e w s at) h) (λ t. tt)
+      read_all (λ n. fixed_end s (at + w) n) (Err (missing.Short at)) e w s at (Told s Ends) (λ t. fixed-ends (at + w) (value_of e w s at) h) (λ t. tt)
 
   text-ends : (at : ℕ) → ((z : ℕ) → at ≤ z → ((i : ℕ) → at ≤ i → i < z → get_or s i 0 ≡ 0 → ⊥) → get_or s z 0 ≡ 0 → Ends (suc z)) → Told s Ends (text_end s at)
   unfolding text_end zero_from
@@ -237,6 +239,6 @@ told-ends DATA8 e s at = fixed-ends s _ at 8 (exact.data8 at)
 told-ends STRING e s at = text-ends s _ at (exact.string at)
 
 -- it is told to end only there
-pub ends-only : {e : Endian} {s : List ℕ} {form : Form} {at next : ℕ} → value_end (kind_of form) e s at ≡ At next
+pub ends-only : {e : Endian} {s : List ℕ} {form : Form} {at next : ℕ} → value_end (kind_of form) e s at ≡ Ok next
     → ValueEnds e s form at next × (next ≤ length s)
 ends-only {e} {s} {form} {at} p = subst (Told s (ValueEnds e s form at)) p (told-ends form e s at)

@@ -1,5 +1,6 @@
 -- An entry that the standard wrote is read: its row, its attributes, and reading stops after its bytes. What an entry is read as, by the size and the
 -- tag that stand there.
+use Rattle.std.specs.Prelude.{Ok}
 use Prim.Native.Nat.{ℕ, suc, ◌+◌, ◌^◌, ◌≤◌, ◌<◌}
 use native.Mathlib.Decide.{dec_le}
 use native.Mathlib.Omega.{arith}
@@ -25,11 +26,11 @@ use Rattle.format.specs.declared.refusal.Reason.TheVariants as reason
 use Rattle.format.proofs.Laws.Computed.{all_below, beyond}
 use Rattle.tables.specs.Unit.{no_unit}
 use Rattle.entries.specs.Source.{Source, source, mode}
-use Rattle.entries.specs.Head.{null_end, tag_head, size_head, head_at}
+use Rattle.entries.specs.Head.{headless, null_end, tag_head, size_head, head_at}
 use Rattle.entries.specs.Run.{read_run}
 use Rattle.entries.specs.Entry.{Entry, next, flag_of, little_flag, flags_of, attributes, entry_from, read_entry}
 use Rattle.entries.specs.Standard.{taken, data_flag, die_attrs, die_rows}
-use Rattle.entries.specs.declared.head.Head.TheVariants.{Null, Skipped, Ordinary, Unread}
+use Rattle.entries.specs.declared.head.Head.TheVariants.{Null, Skipped, Ordinary}
 use Rattle.entries.proofs.Laws.Tagged.{Tagged, tagged, tagged-length, tag_read}
 use Rattle.entries.proofs.Laws.StandardAgrees.{tag_known}
 use Rattle.entries.proofs.Laws.StandardRun.{attributes-long, run-read}
@@ -42,24 +43,24 @@ unfolding null_end
 null-end at size h = cond-all (λ (x : ℕ). x ≡ at + size) (leb size 4) (λ t. let z : size ≤ 4 = leb-true size 4 t in omega arith) (λ t. refl)
 
 module _ (e : Endian) (s : List ℕ) (at : ℕ) {size : ℕ} (says : value_of e 4 s at ≡ size) (fits : at + size ≤ length s) where
-  pub null-head : 4 ≤ size → size < 8 → head_at false s e at ≡ Null (at + size)
+  pub null-head : 4 ≤ size → size < 8 → head_at false s e at ≡ Ok (Null (at + size))
   unfolding head_at size_head read_at
-  null-head some few = rw (inside-there s at 4 (omega arith), says, lt-ltb size 8 few) (ap Null (null-end at size some))
+  null-head some few = rw (inside-there s at 4 (omega arith), says, lt-ltb size 8 few) (ap (λ (n : ℕ). Ok (Null n)) (null-end at size some))
 
   module _ {kind : ℕ} (tells : value_of e 2 s (at + 4) ≡ kind) (long : 8 ≤ size) where
     tagged-head : head_at false s e at ≡ tag_head false (at + size) (at + 4) kind
     unfolding head_at size_head read_at
     tagged-head = rw (inside-there s at 4 (omega arith), says, le-ltb size 8 long, inside-there s (at + 4) 2 (omega arith), tells)
 
-    pub padding-head : kind ≡ padding_tag → head_at false s e at ≡ Skipped (at + size)
+    pub padding-head : kind ≡ padding_tag → head_at false s e at ≡ Ok (Skipped (at + size))
     unfolding tag_head is_on tag.tags
     padding-head p = tagged-head ∙ ap (tag_head false (at + size) (at + 4)) p
 
-    pub ordinary-head : is_on kind tag.tags ≡ true → (kind ≡ padding_tag → ⊥) → head_at false s e at ≡ Ordinary kind (at + size)
+    pub ordinary-head : is_on kind tag.tags ≡ true → (kind ≡ padding_tag → ⊥) → head_at false s e at ≡ Ok (Ordinary kind (at + size))
     unfolding tag_head
     ordinary-head k p = tagged-head ∙ rw (k, ne_eqb kind tag.padding p)
 
-    pub unknown-head : is_on kind tag.tags ≡ false → head_at false s e at ≡ Unread reason.Tag (at + 4)
+    pub unknown-head : is_on kind tag.tags ≡ false → head_at false s e at ≡ headless reason.Tag (at + 4)
     unfolding tag_head
     unknown-head k = tagged-head ∙ rw k
 
@@ -74,22 +75,22 @@ module _ (r : Source) (levels : ℕ) (e : Endian) (at a : ℕ) where
   abbrev Reads : Said Entry → Type 0
   Reads = λ answer. read_entry r false levels (mode false e) at a ≡ answer
 
-  pub null_read : {place : ℕ} → head_at false r.section e at ≡ Null place
+  pub null_read : {place : ℕ} → head_at false r.section e at ≡ Ok (Null place)
       → Reads (gives (next (record { key = at; kind = padding_tag; flags = data_flag e; first = a; count = 0; unit = no_unit } ∷ []) [] place))
   unfolding read_entry entry_from
   null_read h = rw (h, data-flag e)
 
-  pub padding-read : {place : ℕ} → head_at false r.section e at ≡ Skipped place → Reads (gives (next [] [] place))
+  pub padding-read : {place : ℕ} → head_at false r.section e at ≡ Ok (Skipped place) → Reads (gives (next [] [] place))
   unfolding read_entry entry_from
   padding-read h = rw h
 
-  pub ordinary-read : {kind end : ℕ} → head_at false r.section e at ≡ Ordinary kind end
+  pub ordinary-read : {kind end : ℕ} → head_at false r.section e at ≡ Ok (Ordinary kind end)
       → Reads (placed at (read_run r e false end (suc (length r.section)) false (at + 6)) >>= λ run.
       gives (next (record { key = at; kind = kind; flags = data_flag e; first = a; count = length run.attrs; unit = no_unit } ∷ []) run.attrs run.stopped))
   unfolding read_entry entry_from attributes
   ordinary-read h = rw (h, data-flag e)
 
-  pub refused-read : head_at false r.section e at ≡ Unread reason.Tag (at + 4) → Reads (unread reason.Tag at (at + 4))
+  pub refused-read : head_at false r.section e at ≡ headless reason.Tag (at + 4) → Reads (unread reason.Tag at (at + 4))
   unfolding read_entry entry_from
   refused-read h = rw h
 

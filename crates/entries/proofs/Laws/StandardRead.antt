@@ -95,7 +95,8 @@ module _ (vendors : List ℕ) (global : ℕ) (e : Endian) where
 
 -- ---- values
 
-both-decoded : {e : Endian} {s : List ℕ} {xs ys : List Attr} {vs ws : List Value} → AllDecoded e s xs vs → AllDecoded e s ys ws → AllDecoded e s (xs ++ ys) (vs ++ ws)
+both-decoded : {e : Endian} {s : List ℕ} {xs ys : List Attr} {vs ws : List Value} → AllDecoded e s xs vs → AllDecoded e s ys ws
+    → AllDecoded e s (xs ++ ys) (vs ++ ws)
 both-decoded none others = others
 both-decoded (more x xs form v vs p d rest) others = more x _ form v _ p d (both-decoded rest others)
 

@@ -15,9 +15,8 @@ use Rattle.standard.specs.Exact.{Attributes}
 use Rattle.standard.specs.Exact as exact
 use Rattle.format.specs.Said.{gives, ◌>>=◌}
 use Rattle.attributes.specs.Read.{read_attribute}
-use Rattle.attributes.specs.declared.read.Attribute.TheVariants.{Read}
 use Rattle.entries.specs.Source.{Source, source}
-use Rattle.entries.specs.Run.{ran, attr, read_on, run_ends, read_run}
+use Rattle.entries.specs.Run.{ran, attr, found, read_on, run_ends, read_run}
 use Rattle.entries.specs.Standard.{taken, written_from, AllDecoded}
 use Rattle.entries.specs.Standard as table
 use Rattle.entries.proofs.Laws.StandardValue.{attribute-length, number-stands, body_stands, attribute-ends, attribute-read, value-decoded}
@@ -26,7 +25,7 @@ use Rattle.entries.proofs.Laws.StandardValue.{attribute-length, number-stands, b
 
 module _ (r : Source) (e : Endian) (end : ℕ) {at : ℕ} where
   -- one attribute, and those behind it
-  pub run_step : (f : ℕ) {n value next : ℕ} → at < end → read_attribute r.vendors e r.section at ≡ Read n value next
+  pub run_step : (f : ℕ) {n value next : ℕ} → at < end → read_attribute r.vendors e r.section at ≡ found n value next
       → read_run r e false end (suc f) false at
       ≡ (read_run r e false end f false next >>= λ later. gives (ran (attr n value ∷ later.attrs) later.high later.stopped))
   unfolding read_run read_on run_ends

@@ -1,4 +1,5 @@
 -- A value that the standard wrote stands where it was written: it ends after its bytes, and the decoder of its form answers it. An attribute so is read.
+use Rattle.std.specs.Prelude.{Some, None, Err}
 use Prim.Native.Nat.{ℕ, suc, ◌+◌, ◌-◌, ◌^◌, ◌≤◌, ◌<◌}
 use native.Mathlib.Nat.{add-sub_cancel_left}
 use native.Mathlib.Omega.{arith}
@@ -9,9 +10,6 @@ use lib.Seq.{get_or-take, get_or-drop, ext_get_or}
 use Rattle.numbers.specs.Value.{value_of}
 use Rattle.numbers.specs.Written.{bytes_of}
 use Rattle.numbers.specs.declared.Endian.{Endian}
-use Rattle.numbers.specs.declared.unsigned.Read16.TheVariants as read16
-use Rattle.numbers.specs.declared.unsigned.Read32.TheVariants as read32
-use Rattle.numbers.specs.declared.unsigned.Read64.TheVariants as read64
 use Rattle.numbers.proofs.Laws.Stands.{Stands, front-stands, back-stands, stands-byte, part_length}
 use Rattle.numbers.proofs.Laws.Written.{bytes-length, number_read, inside-there, number-answers}
 use Rattle.standard.specs.Numbers.{Form}
@@ -21,8 +19,9 @@ use Rattle.standard.specs.Exact as exact
 use Rattle.attributes.specs.Text.{zero_from}
 use Rattle.attributes.specs.Parts.{part_at, block_at, text_at}
 use Rattle.attributes.specs.Read.{ending, numbered, read_attribute}
-use Rattle.attributes.specs.declared.read.Attribute.TheVariants as attribute
+use Rattle.attributes.specs.declared.value.Unread.TheVariants as missing
 use Rattle.attributes.proofs.Laws.Part.{text-there}
+use Rattle.entries.specs.Run.{found}
 use Rattle.entries.specs.Standard.{taken, Decoded}
 use Rattle.entries.specs.Standard as table
 use Rattle.entries.proofs.Laws.StandardAgrees.{listed-on, taken-agrees, form-agrees, zero-found, ends-told}
@@ -109,13 +108,13 @@ module _ {e : Endian} (s : List ℕ) (at : ℕ) where
 
   -- the decoder of its form answers it
   pub value-decoded : {form : Form} {v : Value} {body : List ℕ} → Written e form v body → Stands s at body → Decoded e s at form v
-  value-decoded (address n h) q = table.address n (number-answers read32.Value read32.Short e 4 s at n h q)
-  value-decoded (reference n h) q = table.reference n (number-answers read32.Value read32.Short e 4 s at n h q)
+  value-decoded (address n h) q = table.address n (number-answers Some None e 4 s at n h q)
+  value-decoded (reference n h) q = table.reference n (number-answers Some None e 4 s at n h q)
   value-decoded (block2 xs h b) q = table.block2 xs (block-decoded e 2 s at xs h q)
   value-decoded (block4 xs h b) q = table.block4 xs (block-decoded e 4 s at xs h q)
-  value-decoded (data2 n h) q = table.data2 n (number-answers read16.Value read16.Short e 2 s at n h q)
-  value-decoded (data4 n h) q = table.data4 n (number-answers read32.Value read32.Short e 4 s at n h q)
-  value-decoded (data8 n h) q = table.data8 n (number-answers read64.Value read64.Short e 8 s at n h q)
+  value-decoded (data2 n h) q = table.data2 n (number-answers Some None e 2 s at n h q)
+  value-decoded (data4 n h) q = table.data4 n (number-answers Some None e 4 s at n h q)
+  value-decoded (data8 n h) q = table.data8 n (number-answers Some None e 8 s at n h q)
   value-decoded (string xs t) q = table.string xs (text-decoded s at xs t q)
 
 -- ---- an attribute: its number, and its value behind it
@@ -144,9 +143,10 @@ module _ {numbers : List ℕ} {e : Endian} (x : Attribute numbers e) where
         subst (ValueEnds e s x.form (at + 2)) place (value-ends s (at + 2) x.written body_stands)
 
 -- one with a number that is taken is read
-pub attribute-read : (vendors : List ℕ) {e : Endian} (x : Attribute (taken vendors) e) {s : List ℕ} {at : ℕ} → Stands s at (written_attribute (taken vendors) e x)
-    → read_attribute vendors e s at ≡ attribute.Read x.kind (at + 2) (at + length (written_attribute (taken vendors) e x))
+pub attribute-read : (vendors : List ℕ) {e : Endian} (x : Attribute (taken vendors) e) {s : List ℕ} {at : ℕ}
+    → Stands s at (written_attribute (taken vendors) e x)
+    → read_attribute vendors e s at ≡ found x.kind (at + 2) (at + length (written_attribute (taken vendors) e x))
 unfolding read_attribute numbered ending
 attribute-read vendors {e} x {s} {at} q =
-    number-answers (numbered vendors e s at) (attribute.Short at) e 2 s at x.kind x.small (number-stands x q)
+    number-answers (numbered vendors e s at) (Err (missing.Short at)) e 2 s at x.kind x.small (number-stands x q)
     ∙ rw (sym (taken-agrees vendors x.kind) ∙ listed-on x.in_use, form-agrees x.kind x.form x.has_form, ends-told (attribute-ends x q) q.fits)

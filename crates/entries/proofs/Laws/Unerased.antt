@@ -1,4 +1,5 @@
 -- With erased entries left out, no row that was read is erased.
+use Rattle.std.specs.Prelude.{Result, Ok, Err}
 use Rattle.format.proofs.Laws.Said.{rooms-gave}
 use Prim.Native.Nat.{ℕ, zero, suc, ◌+◌, ◌<◌}
 use native.Mathlib.Omega.{arith}
@@ -27,7 +28,7 @@ use Rattle.tables.proofs.Laws.Unit.{units-length}
 use Rattle.tables.specs.declared.row.Row.{Row}
 use Rattle.tables.specs.declared.row.Attr.{Attr}
 use Rattle.tables.specs.declared.row.Counts.{Counts}
-use Rattle.entries.specs.Head.{tag_head, size_head, head_at}
+use Rattle.entries.specs.Head.{headless, tag_head, size_head, head_at}
 use Rattle.entries.specs.Run.{AttrsRead}
 use Rattle.entries.specs.Entry.{Entry, next, inside, flag_of, flags_of, little_flag, attributes, entry_from, read_entry}
 use Rattle.entries.specs.Inside.Promise.{ordinary}
@@ -38,7 +39,8 @@ use Rattle.entries.proofs.Laws.Section.{section_gave}
 use Rattle.entries.proofs.Laws.Filled.{answer-read}
 use Rattle.entries.proofs.Laws.KnownRun.{by-test}
 use Rattle.entries.specs.declared.head.Head.{Head}
-use Rattle.entries.specs.declared.head.Head.TheVariants.{Null, Skipped, Root, Ordinary, Unread}
+use Rattle.entries.specs.declared.head.Head.TheVariants.{Null, Skipped, Root, Ordinary}
+use Rattle.entries.specs.declared.head.HeadError.{HeadError}
 
 -- none of the rows is erased
 abbrev Plain : List Row → Type 0
@@ -56,20 +58,20 @@ plain-flags Little = refl
 
 -- ---- an entry: with the flag off there are no roots
 
-abbrev NoRoot : Head → Type 0
-NoRoot (Root end) = ⊥
-NoRoot (Null place) = Unit
-NoRoot (Skipped place) = Unit
-NoRoot (Ordinary kind end) = Unit
-NoRoot (Unread why byte) = Unit
+abbrev NoRoot : Result Head HeadError → Type 0
+NoRoot (Ok (Root end)) = ⊥
+NoRoot (Ok (Null place)) = Unit
+NoRoot (Ok (Skipped place)) = Unit
+NoRoot (Ok (Ordinary kind end)) = Unit
+NoRoot (Err field) = Unit
 
 no-root : (s : List ℕ) (e : Endian) (at : ℕ) → NoRoot (head_at false s e at)
 unfolding head_at size_head tag_head
 no-root s e at =
     let size : ℕ = value_of e 4 s at in
-    read_all (size_head false s e at) (Unread reason.Short at) e 4 s at NoRoot
+    read_all (size_head false s e at) (headless reason.Short at) e 4 s at NoRoot
     (λ t. cond-all NoRoot (ltb size 8) (λ few. tt)
-    (λ some. read_all (tag_head false (at + size) (at + 4)) (Unread reason.Short (at + 4)) e 2 s (at + 4) NoRoot
+    (λ some. read_all (tag_head false (at + size) (at + 4)) (headless reason.Short (at + 4)) e 2 s (at + 4) NoRoot
     (λ u. cond-all NoRoot (is_on (value_of e 2 s (at + 4)) tags)
     (λ k. cond-all NoRoot (eqb (value_of e 2 s (at + 4)) tag.padding) (λ p. tt) (λ p. tt))
     (λ k. tt))
@@ -86,16 +88,17 @@ unfolding ◌>>=◌
 ordinary-plain e at kind a (gives run) = (plain-flags e, tt)
 ordinary-plain e at kind a (refuses number place counts) = tt
 
-entry-from-plain : (vendors : List ℕ) (global : ℕ) (s : List ℕ) (levels : ℕ) (e : Endian) (at a : ℕ) (h : Head) → NoRoot h
+entry-from-plain : (vendors : List ℕ) (global : ℕ) (s : List ℕ) (levels : ℕ) (e : Endian) (at a : ℕ) (h : Result Head HeadError) → NoRoot h
     → EntryPlain (entry_from (source vendors global s) levels (mode false e) at a h)
 unfolding entry_from
-entry-from-plain vendors global s levels e at a (Null place) p = (plain-flags e, tt)
-entry-from-plain vendors global s levels e at a (Skipped place) p = tt
-entry-from-plain vendors global s levels e at a (Root end) p = absurd p
-entry-from-plain vendors global s levels e at a (Ordinary kind end) p = ordinary-plain e at kind a (attributes (source vendors global s) e false end at)
-entry-from-plain vendors global s levels e at a (Unread why byte) p = tt
+entry-from-plain vendors global s levels e at a (Ok (Null place)) p = (plain-flags e, tt)
+entry-from-plain vendors global s levels e at a (Ok (Skipped place)) p = tt
+entry-from-plain vendors global s levels e at a (Ok (Root end)) p = absurd p
+entry-from-plain vendors global s levels e at a (Ok (Ordinary kind end)) p = ordinary-plain e at kind a (attributes (source vendors global s) e false end at)
+entry-from-plain vendors global s levels e at a (Err field) p = tt
 
-entry-plain : (vendors : List ℕ) (global : ℕ) (s : List ℕ) (levels : ℕ) (e : Endian) (at a : ℕ) → EntryPlain (read_entry (source vendors global s) false levels (mode false e) at a)
+entry-plain : (vendors : List ℕ) (global : ℕ) (s : List ℕ) (levels : ℕ) (e : Endian) (at a : ℕ)
+    → EntryPlain (read_entry (source vendors global s) false levels (mode false e) at a)
 unfolding read_entry
 entry-plain vendors global s levels e at a = entry-from-plain vendors global s levels e at a (head_at false s e at) (no-root s e at)
 
@@ -147,7 +150,8 @@ unfolding units_from in_unit
 plain-in-units before [] p = tt
 plain-in-units before (r ∷ rs) p = (p.0, plain-in-units (unit_of before r) rs p.1)
 
-plain_row : (t : List ℕ) (i : ℕ) (rs : List Row) → Plain rs → rows_from t i (length rs) ≡ rs → (j : ℕ) → j < length rs → erased_row (row_at t (i + j)).flags ≡ false
+plain_row : (t : List ℕ) (i : ℕ) (rs : List Row) → Plain rs → rows_from t i (length rs) ≡ rs → (j : ℕ) → j < length rs
+    → erased_row (row_at t (i + j)).flags ≡ false
 unfolding rows_from
 plain_row t i [] p q j h = elim h [ ]
 plain_row t i (r ∷ rs) p q zero h =
@@ -174,7 +178,8 @@ none-erased settings vendors sizes s rows attrs c off answers j h =
 
 -- ---- an answer passed the tests of settings and length
 
-pub answer-tested : (settings : Settings) (vendors sizes s rows attrs : List ℕ) (c : Counts) → (read_debug_section settings vendors sizes s rows attrs).answer ≡ gives c
+pub answer-tested : (settings : Settings) (vendors sizes s rows attrs : List ℕ) (c : Counts)
+    → (read_debug_section settings vendors sizes s rows attrs).answer ≡ gives c
     → (settings_hold settings vendors sizes ≡ true) × (ltb (length s) section_limit ≡ true)
 unfolding read_debug_section
 answer-tested settings vendors sizes s rows attrs c answers =

@@ -1,4 +1,5 @@
 -- What follows from `Entries`: the loop over entries. Its invariant says what was read so far, and that what is left comes to the whole.
+use Rattle.std.specs.Prelude.{Result, Ok, Err}
 use Prim.Native.Nat.{ℕ, zero, suc, ◌+◌, ◌*◌, ◌-◌, ◌≤◌, ◌<◌}
 use native.Mathlib.Nat.{add_assoc}
 use native.Mathlib.Numerals.{sub-one}
@@ -12,8 +13,7 @@ use borrow.Author.Tests.{lt-ltb, le-ltb}
 use Rattle.entries.specs.Source.{source, mode}
 use Rattle.numbers.specs.declared.Endian.{Endian}
 use Rattle.format.specs.Said.{Said, gives, refuses, refuse, ◌>>=◌}
-use Rattle.format.proofs.Laws.Said.{case-said}
-use Rattle.format.specs.declared.refusal.Reason.{Reason}
+use Rattle.format.proofs.Laws.Said.{case-said, given_is, given-refused}
 use Rattle.format.specs.declared.refusal.Reason.TheVariants as reason
 use Rattle.tables.specs.Row.{row_width, attr_width, rows_words, attrs_words}
 use Rattle.tables.proofs.Laws.Row.{rows_append, attrs-append}
@@ -23,12 +23,16 @@ use Rattle.entries.specs.Head.{head_at}
 use Rattle.entries.specs.Run.{AttrsRead}
 use Rattle.entries.specs.Entry.{Entry, next, inside, attributes, entry_from, read_entry}
 use Rattle.entries.specs.Walk.{Entries, entries, entries_then, whole_entry, entries_from, read_tags}
-use Rattle.entries.specs.Inside.Promise.{ordinary, farthest, Ready, advanced, Stored, Taken, said_entry, entry_answer, EntryStores, EntryRead, said_walk, walked, WalkStores, WalkRead}
+use Rattle.entries.specs.Inside.Promise.{ordinary, farthest, Ready, advanced, Stored, Taken}
+use Rattle.entries.specs.Inside.Promise.{said_read, entry_answer, EntryStores, EntryRead, walked, WalkStores, WalkRead}
 use Rattle.entries.specs.declared.head.Head.{Head}
 use Rattle.entries.specs.declared.head.Head.TheVariants as head
 use Rattle.entries.specs.declared.entry.State.{State}
 use Rattle.entries.specs.declared.entry.Entry.TheVariants as entry
-use Rattle.entries.specs.declared.walk.Walk.TheVariants as walk
+use Rattle.entries.specs.declared.entry.EntryError.{EntryError}
+use Rattle.entries.specs.declared.entry.EntryError.TheVariants as error
+use Rattle.entries.proofs.Laws.Entry.{err-bind, told-error}
+use Rattle.entries.specs.declared.head.HeadError.{HeadError}
 
 -- ---- rows and attributes read before others
 
@@ -54,71 +58,44 @@ join_last rs xs at = ap₂ (λ (r : List Row) (x : List Attr). gives (entries r 
 -- ---- what an answer tells
 
 -- what an entry's answer is by its definition
-abbrev Answers : State → Said Entry → entry.the_data → Type 0
-Answers from what r = said_entry from.at r ≡ (what >>= (λ x. gives (entry_answer from x)))
+abbrev Answers : State → Said Entry → Result entry.the_data EntryError → Type 0
+Answers from what r = said_read r ≡ (what >>= (λ x. gives (entry_answer from x)))
 
-told-next : (from : State) (what : Said Entry) {r : entry.the_data} {to : State} → Answers from what r → r ≡ entry.Next to
+told-next : (from : State) (what : Said Entry) {r : Result entry.the_data EntryError} {to : State} → Answers from what r → r ≡ Ok (entry.Next to)
     → (rs : List Row) × (xs : List Attr) × (p : ℕ) × (what ≡ gives (next rs xs p)) × (to ≡ advanced from (length rs) (length xs) p)
-unfolding said_entry entry_answer ◌>>=◌
+unfolding said_read entry_answer ◌>>=◌
 told-next from (gives (next rs xs p)) {to = to} a t =
-    let same : gives (entry.Next to) ≡ gives (entry.Next (advanced from (length rs) (length xs) p)) = case-said (said_entry from.at) a t in
+    let same : entry.Next to ≡ entry.Next (advanced from (length rs) (length xs) p) = given_is (case-said said_read a t) in
     (rs, xs, p, refl, cc)
 told-next from (gives (inside r xs p e end)) {to = to} a t =
-    let same : gives (entry.Next to) ≡ gives (entry.Inside (advanced from 1 (length xs) p) e end) = case-said (said_entry from.at) a t in
+    let same : entry.Next to ≡ entry.Inside (advanced from 1 (length xs) p) e end = given_is (case-said said_read a t) in
     let z : ◌≡◌ {A = ℕ} 0 1 = cc in
     absurd (omega arith)
-told-next from (refuses number place counts) {to = to} a t =
-    let same : gives (entry.Next to) ≡ refuses number place counts = case-said (said_entry from.at) a t in
-    let z : ◌≡◌ {A = ℕ} 0 1 = cc in
-    absurd (omega arith)
+told-next from (refuses number place counts) a t = absurd (given-refused (case-said said_read a t))
 
-told-inside : (from : State) (what : Said Entry) {r : entry.the_data} {to : State} {e : Endian} {end : ℕ} → Answers from what r → r ≡ entry.Inside to e end
+told-inside : (from : State) (what : Said Entry) {r : Result entry.the_data EntryError} {to : State} {e : Endian} {end : ℕ} → Answers from what r
+    → r ≡ Ok (entry.Inside to e end)
     → (row : Row) × (xs : List Attr) × (p : ℕ) × (what ≡ gives (inside row xs p e end)) × (to ≡ advanced from 1 (length xs) p)
-unfolding said_entry entry_answer ◌>>=◌
+unfolding said_read entry_answer ◌>>=◌
 told-inside from (gives (next rs xs p)) {to = to} {e} {end} a t =
-    let same : gives (entry.Inside to e end) ≡ gives (entry.Next (advanced from (length rs) (length xs) p)) = case-said (said_entry from.at) a t in
+    let same : entry.Inside to e end ≡ entry.Next (advanced from (length rs) (length xs) p) = given_is (case-said said_read a t) in
     let z : ◌≡◌ {A = ℕ} 0 1 = cc in
     absurd (omega arith)
 told-inside from (gives (inside row xs p e' end')) {to = to} {e} {end} a t =
-    let same : gives (entry.Inside to e end) ≡ gives (entry.Inside (advanced from 1 (length xs) p) e' end') = case-said (said_entry from.at) a t in
+    let same : entry.Inside to e end ≡ entry.Inside (advanced from 1 (length xs) p) e' end' = given_is (case-said said_read a t) in
     (row, xs, p, cc, cc)
-told-inside from (refuses number place counts) {to = to} {e} {end} a t =
-    let same : gives (entry.Inside to e end) ≡ refuses number place counts = case-said (said_entry from.at) a t in
-    let z : ◌≡◌ {A = ℕ} 0 1 = cc in
-    absurd (omega arith)
+told-inside from (refuses number place counts) a t = absurd (given-refused (case-said said_read a t))
 
-told-stop : (from : State) (what : Said Entry) {r x : entry.the_data} {number place : ℕ} {told : List ℕ} → Answers from what r → r ≡ x
-    → said_entry from.at x ≡ refuses number place told → what ≡ refuses number place told
-unfolding entry_answer ◌>>=◌
-told-stop from (gives x) {number = number} {place} {told} a t k =
-    let same : refuses number place told ≡ gives (entry_answer from x) = sym k ∙ case-said (said_entry from.at) a t in
-    let z : ◌≡◌ {A = ℕ} 0 1 = cc in
-    absurd (omega arith)
-told-stop from (refuses number' place' told') {number = number} {place} {told} a t k =
-    let same : ◌≡◌ {A = Said entry.the_data} (refuses number place told) (refuses number' place' told') = sym k ∙ case-said (said_entry from.at) a t in
-    cc
-
-pub told-walked : (from : State) (what : Said Entries) {r : walk.the_data} {to : State} → said_walk r ≡ walked from what → r ≡ walk.Walked to
+pub told-walked : (from : State) (what : Said Entries) {r : Result State EntryError} {to : State} → said_read r ≡ walked from what → r ≡ Ok to
     → (all : Entries) × (what ≡ gives all) × (to ≡ advanced from (length all.rows) (length all.attrs) all.stopped)
-unfolding said_walk walked ◌>>=◌
-told-walked from (gives all) {to = to} a t =
-    let same : gives to ≡ gives (advanced from (length all.rows) (length all.attrs) all.stopped) = case-said said_walk a t in
-    (all, refl, cc)
-told-walked from (refuses number place counts) {to = to} a t =
-    let same : gives to ≡ refuses number place counts = case-said said_walk a t in
-    let z : ◌≡◌ {A = ℕ} 0 1 = cc in
-    absurd (omega arith)
+unfolding said_read walked ◌>>=◌
+told-walked from (gives all) a t = (all, refl, given_is (case-said said_read a t))
+told-walked from (refuses number place counts) a t = absurd (given-refused (case-said said_read a t))
 
-pub told-refused : (from : State) (what : Said Entries) {r x : walk.the_data} {number place : ℕ} {told : List ℕ} → said_walk r ≡ walked from what → r ≡ x
-    → said_walk x ≡ refuses number place told → what ≡ refuses number place told
-unfolding walked ◌>>=◌
-told-refused from (gives all) {number = number} {place} {told} a t k =
-    let same : refuses number place told ≡ gives (advanced from (length all.rows) (length all.attrs) all.stopped) = sym k ∙ case-said said_walk a t in
-    let z : ◌≡◌ {A = ℕ} 0 1 = cc in
-    absurd (omega arith)
-told-refused from (refuses number' place' told') {number = number} {place} {told} a t k =
-    let same : ◌≡◌ {A = Said State} (refuses number place told) (refuses number' place' told') = sym k ∙ case-said said_walk a t in
-    cc
+pub told-refused : (from : State) (what : Said Entries) {r : Result State EntryError} {why : EntryError} → said_read r ≡ walked from what → r ≡ Err why
+    → what ≡ said_read (Err why)
+unfolding walked
+told-refused from what a t = told-error what (λ all. advanced from (length all.rows) (length all.attrs) all.stopped) a t
 
 -- ---- stores one after the other
 
@@ -174,13 +151,13 @@ module _ (vendors : List ℕ) (global : ℕ) (erased : Bool) (s : List ℕ) wher
       no_run kind (gives run) t = let z : ◌≡◌ {A = ℕ} 0 1 = cc in omega arith
       no_run kind (refuses number place counts) t = let z : ◌≡◌ {A = ℕ} 0 1 = cc in omega arith
 
-      never : (h : Head) {row : Row} {xs : List Attr} {p : ℕ} {e' : Endian} {end' : ℕ}
+      never : (h : Result Head HeadError) {row : Row} {xs : List Attr} {p : ℕ} {e' : Endian} {end' : ℕ}
           → entry_from (source vendors global s) zero (mode is_erased e) at a h ≡ gives (inside row xs p e' end') → ⊥
-      never (head.Null place) t = let z : ◌≡◌ {A = ℕ} 0 1 = cc in omega arith
-      never (head.Skipped place) t = let z : ◌≡◌ {A = ℕ} 0 1 = cc in omega arith
-      never (head.Root end) t = let z : ◌≡◌ {A = ℕ} 0 1 = cc in omega arith
-      never (head.Ordinary kind end) t = no_run kind (attributes (source vendors global s) e false end at) t
-      never (head.Unread why byte) t = let z : ◌≡◌ {A = ℕ} 0 1 = cc in omega arith
+      never (Ok (head.Null place)) t = let z : ◌≡◌ {A = ℕ} 0 1 = cc in omega arith
+      never (Ok (head.Skipped place)) t = let z : ◌≡◌ {A = ℕ} 0 1 = cc in omega arith
+      never (Ok (head.Root end)) t = let z : ◌≡◌ {A = ℕ} 0 1 = cc in omega arith
+      never (Ok (head.Ordinary kind end)) t = no_run kind (attributes (source vendors global s) e false end at) t
+      never (Err field) t = let z : ◌≡◌ {A = ℕ} 0 1 = cc in omega arith
   inside-levels (suc l) is_erased e at a q = omega arith
 
   -- ---- the loop
@@ -297,20 +274,25 @@ module _ (vendors : List ℕ) (global : ℕ) (erased : Bool) (s : List ℕ) wher
           ∙ ap (λ (t : ℕ). join l.rs l.xs (left t now.attrs now.at)) (sym at_least_lem.1)
           ∙ l.rest
 
-      stops : {w : walk.the_data} {number place : ℕ} {told : List ℕ} {rows₁ attrs₁ : List ℕ} → said_walk w ≡ refuses number place told
-          → ((f : ℕ) → left (suc f) now.attrs now.at ≡ refuses number place told)
-          → WalkRead from (whole from.attrs from.at) w rows₀ rows₁ attrs₀ attrs₁
-      unfolding join walked ◌>>=◌
-      stops {number = number} {place} {told} {rows₁} {attrs₁} is step =
-          let all : refuses number place told ≡ whole from.attrs from.at = comes-to step in
+      stops : (why : EntryError) {z : Result State EntryError} {rows₁ attrs₁ : List ℕ} → z ≡ Err why
+          → ((f : ℕ) → left (suc f) now.attrs now.at ≡ said_read (Err why)) → WalkRead from (whole from.attrs from.at) z rows₀ rows₁ attrs₀ attrs₁
+      unfolding said_read join walked ◌>>=◌
+      stops (error.Nested key) {rows₁ = rows₁} {attrs₁} p step =
+          let all : said_read (Err (error.Nested key)) ≡ whole from.attrs from.at = comes-to step in
           record {
-            answer = is ∙ ap (walked from) all;
+            answer = ap said_read p ∙ ap (walked from) all;
+            stores = subst (λ (w : Said Entries). WalkStores from w rows₀ rows₁ attrs₀ attrs₁) all tt;
+          }
+      stops (error.Unread why key byte) {rows₁ = rows₁} {attrs₁} p step =
+          let all : said_read (Err (error.Unread why key byte)) ≡ whole from.attrs from.at = comes-to step in
+          record {
+            answer = ap said_read p ∙ ap (walked from) all;
             stores = subst (λ (w : Said Entries). WalkStores from w rows₀ rows₁ attrs₀ attrs₁) all tt;
           }
 
       -- the end is reached
-      pub done : end ≤ now.at → WalkRead from (whole from.attrs from.at) (walk.Walked now) rows₀ rows attrs₀ attrs
-      unfolding said_walk walked ◌>>=◌
+      pub done : end ≤ now.at → WalkRead from (whole from.attrs from.at) (Ok now) rows₀ rows attrs₀ attrs
+      unfolding said_read walked ◌>>=◌
       done h =
           let all : gives (entries l.rs l.xs now.at) ≡ whole from.attrs from.at =
           sym (join_last l.rs l.xs now.at) ∙ comes-to (λ f. past (suc f) now.attrs now.at h)
@@ -332,13 +314,13 @@ module _ (vendors : List ℕ) (global : ℕ) (erased : Bool) (s : List ℕ) wher
                 });
           }
 
-      module _ (h : now.at < end) {r : entry.the_data} {rows₁ attrs₁ : List ℕ}
+      module _ (h : now.at < end) {r : Result entry.the_data EntryError} {rows₁ attrs₁ : List ℕ}
           (q : EntryRead s now (entry_here now.at now.attrs) r rows rows₁ attrs attrs₁) where
         stores_as : {what : Said Entry} → entry_here now.at now.attrs ≡ what → EntryStores s now what rows rows₁ attrs attrs₁
         stores_as is = subst (λ (w : Said Entry). EntryStores s now w rows rows₁ attrs attrs₁) is q.stores
 
         -- an entry with nothing inside it
-        pub again : {to : State} → r ≡ entry.Next to → Loop from rows₀ rows₁ attrs₀ attrs₁ to
+        pub again : {to : State} → r ≡ Ok (entry.Next to) → Loop from rows₀ rows₁ attrs₀ attrs₁ to
         unfolding whole_entry entries_then join ◌>>=◌
         again t =
             let told = told-next now (entry_here now.at now.attrs) q.answer t in
@@ -347,7 +329,7 @@ module _ (vendors : List ℕ) (global : ℕ) (erased : Bool) (s : List ℕ) wher
             (extend stored.0 stored.1
             (λ f. turn f now.attrs now.at h ∙ ap (λ (w : Said Entry). onward f now.attrs w) told.3))
 
-        pub falls : {to : State} → r ≡ entry.Next to → end - to.at < end - now.at
+        pub falls : {to : State} → r ≡ Ok (entry.Next to) → end - to.at < end - now.at
         falls {to} t =
             let told = told-next now (entry_here now.at now.attrs) q.answer t in
             let forward : now.at + 4 ≤ told.2 = (stores_as told.3).1.forward in
@@ -355,25 +337,14 @@ module _ (vendors : List ℕ) (global : ℕ) (erased : Bool) (s : List ℕ) wher
             omega arith
 
         -- an entry that is refused
-        refused-here : {x : entry.the_data} {w : walk.the_data} {number place : ℕ} {told : List ℕ} → r ≡ x → said_entry now.at x ≡ refuses number place told
-            → said_walk w ≡ refuses number place told → WalkRead from (whole from.attrs from.at) w rows₀ rows₁ attrs₀ attrs₁
-        unfolding ◌>>=◌
-        refused-here t k j =
-            let is = told-stop now (entry_here now.at now.attrs) q.answer t k in
-            stops j
-            (λ f. turn f now.attrs now.at h ∙ ap (λ (w : Said Entry). onward f now.attrs w) is)
-
-        pub nested-here : r ≡ entry.Nested → WalkRead from (whole from.attrs from.at) (walk.Nested now.at) rows₀ rows₁ attrs₀ attrs₁
-        unfolding said_entry said_walk
-        nested-here t = refused-here t refl refl
-
-        pub unread-here : {why : Reason} {byte : ℕ} → r ≡ entry.Unread why byte
-            → WalkRead from (whole from.attrs from.at) (walk.Unread why now.at byte) rows₀ rows₁ attrs₀ attrs₁
-        unfolding said_entry said_walk
-        unread-here t = refused-here t refl refl
+        pub refused-here : {why : EntryError} {z : Result State EntryError} → r ≡ Err why → z ≡ Err why
+            → WalkRead from (whole from.attrs from.at) z rows₀ rows₁ attrs₀ attrs₁
+        refused-here {why} t p =
+            let is = told-error (entry_here now.at now.attrs) (entry_answer now) q.answer t in
+            stops why p (λ f. turn f now.attrs now.at h ∙ ap (λ (w : Said Entry). onward f now.attrs w) is ∙ err-bind why _)
 
         -- a root, of which the inside was read too
-        module _ {to : State} {e' : Endian} {end' : ℕ} (t : r ≡ entry.Inside to e' end') where
+        module _ {to : State} {e' : Endian} {end' : ℕ} (t : r ≡ Ok (entry.Inside to e' end')) where
           pub inside-ready : Ready s to
           inside-ready =
               let told = told-inside now (entry_here now.at now.attrs) q.answer t in
@@ -389,7 +360,7 @@ module _ (vendors : List ℕ) (global : ℕ) (erased : Bool) (s : List ℕ) wher
               let told = told-inside now (entry_here now.at now.attrs) q.answer t in
               inside-levels levels is_erased e now.at now.attrs told.3
 
-          module _ {r' : walk.the_data} {rows₂ attrs₂ : List ℕ}
+          module _ {r' : Result State EntryError} {rows₂ attrs₂ : List ℕ}
               (w : WalkRead to (read_tags (source vendors global s) erased (levels - 1) (mode true e') end' to.attrs to.at) r' rows₁ rows₂ attrs₁ attrs₂) where
             -- what is left after the root itself, given what its inside comes to
             turn_inside : (xs : List Attr) (p : ℕ) (row : Row) → entry_here now.at now.attrs ≡ gives (inside row xs p e' end') → (v : Said Entries)
@@ -402,7 +373,7 @@ module _ (vendors : List ℕ) (global : ℕ) (erased : Bool) (s : List ℕ) wher
                 ∙ ap (λ (u : Said Entries). behind f now.attrs (join (row ∷ []) xs u))
                 (within-less levels e' end' (now.attrs + length xs) p level_left ∙ p')
 
-            pub again-inside : {after : State} → r' ≡ walk.Walked after → Loop from rows₀ rows₂ attrs₀ attrs₂ after
+            pub again-inside : {after : State} → r' ≡ Ok after → Loop from rows₀ rows₂ attrs₀ attrs₂ after
             unfolding entries_then join ◌>>=◌
             again-inside {after} t' =
                 let told = told-inside now (entry_here now.at now.attrs) q.answer t in
@@ -434,7 +405,7 @@ module _ (vendors : List ℕ) (global : ℕ) (erased : Bool) (s : List ℕ) wher
                 (record { there = stored.1.there; forward = omega (arith, stored.1.forward, stored'.forward) })
                 (λ f. turn_inside xs p row told.3 (gives told'.0) told'.1 f))
 
-            pub falls-inside : {after : State} → r' ≡ walk.Walked after → end - after.at < end - now.at
+            pub falls-inside : {after : State} → r' ≡ Ok after → end - after.at < end - now.at
             falls-inside {after} t' =
                 let told = told-inside now (entry_here now.at now.attrs) q.answer t in
                 let forward : now.at + 4 ≤ told.2 = (stores_as told.3).1.forward in
@@ -448,27 +419,17 @@ module _ (vendors : List ℕ) (global : ℕ) (erased : Bool) (s : List ℕ) wher
                 let place' : after.at ≡ told'.0.stopped = ap (λ (x : State). x.at) told'.2 in
                 omega arith
 
-            refused-inside : {x : walk.the_data} {number place : ℕ} {besides : List ℕ} → r' ≡ x → said_walk x ≡ refuses number place besides
-                → WalkRead from (whole from.attrs from.at) x rows₀ rows₂ attrs₀ attrs₂
-            unfolding join ◌>>=◌
-            refused-inside {number = number} {place} {besides} t' k =
+            pub refused-inside : {why : EntryError} {z : Result State EntryError} → r' ≡ Err why → z ≡ Err why
+                → WalkRead from (whole from.attrs from.at) z rows₀ rows₂ attrs₀ attrs₂
+            unfolding join
+            refused-inside {why} t' p =
                 let told = told-inside now (entry_here now.at now.attrs) q.answer t in
-                let is = told-refused to (read_tags (source vendors global s) erased (levels - 1) (mode true e') end' to.attrs to.at) w.answer t' k in
-                let same : read_tags (source vendors global s) erased (levels - 1) (mode true e') end' (now.attrs + length told.1) told.2
-                ≡ refuses number place besides =
+                let is = told-refused to (read_tags (source vendors global s) erased (levels - 1) (mode true e') end' to.attrs to.at) w.answer t' in
+                let same : read_tags (source vendors global s) erased (levels - 1) (mode true e') end' (now.attrs + length told.1) told.2 ≡ said_read (Err why) =
                 ap (λ (x : State). read_tags (source vendors global s) erased (levels - 1) (mode true e') end' x.attrs x.at) (sym told.4) ∙ is
                 in
-                stops k (turn_inside told.1 told.2 told.0 told.3 (refuses number place besides) same)
-
-            pub nested-inside : {key : ℕ} → r' ≡ walk.Nested key
-                → WalkRead from (whole from.attrs from.at) (walk.Nested key) rows₀ rows₂ attrs₀ attrs₂
-            unfolding said_walk
-            nested-inside t' = refused-inside t' refl
-
-            pub unread-inside : {why : Reason} {key byte : ℕ} → r' ≡ walk.Unread why key byte
-                → WalkRead from (whole from.attrs from.at) (walk.Unread why key byte) rows₀ rows₂ attrs₀ attrs₂
-            unfolding said_walk
-            unread-inside t' = refused-inside t' refl
+                stops why p
+                (λ f. turn_inside told.1 told.2 told.0 told.3 (said_read (Err why)) same f ∙ ap (behind f now.attrs) (err-bind why _) ∙ err-bind why _)
 
       -- every turn goes forward, and the tables keep their lengths
       pub rows_kept : length rows ≡ length rows₀

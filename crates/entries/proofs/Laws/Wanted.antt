@@ -1,5 +1,6 @@
 -- Which byte was wanted: what refuses an entry is a field that could not be read or was not known, every field before it was read, and the byte that is
 -- told is that field's first.
+use Rattle.std.specs.Prelude.{Result, Ok, Err}
 use Prim.Native.Nat.{ℕ, zero, suc, ◌+◌, ◌-◌, ◌≤◌, ◌<◌}
 use native.Mathlib.Omega.{arith}
 use mathlib.Core.Path.{◌≡◌, refl, sym, ap, ◌∙◌, subst}
@@ -26,20 +27,20 @@ use Rattle.format.specs.declared.refusal.Reason.TheVariants as reason
 use Rattle.attributes.specs.Text.{zero_from}
 use Rattle.attributes.specs.End.{fixed_end, block_end, text_end, value_end}
 use Rattle.attributes.specs.Read.{ending, numbered, read_attribute}
-use Rattle.attributes.specs.declared.value.End.{End}
-use Rattle.attributes.specs.declared.value.End.TheVariants as end
 use Rattle.attributes.specs.declared.read.Attribute.{Attribute}
-use Rattle.attributes.specs.declared.read.Attribute.TheVariants.{Read, Short, Unknown}
+use Rattle.attributes.specs.declared.value.Unread.{Unread}
+use Rattle.attributes.specs.declared.value.Unread.TheVariants as missing
 use Rattle.attributes.proofs.Laws.Text.{zero-found}
 use Rattle.entries.specs.Source.{Source}
-use Rattle.entries.specs.Head.{tag_head, size_head, head_at}
-use Rattle.entries.specs.Run.{AttrsRead, ran, attr, run_ends, read_on, read_run}
+use Rattle.entries.specs.Head.{headless, tag_head, size_head, head_at}
+use Rattle.entries.specs.Run.{AttrsRead, ran, attr, found, run_ends, read_on, read_run}
 use Rattle.entries.specs.Entry.{Entry, root_endian, attributes, entry_from, read_entry}
 use Rattle.entries.specs.Wanted.{NotThere, NoZero, OneField, address, reference, data2, data4, data8, TwoFields, block2, block4, SizeRead, TagRead, IsRoot, ReadAs, as_ordinary, as_root, GoesOn, ReadUpTo, none_yet, one_more, AttributeAt, NumberRead, Wants, no_size, no_tag, unknown_tag, no_look, no_number, unknown_number, no_value, no_zero, no_length, no_bytes}
 use Rattle.entries.specs.declared.entry.Mode.{Mode}
 use Rattle.entries.specs.declared.head.Head.{Head}
 use Rattle.entries.specs.declared.head.Head.TheVariants as head
 use Rattle.entries.proofs.Laws.KnownRun.{by-test}
+use Rattle.entries.specs.declared.head.HeadError.{HeadError}
 
 -- ---- what is not there
 
@@ -62,9 +63,10 @@ data ValueWants (e : Endian) (s : List ℕ) (at : ℕ) : FormKind → ℕ → Ty
   first : {form : FormKind} {w : ℕ} → TwoFields form w → NotThere s at w → ValueWants e s at form at
   second : {form : FormKind} {w : ℕ} → TwoFields form w → at + w ≤ length s → NotThere s (at + w) (value_of e w s at) → ValueWants e s at form (at + w)
 
-abbrev EndTold : Endian → List ℕ → ℕ → FormKind → End → Type 0
-EndTold e s at form (end.At next) = Unit
-EndTold e s at form (end.Short field) = ValueWants e s at form field
+abbrev EndTold : Endian → List ℕ → ℕ → FormKind → Result ℕ Unread → Type 0
+EndTold e s at form (Ok next) = Unit
+EndTold e s at form (Err (missing.Short field)) = ValueWants e s at form field
+EndTold e s at form (Err (missing.Unknown field)) = ⊥
 
 module _ (e : Endian) (s : List ℕ) (at : ℕ) where
   fixed_told : {form : FormKind} {w : ℕ} → OneField form w → EndTold e s at form (fixed_end s at w)
@@ -74,7 +76,7 @@ module _ (e : Endian) (s : List ℕ) (at : ℕ) where
   block-told : {form : FormKind} {w : ℕ} → TwoFields form w → EndTold e s at form (block_end e w s at)
   unfolding block_end fixed_end
   block-told {form} {w} f =
-      read_all (λ n. fixed_end s (at + w) n) (end.Short at) e w s at (EndTold e s at form)
+      read_all (λ n. fixed_end s (at + w) n) (Err (missing.Short at)) e w s at (EndTold e s at form)
       (λ t. cond-all (EndTold e s at form) (there s (at + w) (value_of e w s at)) (λ u. tt)
       (λ u. second f (there-inside s at w t) (cut s (at + w) (value_of e w s at) u)))
       (λ t. first f (cut s at w t))
@@ -114,23 +116,24 @@ module _ (r : Source) (erased : Bool) (levels : ℕ) (m : Mode) (key : ℕ) (for
   value-wants h p (first {w = w} f c) = no_length h (subst (λ (k : FormKind). TwoFields k w) (sym p) f) c
   value-wants h p (second {w = w} f i c) = no_bytes h (subst (λ (k : FormKind). TwoFields k w) (sym p) f) i c
 
-  abbrev AttributeTold : Attribute → Type 0
-  AttributeTold (Read n value next) = Unit
-  AttributeTold (Short field) = Want 4 field
-  AttributeTold (Unknown field) = Want 6 field
+  abbrev AttributeTold : Result Attribute Unread → Type 0
+  AttributeTold (Ok a) = Unit
+  AttributeTold (Err (missing.Short field)) = Want 4 field
+  AttributeTold (Err (missing.Unknown field)) = Want 6 field
 
-  ending-told : {e : Endian} {at n : ℕ} → NumberRead r erased levels m key e at n → (told : End) → EndTold e r.section (at + 2) (form_of n) told
+  ending-told : {e : Endian} {at n : ℕ} → NumberRead r erased levels m key e at n → (told : Result ℕ Unread) → EndTold e r.section (at + 2) (form_of n) told
       → AttributeTold (ending n (at + 2) told)
   unfolding ending
-  ending-told h (end.At next) w = tt
-  ending-told h (end.Short field) w = value-wants h refl w
+  ending-told h (Ok next) w = tt
+  ending-told h (Err (missing.Short field)) w = value-wants h refl w
+  ending-told h (Err (missing.Unknown field)) w = absurd w
 
   attribute-told : {e : Endian} {at : ℕ} → AttributeAt r erased levels m key e at → AttributeTold (read_attribute r.vendors e r.section at)
   unfolding read_attribute numbered
   attribute-told {e} {at} h =
       let s : List ℕ = r.section in
       let n : ℕ = value_of e 2 s at in
-      read_all (numbered r.vendors e s at) (Short at) e 2 s at AttributeTold
+      read_all (numbered r.vendors e s at) (Err (missing.Short at)) e 2 s at AttributeTold
       (λ t. cond-all AttributeTold (known r.vendors n)
       (λ k. ending-told
       (record { attribute = h; number_there = there-inside s at 2 t; number_is = refl; number_known = k })
@@ -153,12 +156,12 @@ module _ (r : Source) (erased : Bool) (levels : ℕ) (m : Mode) (key : ℕ) (for
   later-told a v (refuses n place (byte ∷ [])) h = h
   later-told a v (refuses n place (x ∷ y ∷ more)) h = h
 
-  on-told : (x : Attribute) (follow : ℕ → ℕ → Said AttrsRead) → AttributeTold x
-      → ((n value next : ℕ) → x ≡ Read n value next → RunTold (follow n next)) → RunTold (read_on x follow)
+  on-told : (x : Result Attribute Unread) (follow : ℕ → ℕ → Said AttrsRead) → AttributeTold x
+      → ((n value next : ℕ) → x ≡ found n value next → RunTold (follow n next)) → RunTold (read_on x follow)
   unfolding read_on number_of
-  on-told (Read n value next) follow h others = later-told n value (follow n next) (others n value next refl)
-  on-told (Short field) follow h others = h
-  on-told (Unknown field) follow h others = h
+  on-told (Ok a) follow h others = later-told a.number a.value (follow a.number a.next) (others a.number a.value a.next refl)
+  on-told (Err (missing.Short field)) follow h others = h
+  on-told (Err (missing.Unknown field)) follow h others = h
 
   run-told : {root : Bool} {e : Endian} → ReadAs r erased levels m key root e → (f : ℕ) (high : Bool) (at : ℕ) → ReadUpTo r erased levels m key root e high at
       → RunTold (read_run r e root (key + value_of m.endian 4 r.section key) f high at)
@@ -183,13 +186,13 @@ module _ (r : Source) (erased : Bool) (levels : ℕ) (m : Mode) (key : ℕ) (for
   EntryTold (refuses n place (byte ∷ [])) = (place ≡ key) × Want n byte
   EntryTold (refuses n place (x ∷ y ∷ more)) = ⊥
 
-  abbrev HeadTold : Head → Type 0
-  HeadTold (head.Null place) = Unit
-  HeadTold (head.Skipped place) = Unit
-  HeadTold (head.Root stop) = TagRead r erased levels m key tag.padding × (erased ≡ true) × (stop ≡ key + value_of m.endian 4 r.section key)
-  HeadTold (head.Ordinary kind stop) =
+  abbrev HeadTold : Result Head HeadError → Type 0
+  HeadTold (Ok (head.Null place)) = Unit
+  HeadTold (Ok (head.Skipped place)) = Unit
+  HeadTold (Ok (head.Root stop)) = TagRead r erased levels m key tag.padding × (erased ≡ true) × (stop ≡ key + value_of m.endian 4 r.section key)
+  HeadTold (Ok (head.Ordinary kind stop)) =
       TagRead r erased levels m key kind × (kind ≡ tag.padding → ⊥) × (stop ≡ key + value_of m.endian 4 r.section key)
-  HeadTold (head.Unread why byte) = Want (number_of why) byte
+  HeadTold (Err field) = Want (number_of field.why) field.byte
 
   head-told : HeadTold (head_at erased r.section m.endian key)
   unfolding head_at size_head tag_head number_of
@@ -198,11 +201,11 @@ module _ (r : Source) (erased : Bool) (levels : ℕ) (m : Mode) (key : ℕ) (for
       let e : Endian = m.endian in
       let size : ℕ = value_of e 4 s key in
       let kind : ℕ = value_of e 2 s (key + 4) in
-      read_all (size_head erased s e key) (head.Unread reason.Short key) e 4 s key HeadTold
+      read_all (size_head erased s e key) (headless reason.Short key) e 4 s key HeadTold
       (λ t. cond-all HeadTold (ltb size 8) (λ u. tt)
       (λ u.
       let sized : SizeRead r erased levels m key = record { size_there = there-inside s key 4 t; long = ltb-false size 8 u } in
-      read_all (tag_head erased (key + size) (key + 4)) (head.Unread reason.Short (key + 4)) e 2 s (key + 4) HeadTold
+      read_all (tag_head erased (key + size) (key + 4)) (headless reason.Short (key + 4)) e 2 s (key + 4) HeadTold
       (λ v.
       let inside : key + 4 + 2 ≤ length s = there-inside s (key + 4) 2 v in
       let here : key + 6 ≤ length s = omega arith in
@@ -250,7 +253,7 @@ module _ (r : Source) (erased : Bool) (levels : ℕ) (m : Mode) (key : ℕ) (for
   looked (refuses n place (x ∷ y ∷ more)) follow h others = absurd h
 
   module _ (a : ℕ) where
-    root_told : (allowed : ℕ) → levels ≡ allowed → (stop : ℕ) → HeadTold (head.Root stop) → EntryTold (entry_from r allowed m key a (head.Root stop))
+    root_told : (allowed : ℕ) → levels ≡ allowed → (stop : ℕ) → HeadTold (Ok (head.Root stop)) → EntryTold (entry_from r allowed m key a (Ok (head.Root stop)))
     unfolding entry_from number_of
     root_told zero p stop h = refl
     root_told (suc l) p stop h =
@@ -258,13 +261,13 @@ module _ (r : Source) (erased : Bool) (levels : ℕ) (m : Mode) (key : ℕ) (for
         looked (root_endian r.vendors r.section m.erased m.endian key) _ (look-told root m.erased refl)
         (λ e q. body-told _ (as_root root q) h.2)
 
-    from_told : (h : Head) → HeadTold h → EntryTold (entry_from r levels m key a h)
+    from_told : (h : Result Head HeadError) → HeadTold h → EntryTold (entry_from r levels m key a h)
     unfolding entry_from
-    from_told (head.Null place) h = tt
-    from_told (head.Skipped place) h = tt
-    from_told (head.Root stop) h = root_told levels refl stop h
-    from_told (head.Ordinary kind stop) h = body-told _ (as_ordinary h.0 h.1) h.2
-    from_told (head.Unread why byte) h = (refl, h)
+    from_told (Ok (head.Null place)) h = tt
+    from_told (Ok (head.Skipped place)) h = tt
+    from_told (Ok (head.Root stop)) h = root_told levels refl stop h
+    from_told (Ok (head.Ordinary kind stop)) h = body-told _ (as_ordinary h.0 h.1) h.2
+    from_told (Err field) h = (refl, h)
 
     -- an entry that is refused wants the field whose first byte is told
     pub entry-told : EntryTold (read_entry r erased levels m key a)

@@ -1,4 +1,5 @@
 -- Where reading comes to an entry and a field refuses it, reading the whole section is refused so.
+use Rattle.std.specs.Prelude.{Result, Ok}
 use Prim.Native.Nat.{ℕ, zero, suc, ◌+◌, ◌≤◌, ◌<◌}
 use native.Mathlib.Omega.{arith}
 use mathlib.Core.Path.{◌≡◌, refl, sym, ap, ◌∙◌}
@@ -21,7 +22,7 @@ use Rattle.format.specs.declared.settings.Settings.{Settings}
 use Rattle.tables.specs.declared.row.Row.{Row}
 use Rattle.tables.specs.declared.row.Attr.{Attr}
 use Rattle.entries.specs.Source.{Source, source, mode}
-use Rattle.entries.specs.Head.{null_end, tag_head, size_head, head_at}
+use Rattle.entries.specs.Head.{headless, null_end, tag_head, size_head, head_at}
 use Rattle.entries.specs.Run.{AttrsRead}
 use Rattle.entries.specs.Entry.{Entry, next, inside, root_endian, attributes, entry_from, read_entry}
 use Rattle.entries.specs.Walk.{Entries, entries_then, whole_entry, entries_from, read_tags}
@@ -34,6 +35,7 @@ use Rattle.entries.proofs.Laws.KnownRun.{RunKnown}
 use Rattle.entries.proofs.Laws.RowsRead.{rows-ahead, attributes-known, walk_rows}
 use Rattle.entries.proofs.Laws.Walk.{within_of, walk-levels}
 use Rattle.entries.proofs.Laws.WantedOnly.{wants-refused}
+use Rattle.entries.specs.declared.head.HeadError.{HeadError}
 
 -- ---- every entry takes four bytes that are there, and a root ends where its size says
 
@@ -47,7 +49,7 @@ EntryAhead e s at (refuses n place told) = Unit
 
 module _ (r : Source) (levels : ℕ) (m : Mode) (at a : ℕ) where
   -- what its head says of it
-  abbrev HeadAhead : Head → Type 0
+  abbrev HeadAhead : Result Head HeadError → Type 0
   HeadAhead h = EntryAhead m.endian r.section at (entry_from r levels m at a h)
 
   next-ahead : (e : Endian) (d : Said AttrsRead) (rows : AttrsRead → List Row) → at + 4 ≤ length r.section → RunKnown r.section r.vendors e (at + 6) d
@@ -63,13 +65,14 @@ module _ (r : Source) (levels : ℕ) (m : Mode) (at a : ℕ) where
   inside-ahead e stop (gives x) row room p known = ((room, omega (arith, known.1)), p)
   inside-ahead e stop (refuses n place told) row room p known = tt
 
-  looked-ahead : (d : Said Endian) (follow : Endian → Said Entry) → ((e : Endian) → EntryAhead m.endian r.section at (follow e)) → EntryAhead m.endian r.section at (d >>= follow)
+  looked-ahead : (d : Said Endian) (follow : Endian → Said Entry) → ((e : Endian) → EntryAhead m.endian r.section at (follow e))
+      → EntryAhead m.endian r.section at (d >>= follow)
   unfolding ◌>>=◌
   looked-ahead (gives e) follow others = others e
   looked-ahead (refuses n place told) follow others = tt
 
   root-ahead : (allowed stop : ℕ) → at + 4 ≤ length r.section → stop ≡ at + value_of m.endian 4 r.section at
-      → EntryAhead m.endian r.section at (entry_from r allowed m at a (head.Root stop))
+      → EntryAhead m.endian r.section at (entry_from r allowed m at a (Ok (head.Root stop)))
   unfolding entry_from
   root-ahead zero stop room p = tt
   root-ahead (suc l) stop room p =
@@ -83,7 +86,7 @@ module _ (r : Source) (levels : ℕ) (m : Mode) (at a : ℕ) where
       let e : Endian = m.endian in
       let size : ℕ = value_of e 4 s at in
       let kind : ℕ = value_of e 2 s (at + 4) in
-      read_all (size_head erased s e at) (head.Unread reason.Short at) e 4 s at HeadAhead
+      read_all (size_head erased s e at) (headless reason.Short at) e 4 s at HeadAhead
       (λ t.
       let room : at + 4 ≤ length s = there-inside s at 4 t in
       cond-all HeadAhead (ltb size 8)
@@ -91,7 +94,7 @@ module _ (r : Source) (levels : ℕ) (m : Mode) (at a : ℕ) where
       (room, cond-all (λ (place : ℕ). at + 4 ≤ place) (leb size 4) (λ low. omega arith) (λ high. (let four : 4 < size = leb-false size 4 high in omega arith))))
       (λ many.
       let eight : 8 ≤ size = ltb-false size 8 many in
-      read_all (tag_head erased (at + size) (at + 4)) (head.Unread reason.Short (at + 4)) e 2 s (at + 4) HeadAhead
+      read_all (tag_head erased (at + size) (at + 4)) (headless reason.Short (at + 4)) e 2 s (at + 4) HeadAhead
       (λ u. cond-all HeadAhead (is_on kind tags)
       (λ v. cond-all HeadAhead (eqb kind tag.padding)
       (λ w. cond-all HeadAhead erased (λ x. root-ahead levels (at + size) room refl) (λ x. (room, omega arith)))
@@ -155,7 +158,8 @@ module _ (settings : Settings) (vendors s : List ℕ) (small : length s < sectio
       rest-inside p q (suc f) k l = turn f ∙ rw (p, q)
 
       -- and out of it
-      rest-behind : {row : Row} {xs : List Attr} {after end' : ℕ} {e' : Endian} {all : Entries} → read_entry from on levels m at a ≡ gives (inside row xs after e' end')
+      rest-behind : {row : Row} {xs : List Attr} {after end' : ℕ} {e' : Endian} {all : Entries}
+          → read_entry from on levels m at a ≡ gives (inside row xs after e' end')
           → within levels e' end' (a + length xs) after ≡ gives all → after ≤ all.stopped
           → Rest levels m end (a + length (xs ++ all.attrs)) all.stopped (refuses number place told) → Rest levels m end a at (refuses number place told)
       unfolding whole_entry entries_then ◌>>=◌

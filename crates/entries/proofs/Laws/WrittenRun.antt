@@ -2,6 +2,7 @@
 use Prim.Native.Nat.{ℕ, zero, suc, ◌+◌, ◌%◌, ◌≤◌, ◌<◌}
 use native.Mathlib.Nat.{le_refl}
 use native.Mathlib.Omega.{arith}
+use Rattle.std.specs.Prelude.{Err}
 use mathlib.Core.Path.{◌≡◌, sym, ap, ◌∙◌}
 use mathlib.Core.Bool.{true, false}
 use mathlib.Core.List.{List, [], ◌∷◌, ◌++◌}
@@ -21,9 +22,9 @@ use Rattle.format.specs.Known.{known}
 use Rattle.format.specs.declared.refusal.Reason.TheVariants as reason
 use Rattle.format.proofs.Laws.Said.{step-gave, given_is, given-refused}
 use Rattle.attributes.specs.Read.{ending, numbered, read_attribute}
-use Rattle.attributes.specs.declared.read.Attribute.TheVariants.{Read, Unknown}
+use Rattle.attributes.specs.declared.value.Unread.TheVariants as missing
 use Rattle.entries.specs.Source.{Source, source}
-use Rattle.entries.specs.Run.{AttrsRead, read_on, run_ends, read_run}
+use Rattle.entries.specs.Run.{AttrsRead, found, read_on, run_ends, read_run}
 use Rattle.entries.specs.Standard.{taken}
 use Rattle.entries.proofs.Laws.KnownRun.{by-test}
 use Rattle.entries.proofs.Laws.StandardAgrees.{on-listed, taken-agrees, form-agrees, ends-told}
@@ -56,18 +57,18 @@ attributes-forward (exact.more at next form h p v rest) = omega arith
 module _ (vendors : List ℕ) (e : Endian) (s : List ℕ) (at : ℕ) {next : ℕ} {form : Form} (has_form : value_of e 2 s at % 16 ≡ form_number form)
     (ends : ValueEnds e s form (at + 2) next) (fits : next ≤ length s) where
   -- a number and a value that ends inside are read where the number is known
-  known_read : known vendors (value_of e 2 s at) ≡ true → read_attribute vendors e s at ≡ Read (value_of e 2 s at) (at + 2) next
+  known_read : known vendors (value_of e 2 s at) ≡ true → read_attribute vendors e s at ≡ found (value_of e 2 s at) (at + 2) next
   unfolding read_attribute numbered ending read_at
   known_read k =
       let forward : at + 2 ≤ next = value-forward ends in
       rw (inside-there s at 2 (omega arith), k, form-agrees (value_of e 2 s at) form has_form, ends-told ends fits)
 
-  unknown-read : known vendors (value_of e 2 s at) ≡ false → read_attribute vendors e s at ≡ Unknown at
+  unknown-read : known vendors (value_of e 2 s at) ≡ false → read_attribute vendors e s at ≡ Err (missing.Unknown at)
   unfolding read_attribute numbered read_at
   unknown-read k = let forward : at + 2 ≤ next = value-forward ends in rw (inside-there s at 2 (omega arith), k)
 
 -- an unknown number refuses the run
-run-refused : (r : Source) (e : Endian) (end f : ℕ) {at : ℕ} → at < end → read_attribute r.vendors e r.section at ≡ Unknown at
+run-refused : (r : Source) (e : Endian) (end f : ℕ) {at : ℕ} → at < end → read_attribute r.vendors e r.section at ≡ Err (missing.Unknown at)
     → read_run r e false end (suc f) false at ≡ unread reason.Attribute at at
 unfolding read_run read_on run_ends
 run-refused r e end f {at} h p = rw (lt-ltb at end h, p, read_run)

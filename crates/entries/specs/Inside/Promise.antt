@@ -1,6 +1,6 @@
 -- What the functions inside promise, in one record each: the answer, what the tables then hold, and bounds that keep every sum small. They ask for a section
 -- below 2 ^ 32 bytes and a place and counts to go on from.
-use Rattle.std.specs.Prelude.{ℕ, ◌+◌, ◌*◌, ◌^◌, ◌≤◌, ◌<◌, ◌≡◌, Bool, true, false, cond, List, [], ◌∷◌, length}
+use Rattle.std.specs.Prelude.{Result, Ok, Err, ℕ, ◌+◌, ◌*◌, ◌^◌, ◌≤◌, ◌<◌, ◌≡◌, Bool, true, false, cond, List, [], ◌∷◌, length}
 use Rattle.std.proofs.lemmas.List.Edits.{sets}
 use Rattle.numbers.specs.declared.Endian.{Endian}
 use Rattle.format.specs.Limits.{section_limit}
@@ -16,27 +16,26 @@ use Rattle.entries.specs.Walk.{Entries}
 use Rattle.entries.specs.declared.run.AttrsRead as run
 use Rattle.entries.specs.declared.entry.State.{State}
 use Rattle.entries.specs.declared.entry.Shape.{Shape}
-use Rattle.entries.specs.declared.entry.Body.{Body}
-use Rattle.entries.specs.declared.entry.Body.TheVariants as body
-use Rattle.entries.specs.declared.entry.Look.{Look}
-use Rattle.entries.specs.declared.entry.Look.TheVariants as look
+use Rattle.entries.specs.declared.entry.EntryError.{EntryError}
+use Rattle.entries.specs.declared.entry.EntryError.TheVariants as error
 use Rattle.entries.specs.declared.entry.Entry as entry
 use Rattle.entries.specs.declared.head.Head.{Head}
-use Rattle.entries.specs.declared.head.Head.TheVariants.{Null, Skipped, Root, Ordinary, Unread}
-use Rattle.entries.specs.declared.walk.Walk as walk
+use Rattle.entries.specs.declared.head.Head.TheVariants.{Null, Skipped, Root, Ordinary}
+use Rattle.entries.specs.declared.head.HeadError.{HeadError}
+use Rattle.attributes.specs.declared.value.Unread as missing
 
 -- ---- what an entry begins with
 
 -- where the bytes were found, and where it ends: a size is below 2 ^ 32
-abbrev pub HeadBounds : List ℕ → ℕ → Head → Type 0
-HeadBounds s at (Null place) = (at + 4 ≤ length s) × (at + 4 ≤ place) × (place ≤ at + 8)
-HeadBounds s at (Skipped place) = (at + 4 ≤ length s) × (at + 4 ≤ place) × (place ≤ at + 2 ^ 32)
-HeadBounds s at (Root end) = (at + 6 ≤ length s) × (end ≤ at + 2 ^ 32)
-HeadBounds s at (Ordinary kind end) = (at + 6 ≤ length s) × (end ≤ at + 2 ^ 32)
-HeadBounds s at (Unread why byte) = Unit
+abbrev pub HeadBounds : List ℕ → ℕ → Result Head HeadError → Type 0
+HeadBounds s at (Ok (Null place)) = (at + 4 ≤ length s) × (at + 4 ≤ place) × (place ≤ at + 8)
+HeadBounds s at (Ok (Skipped place)) = (at + 4 ≤ length s) × (at + 4 ≤ place) × (place ≤ at + 2 ^ 32)
+HeadBounds s at (Ok (Root end)) = (at + 6 ≤ length s) × (end ≤ at + 2 ^ 32)
+HeadBounds s at (Ok (Ordinary kind end)) = (at + 6 ≤ length s) × (end ≤ at + 2 ^ 32)
+HeadBounds s at (Err field) = Unit
 
 -- what reading a head answers
-pub record HeadRead (s : List ℕ) (at : ℕ) (what r : Head) : Type 0 where
+pub record HeadRead (s : List ℕ) (at : ℕ) (what r : Result Head HeadError) : Type 0 where
   pub answer : r ≡ what
   pub bounds : HeadBounds s at r
 
@@ -49,13 +48,14 @@ pub record RunReady (s : List ℕ) (at attrs : ℕ) : Type 0 where
   pub few : attrs ≤ at
 
 -- what the code says, a refusal told at a place
-unfoldable pub said_run : ℕ → run.AttrsRead → Said run.AttrsRead
-said_run key (run.TheVariants.Ran place n high) = gives (run.TheVariants.Ran place n high)
-said_run key (run.TheVariants.Unread why byte) = unread why key byte
+unfoldable pub said_run : {A : Type 0} → ℕ → Result A missing.Unread → Said A
+said_run key (Ok x) = gives x
+said_run key (Err (missing.TheVariants.Short byte)) = unread reason.Short key byte
+said_run key (Err (missing.TheVariants.Unknown byte)) = unread reason.Attribute key byte
 
 -- its answer: place and count go on, `attrs` being the count before
 abbrev pub run_answer : ℕ → Said AttrsRead → Said run.AttrsRead
-run_answer attrs what = what >>= (λ x. gives (run.TheVariants.Ran x.stopped (attrs + length x.attrs) x.high))
+run_answer attrs what = what >>= (λ x. gives (record { at = x.stopped; attrs = attrs + length x.attrs; high = x.high }))
 
 -- the attributes xs were stored, from number `attrs` on, and reading stopped at `place`
 pub record RunStored (s : List ℕ) (at attrs : ℕ) (xs : List Attr) (place : ℕ) (table₀ table₁ : List ℕ) : Type 0 where
@@ -70,11 +70,22 @@ RunStores s at attrs (gives x) table₀ table₁ = RunStored s at attrs x.attrs 
 RunStores s at attrs (refuses number place counts) table₀ table₁ = Unit
 
 -- what reading attributes answers and stores; it does not know the entry's key, at which a refusal is told
-pub record RunRead (s : List ℕ) (at attrs : ℕ) (what : Said AttrsRead) (r : run.AttrsRead) (table₀ table₁ : List ℕ) : Type 0 where
+pub record RunRead (s : List ℕ) (at attrs : ℕ) (what : Said AttrsRead) (r : Result run.AttrsRead missing.Unread) (table₀ table₁ : List ℕ) : Type 0 where
   pub answer : (key : ℕ) → said_run key r ≡ run_answer attrs (placed key what)
   pub stores : RunStores s at attrs what table₀ table₁
 
 -- ---- one entry, and entries one after the other
+
+-- what the code says of an entry, or of entries one after the other
+unfoldable pub said_read : {A : Type 0} → Result A EntryError → Said A
+said_read (Ok x) = gives x
+said_read (Err (error.Nested key)) = refuse reason.Nested key
+said_read (Err (error.Unread why key byte)) = unread why key byte
+
+-- an attribute that was not read, told of its entry
+unfoldable pub unread_at : ℕ → missing.Unread → EntryError
+unread_at key (missing.TheVariants.Short byte) = error.Unread reason.Short key byte
+unread_at key (missing.TheVariants.Unknown byte) = error.Unread reason.Attribute key byte
 
 -- a place and an end stay below this: a section's length and one more size
 abbrev pub farthest : ℕ
@@ -137,12 +148,7 @@ pub record BodyReady (s : List ℕ) (from : State) : Type 0 where
   pub ready : Ready s from
   pub here : from.at + 6 ≤ length s
 
--- what the code says of the entry at a place
-unfoldable pub said_body : ℕ → Body → Said State
-said_body key (body.Read state) = gives state
-said_body key (body.Unread why byte) = unread why key byte
-
--- its answer: one row more, and the attributes
+-- the answer: one row more, and the attributes
 abbrev pub body_answer : State → Said AttrsRead → Said State
 body_answer from what = what >>= (λ x. gives (advanced from 1 (length x.attrs) x.stopped))
 
@@ -155,22 +161,12 @@ BodyStores s from shape (gives x) rows₀ rows₁ attrs₀ attrs₁ =
 BodyStores s from shape (refuses number place counts) rows₀ rows₁ attrs₀ attrs₁ = Unit
 
 -- what reading a body answers and stores
-pub record BodyRead (s : List ℕ) (from : State) (shape : Shape) (what : Said AttrsRead) (r : Body) (rows₀ rows₁ attrs₀ attrs₁ : List ℕ) : Type 0 where
-  pub answer : said_body from.at r ≡ body_answer from what
+pub record BodyRead (s : List ℕ) (from : State) (shape : Shape) (what : Said AttrsRead) (r : Result State EntryError)
+    (rows₀ rows₁ attrs₀ attrs₁ : List ℕ) : Type 0 where
+  pub answer : said_read r ≡ body_answer from what
   pub stores : BodyStores s from shape what rows₀ rows₁ attrs₀ attrs₁
 
--- what the code says of a root's endianness
-unfoldable pub said_look : ℕ → Look → Said Endian
-said_look key (look.Is e) = gives e
-said_look key (look.Short byte) = unread reason.Short key byte
-
--- the same of an entry
-unfoldable pub said_entry : ℕ → entry.Entry → Said entry.Entry
-said_entry key (entry.TheVariants.Next state) = gives (entry.TheVariants.Next state)
-said_entry key (entry.TheVariants.Inside state e end) = gives (entry.TheVariants.Inside state e end)
-said_entry key entry.TheVariants.Nested = refuse reason.Nested key
-said_entry key (entry.TheVariants.Unread why byte) = unread why key byte
-
+-- what the code answers of an entry
 unfoldable pub entry_answer : State → Entry → entry.Entry
 entry_answer from (next rs xs place) = entry.TheVariants.Next (advanced from (length rs) (length xs) place)
 entry_answer from (inside r xs place e end) = entry.TheVariants.Inside (advanced from 1 (length xs) place) e end
@@ -181,17 +177,11 @@ EntryStores s from (gives (inside r xs place e end)) rows₀ rows₁ attrs₀ at
     Stored from (r ∷ []) xs place rows₀ rows₁ attrs₀ attrs₁ × Taken s from place × (end ≤ farthest)
 EntryStores s from (refuses number place counts) rows₀ rows₁ attrs₀ attrs₁ = Unit
 
-pub record EntryRead (s : List ℕ) (from : State) (what : Said Entry) (r : entry.Entry) (rows₀ rows₁ attrs₀ attrs₁ : List ℕ) : Type 0 where
-  pub answer : said_entry from.at r ≡ (what >>= (λ x. gives (entry_answer from x)))
+pub record EntryRead (s : List ℕ) (from : State) (what : Said Entry) (r : Result entry.Entry EntryError) (rows₀ rows₁ attrs₀ attrs₁ : List ℕ) : Type 0 where
+  pub answer : said_read r ≡ (what >>= (λ x. gives (entry_answer from x)))
   pub stores : EntryStores s from what rows₀ rows₁ attrs₀ attrs₁
 
--- what the walk says
-unfoldable pub said_walk : walk.Walk → Said State
-said_walk (walk.TheVariants.Walked state) = gives state
-said_walk (walk.TheVariants.Nested key) = refuse reason.Nested key
-said_walk (walk.TheVariants.Unread why key byte) = unread why key byte
-
--- and of entries one after the other: where reading then stands
+-- of entries one after the other: where reading then stands
 unfoldable pub walked : State → Said Entries → Said State
 walked from what = do
   all ← what
@@ -201,6 +191,6 @@ abbrev pub WalkStores : State → Said Entries → List ℕ → List ℕ → Lis
 WalkStores from (gives all) rows₀ rows₁ attrs₀ attrs₁ = Stored from all.rows all.attrs all.stopped rows₀ rows₁ attrs₀ attrs₁
 WalkStores from (refuses number place wanted) rows₀ rows₁ attrs₀ attrs₁ = Unit
 
-pub record WalkRead (from : State) (what : Said Entries) (r : walk.Walk) (rows₀ rows₁ attrs₀ attrs₁ : List ℕ) : Type 0 where
-  pub answer : said_walk r ≡ walked from what
+pub record WalkRead (from : State) (what : Said Entries) (r : Result State EntryError) (rows₀ rows₁ attrs₀ attrs₁ : List ℕ) : Type 0 where
+  pub answer : said_read r ≡ walked from what
   pub stores : WalkStores from what rows₀ rows₁ attrs₀ attrs₁

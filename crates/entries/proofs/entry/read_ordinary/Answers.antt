@@ -1,11 +1,12 @@
 use Rattle.entries.proofs.Laws.Entry.{ordinary-read, body-stops}
+use Rattle.entries.proofs.Laws.Run.{exit-is}
 use Rattle.entries.specs.Entry.{entry_from}
 use Rattle.entries.proofs.entry.read_ordinary.Goals as goal
 
-pub returns-in-Read : goal.returns-in-Read
+pub returns : goal.returns
 unfolding entry_from
-returns-in-Read c = ordinary-read _ _ _ _ _ _ _ c.read_body.ensures c.in-Read.is
+returns c = ordinary-read _ _ _ _ _ _ _ c.read_body.ensures c.in_ok-state.was
 
-pub returns-in-Unread : goal.returns-in-Unread
+pub returns-in_err-state : goal.returns-in_err-state
 unfolding entry_from
-returns-in-Unread c = body-stops _ _ _ _ _ c.read_body.ensures c.in-Unread.is
+returns-in_err-state c = body-stops _ _ _ _ _ c.read_body.ensures c.in_err-state.was (exit-is _ c.from_residual.ensures.1)

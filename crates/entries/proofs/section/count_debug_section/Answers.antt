@@ -1,20 +1,17 @@
-use borrow.Author.Tests.{not-true, not-false}
-use Rattle.entries.proofs.Laws.Section.{count-settings, count_long, count-read, count-nested, count-unread}
-use mathlib.Core.Path.{sym, ◌∙◌}
+use borrow.Author.Rules.{rules}
+use Rattle.entries.proofs.Laws.Section.{count-settings, count_long, count-read, count-stopped}
+use Rattle.entries.proofs.Laws.Run.{exit-is}
 use Rattle.entries.proofs.section.count_debug_section.Goals as goal
 
 pub returns-then-not-settings_hold : goal.returns-then-not-settings_hold
-returns-then-not-settings_hold c = count-settings _ _ _ _ (sym c.settings_hold.ensures ∙ not-true _ c.if-not-settings_hold.true-raw) c.refused.ensures
+returns-then-not-settings_hold c = count-settings _ _ _ _ (search rules) c.refused.ensures
 
 pub returns-then-s-ge-SECTION_LIMIT : goal.returns-then-s-ge-SECTION_LIMIT
-returns-then-s-ge-SECTION_LIMIT c = count_long _ _ _ _ (sym c.settings_hold.ensures ∙ not-false _ c.if-not-settings_hold.false-raw) c.if-s-ge-SECTION_LIMIT.true c.refused-then-s-ge-SECTION_LIMIT.ensures
+returns-then-s-ge-SECTION_LIMIT c = count_long _ _ _ _ (search rules) c.if-s-ge-SECTION_LIMIT.true c.refused-then-s-ge-SECTION_LIMIT.ensures
 
-pub returns-in-Walked : goal.returns-in-Walked
-returns-in-Walked c = count-read _ _ _ _ (sym c.settings_hold.ensures ∙ not-false _ c.if-not-settings_hold.false-raw) c.if-s-ge-SECTION_LIMIT.false c.count_whole.ensures c.in-Walked.is
+pub returns : goal.returns
+returns c = count-read _ _ _ _ (search rules) c.if-s-ge-SECTION_LIMIT.false c.count_whole.ensures c.in_ok-state.was
 
-pub returns-in-Nested : goal.returns-in-Nested
-returns-in-Nested c = count-nested _ _ _ _ (sym c.settings_hold.ensures ∙ not-false _ c.if-not-settings_hold.false-raw) c.if-s-ge-SECTION_LIMIT.false c.count_whole.ensures c.in-Nested.is
-    c.refused-in-Nested.ensures
-
-pub returns-in-Unread : goal.returns-in-Unread
-returns-in-Unread c = count-unread _ _ _ _ (sym c.settings_hold.ensures ∙ not-false _ c.if-not-settings_hold.false-raw) c.if-s-ge-SECTION_LIMIT.false c.count_whole.ensures c.in-Unread.is
+pub returns-in_err-state : goal.returns-in_err-state
+returns-in_err-state c = count-stopped _ _ _ _ (search rules) c.if-s-ge-SECTION_LIMIT.false c.count_whole.ensures
+    c.in_err-state.was (exit-is _ c.from_residual.ensures.1)

@@ -6,7 +6,8 @@ abbrev pub decreases-read_tags : goal.decreases-read_tags
 decreases-read_tags l = l.levels
 
 abbrev pub invariant-loop-state : goal.invariant-loop-state
-invariant-loop-state l = Loop l.vendors l.fixed.global l.fixed.erased l.s l.levels l.mode.erased l.mode.endian l.end l.initial.state l.initial.rows l.rows l.initial.attrs l.attrs l.state
+invariant-loop-state l =
+    Loop l.r.vendors.now l.r.global l.r.erased l.r.section.now l.levels l.mode.erased l.mode.endian l.end l.initial.state l.initial.rows l.rows l.initial.attrs l.attrs l.state
 
 abbrev pub decreases-loop-state : goal.decreases-loop-state
 decreases-loop-state l = l.end - l.state.at
