@@ -1,6 +1,6 @@
--- Laws. `Attribute` to `Typed`: for each way that the code comes to an answer. `There`: in a table that passed the table test, what a typed lookup finds
--- is wholly there. `Endless`, `Nine`: the walk is refused exactly when it would never end. `Back`: what is said leads back
--- to the answer. `Only`: no second answer fits.
+-- Laws. `Neighbour` to `AnyChild`: for the ways in which the code comes to an answer. `Typed`: what is known of the row of a key. `There`: in a table that
+-- passed the table test, what a typed lookup finds is wholly there. `Endless`, `Nine`: the walk is refused exactly when it would never end. `Only`: no second
+-- answer fits.
 pub mod Neighbour
 pub mod Attribute
 pub mod Link
@@ -11,5 +11,4 @@ pub mod Typed
 pub mod There
 pub mod Endless
 pub mod Nine
-pub mod Back
 pub mod Only

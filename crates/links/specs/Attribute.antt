@@ -1,17 +1,11 @@
 -- Attribute lookup, and where a row's references lead (document 01, 'Links'; the Rust's `impl Tag`). The first attribute of a kind counts.
-use Rattle.std.specs.Prelude.{ℕ, zero, suc, Bool, cond, ◌||◌, List, eqb}
+use Rattle.std.specs.Prelude.{Option, Some, None, ℕ, zero, suc, Bool, cond, ◌||◌, List, eqb}
 use Rattle.format.specs.AttributeKind as attribute
 use Rattle.numbers.specs.Value.{read_at}
 use Rattle.numbers.specs.declared.Endian.{Endian}
-use Rattle.numbers.specs.declared.unsigned.Read32.{Read32}
-use Rattle.numbers.specs.declared.unsigned.Read32.TheVariants as read32
 use Rattle.tables.specs.Row.{row_at, attr_at}
-use Rattle.tables.specs.declared.find.Found.{Found}
-use Rattle.tables.specs.declared.find.Found.TheVariants.{At, Nothing}
 use Rattle.links.specs.declared.lookup.Wanted.{Wanted}
 use Rattle.links.specs.declared.lookup.Wanted.TheVariants as wanted
-use Rattle.links.specs.declared.lookup.Reference.{Reference}
-use Rattle.links.specs.declared.lookup.Reference.TheVariants as reference
 
 -- the number of the attribute that refers to a row's sibling
 abbrev pub sibling_number : ℕ
@@ -23,24 +17,19 @@ wants (wanted.Number number) m = eqb m number
 wants wanted.Type m = ((eqb m attribute.fund_type || eqb m attribute.mod_fund_type) || eqb m attribute.user_def_type) || eqb m attribute.mod_ud_type
 
 -- the first of n attributes from i on that is wanted
-unfoldable pub attr_from : Wanted → List ℕ → ℕ → ℕ → Found
-attr_from w attrs i zero = Nothing
-attr_from w attrs i (suc n) = cond (wants w (attr_at attrs i).number) (At i) (attr_from w attrs (suc i) n)
+unfoldable pub attr_from : Wanted → List ℕ → ℕ → ℕ → Option ℕ
+attr_from w attrs i zero = None
+attr_from w attrs i (suc n) = cond (wants w (attr_at attrs i).number) (Some i) (attr_from w attrs (suc i) n)
 
 -- the first of row i's
-unfoldable pub attribute_of : List ℕ → List ℕ → ℕ → Wanted → Found
+unfoldable pub attribute_of : List ℕ → List ℕ → ℕ → Wanted → Option ℕ
 attribute_of rows attrs i w = attr_from w attrs (row_at rows i).first (row_at rows i).count
 
--- a reference: four bytes in section endianness; in a table that was tested they are there
-unfoldable pub as_reference : Read32 → Reference
-as_reference (read32.Value key) = reference.To key
-as_reference read32.Short = reference.Nothing
-
--- the reference that an attribute of the table says
-unfoldable pub reference_by : Endian → List ℕ → List ℕ → Found → Reference
-reference_by e s attrs (At k) = as_reference (read_at read32.Value read32.Short e 4 s (attr_at attrs k).value)
-reference_by e s attrs Nothing = reference.Nothing
+-- the reference that an attribute of the table says: four bytes in section endianness; in a table that was tested they are there
+unfoldable pub reference_by : Endian → List ℕ → List ℕ → Option ℕ → Option ℕ
+reference_by e s attrs (Some k) = read_at Some None e 4 s (attr_at attrs k).value
+reference_by e s attrs None = None
 
 -- the key that row i's first attribute of this number refers to
-unfoldable pub reference_of : Endian → List ℕ → List ℕ → List ℕ → ℕ → ℕ → Reference
+unfoldable pub reference_of : Endian → List ℕ → List ℕ → List ℕ → ℕ → ℕ → Option ℕ
 reference_of e s rows attrs i number = reference_by e s attrs (attribute_of rows attrs i (wanted.Number number))

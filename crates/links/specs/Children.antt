@@ -1,20 +1,12 @@
 -- `children`, the public call: 1, 2, 3; 11 for a key without a row; 9 where the walk would never end; 8 with the count needed.
 use Rattle.std.specs.Prelude.{ℕ, List, [], ◌∷◌, length, leb}
 use Rattle.lent.specs.Outcome.{Outcome}
-use Rattle.format.specs.Said.{Said, gives, refuse, refusal, wanting, ◌>>=◌, in_room, fills_room}
+use Rattle.format.specs.Said.{Said, gives, refuse, ◌>>=◌, in_room, fills_room}
 use Rattle.format.specs.declared.refusal.Reason.TheVariants as reason
 use Rattle.tables.specs.Table.{Table, table_rows}
 use Rattle.tables.specs.Keyed.{row_of}
 use Rattle.links.specs.Walk.{Walk, ends, endless}
 use Rattle.links.specs.Links.{child_walk, non_null}
-use Rattle.links.specs.declared.children.ChildRows.{ChildRows}
-use Rattle.links.specs.declared.children.ChildRows.TheVariants.{Listed, Refused, Room}
-
--- what an answer says
-unfoldable pub said_child_rows : ChildRows → Said ℕ
-said_child_rows (Listed k) = gives k
-said_child_rows (Refused why) = refusal why
-said_child_rows (Room k) = wanting (k ∷ [])
 
 -- the children that a walk meets; 9 at the key of the row that asks where it never ends
 unfoldable pub children_met : List ℕ → ℕ → Walk → Said (List ℕ)

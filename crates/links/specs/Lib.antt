@@ -1,7 +1,6 @@
--- Links between rows: `Maybe` (a value that may be absent), `Attribute` (lookups), `Walk` (a walk over rows), `Links` (next row, sibling, the child
+-- Links between rows: `Attribute` (lookups), `Walk` (a walk over rows), `Links` (next row, sibling, the child
 -- walk), `Children`, `Neighbour` and `Typed` (the public calls). For theorems: `There` (the bytes of a value are all there),
 -- `Endless` (a walk that never ends).
-pub mod Maybe
 pub mod Attribute
 pub mod Walk
 pub mod Links

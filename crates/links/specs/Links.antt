@@ -1,16 +1,11 @@
 -- Next row, sibling, children (document 01, 'Links'). A row is its number in the table; a row that is not there is the count of rows.
-use Rattle.std.specs.Prelude.{ℕ, zero, suc, ◌-◌, Bool, cond, not, ◌||◌, List, [], ◌∷◌, eqb}
+use Rattle.std.specs.Prelude.{Option, Some, None, ℕ, zero, suc, ◌-◌, Bool, cond, not, ◌||◌, List, [], ◌∷◌, eqb}
 use Rattle.format.specs.TagKind as tag
 use Rattle.tables.specs.Table.{Rows}
 use Rattle.tables.specs.Row.{row_at, erased_row}
 use Rattle.tables.specs.Find.{row_of_key}
-use Rattle.tables.specs.declared.find.Found.{Found}
-use Rattle.tables.specs.declared.find.Found.TheVariants.{At, Nothing}
 use Rattle.links.specs.Attribute.{sibling_number, reference_of}
 use Rattle.links.specs.Walk.{Walk, walk_from}
-use Rattle.links.specs.declared.lookup.Reference.{Reference}
-use Rattle.links.specs.declared.lookup.Reference.TheVariants.{To}
-use Rattle.links.specs.declared.lookup.Reference.TheVariants as reference
 
 -- the first of k rows from i on that is not passed over: an erased row is, unless the asking row is erased; i + k where there is none
 unfoldable pub next_from : List ℕ → Bool → ℕ → ℕ → ℕ
@@ -22,14 +17,14 @@ unfoldable pub next_row : List ℕ → ℕ → ℕ → ℕ
 next_row rows n i = next_from rows (erased_row (row_at rows i).flags) (suc i) (n - suc i)
 
 -- a row that was looked for, n where there is none
-unfoldable pub row_number : ℕ → Found → ℕ
-row_number n (At j) = j
-row_number n Nothing = n
+unfoldable pub row_number : ℕ → Option ℕ → ℕ
+row_number n (Some j) = j
+row_number n None = n
 
 -- the row that a reference names; without a reference, the row after row i
-unfoldable pub sibling_by : List ℕ → ℕ → ℕ → Reference → ℕ
-sibling_by rows n i (To key) = row_number n (row_of_key rows n key)
-sibling_by rows n i reference.Nothing = next_row rows n i
+unfoldable pub sibling_by : List ℕ → ℕ → ℕ → Option ℕ → ℕ
+sibling_by rows n i (Some key) = row_number n (row_of_key rows n key)
+sibling_by rows n i None = next_row rows n i
 
 -- row i's sibling
 unfoldable pub sibling_row : Rows → ℕ → ℕ

@@ -1,5 +1,5 @@
 -- What a typed lookup finds, told as the bytes that are there.
-use Rattle.std.specs.Prelude.{ℕ, ◌+◌, ◌≤◌, ◌<◌, ◌≡◌, ◌⊎◌, false, List, length}
+use Rattle.std.specs.Prelude.{Option, Some, None, ℕ, ◌+◌, ◌≤◌, ◌<◌, ◌≡◌, ◌⊎◌, false, List, length}
 use Rattle.numbers.specs.Value.{value_of}
 use Rattle.numbers.specs.declared.Endian.{Endian}
 use Rattle.format.specs.FormKind.{is_form}
@@ -8,8 +8,6 @@ use Rattle.format.specs.declared.form_kind.FormKind.TheVariants.{Addr, Ref, Bloc
 use Rattle.attributes.specs.Text.{zero_from}
 use Rattle.attributes.specs.declared.decode.Extent.{Extent}
 use Rattle.tables.specs.Row.{row_at}
-use Rattle.tables.specs.declared.find.Found.TheVariants.{Nothing}
-use Rattle.links.specs.Maybe.{Maybe, some}
 use Rattle.links.specs.Attribute.{attribute_of}
 use Rattle.links.specs.declared.lookup.Wanted.TheVariants as wanted
 
@@ -28,9 +26,9 @@ IsNumber String = ⊥
 IsNumber Undefined = ⊥
 
 -- a number is told
-pub record NumberTold (v : Maybe ℕ) : Type 0 where
+pub record NumberTold (v : Option ℕ) : Type 0 where
   pub number : ℕ
-  pub is_number : v ≡ some number
+  pub is_number : v ≡ Some number
 
 -- ---- texts and blocks
 
@@ -65,4 +63,4 @@ pub record Without (rows attrs : List ℕ) (n key number : ℕ) (form : FormKind
   pub row : ℕ
   pub is_there : row < n
   pub has_key : (row_at rows row).key ≡ key
-  pub none : (is_form form number ≡ false) ⊎ (attribute_of rows attrs row (wanted.Number number) ≡ Nothing)
+  pub none : (is_form form number ≡ false) ⊎ (attribute_of rows attrs row (wanted.Number number) ≡ None)

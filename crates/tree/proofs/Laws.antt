@@ -1,7 +1,7 @@
 -- Laws. `TreeTheorem`: demand 3, over the promises of the public calls. `Demand`: the code's test is the demand's words. `StandardForest`: a forest that
 -- the standard writes is listed as that forest; `ForestExample` has one. `ShutOut`: the wrong readers of document 01, each shut out by name. The others
--- lead to them: `Nested`, `Reach`, `Pick`, `Fault`, `Chain`, `Open`, `Stack`, `Tree`, `Child`, `WalkTree`, `Shape`, `StandardReach`. `Back`: what is said
--- leads back to the enum. `Only`: no second answer fits.
+-- lead to them: `Nested`, `Reach`, `Pick`, `Fault`, `Chain`, `Open`, `Stack`, `Tree`, `Child`, `WalkTree`, `Shape`, `StandardReach`. `Only`: no second
+-- answer fits.
 pub mod Ends
 pub mod Demand
 pub mod Nested
@@ -15,7 +15,6 @@ pub mod Tree
 pub mod Child
 pub mod WalkTree
 pub mod Demanded
-pub mod Back
 pub mod Only
 pub mod TreeListed
 pub mod TreeTheorem

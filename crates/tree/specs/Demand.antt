@@ -1,12 +1,10 @@
 -- Demand 3, the tree theorem, in its own words, of the rows of a table: row i is entry number i in file order, and its key is where the entry begins.
-use Rattle.std.specs.Prelude.{ℕ, suc, ◌+◌, ◌*◌, ◌≤◌, ◌<◌, ◌≡◌, ◌⊎◌, ◌↔◌, List, [], ◌∷◌, length, get_or, drop}
+use Rattle.std.specs.Prelude.{Option, Some, None, ℕ, suc, ◌+◌, ◌*◌, ◌≤◌, ◌<◌, ◌≡◌, ◌⊎◌, ◌↔◌, List, [], ◌∷◌, length, get_or, drop}
 use Rattle.std.proofs.lemmas.List.Edits.{sets}
 use Rattle.format.specs.Said.{Said, gives}
 use Rattle.tables.specs.Table.{Rows}
 use Rattle.tables.specs.Row.{row_at}
 use Rattle.links.specs.Attribute.{reference_of}
-use Rattle.links.specs.declared.lookup.Reference.{Reference}
-use Rattle.links.specs.declared.lookup.Reference.TheVariants.{To, Nothing}
 
 -- ---- lists
 
@@ -34,15 +32,15 @@ module _ (t : Rows) where
   key_of i = (row_at t.rows i).key
 
   -- what its sibling reference (attribute 0x0012) names, if it has one
-  abbrev pub sibling_of : ℕ → Reference
+  abbrev pub sibling_of : ℕ → Option ℕ
   sibling_of i = reference_of t.endian t.section t.rows t.attrs i 0x0012
 
   -- row i's reach runs from itself up to, and not with, a row: it is row i alone without a reference, all the rest where the reference names the
   -- section's end, and else runs up to the later row that the reference names
   pub data ReachEnds : ℕ → ℕ → Type 0 where
-    alone : (i : ℕ) → i < t.count → sibling_of i ≡ Nothing → ReachEnds i (suc i)
-    rest : (i : ℕ) → i < t.count → sibling_of i ≡ To (length t.section) → ReachEnds i t.count
-    up_to : (i j : ℕ) → i < j → j < t.count → sibling_of i ≡ To (key_of j) → ReachEnds i j
+    alone : (i : ℕ) → i < t.count → sibling_of i ≡ None → ReachEnds i (suc i)
+    rest : (i : ℕ) → i < t.count → sibling_of i ≡ Some (length t.section) → ReachEnds i t.count
+    up_to : (i j : ℕ) → i < j → j < t.count → sibling_of i ≡ Some (key_of j) → ReachEnds i j
 
   -- row j lies in row i's reach
   pub record Lies (i j : ℕ) : Type 0 where

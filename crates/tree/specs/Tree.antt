@@ -3,7 +3,7 @@
 use Rattle.std.specs.Prelude.{ℕ, zero, suc, ◌*◌, List, [], ◌∷◌, length, leb}
 use Rattle.tables.specs.Table.{Table, table_rows}
 use Rattle.lent.specs.Outcome.{Outcome}
-use Rattle.format.specs.Said.{Said, gives, refusal, wanting, must, ◌>>◌, in_room, fills_room}
+use Rattle.format.specs.Said.{Said, must, ◌>>◌, in_room, fills_room}
 use Rattle.format.specs.declared.refusal.Reason.{Reason}
 use Rattle.format.specs.declared.refusal.Reason.TheVariants as reason
 use Rattle.tables.specs.Row.{row_at, erased_row}
@@ -11,14 +11,6 @@ use Rattle.tables.specs.Tests.{test_table}
 use Rattle.tree.specs.Pick.{first_from}
 use Rattle.tree.specs.Reach.{reach_end}
 use Rattle.tree.specs.Nest.{depth, parent, first_fault, first_deep}
-use Rattle.tree.specs.declared.listing.Listing.{Listing}
-use Rattle.tree.specs.declared.listing.Listing.TheVariants.{Listed, Refused, Room}
-
--- what an answer says
-unfoldable pub said_listing : Listing → Said ℕ
-said_listing (Listed n) = gives n
-said_listing (Refused why) = refusal why
-said_listing (Room n) = wanting (n ∷ [])
 
 -- the words of a row's place in the tree: its depth, and its parent as a row number plus one, 0 for none
 abbrev pub place_width : ℕ

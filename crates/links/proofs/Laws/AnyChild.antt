@@ -1,6 +1,6 @@
 -- What follows from `AnyChild`: for each way that the code comes to an answer, and what an answer tells of the walk.
+use Rattle.std.specs.Prelude.{Option, Some, None}
 use Prim.Native.Nat.{ℕ, zero, suc, ◌+◌, ◌-◌, ◌≤◌, ◌<◌}
-use native.Mathlib.Nat.{sub-zero}
 use native.Mathlib.Omega.{arith}
 use mathlib.Core.Path.{◌≡◌, refl, sym, ap, ◌∙◌, subst}
 use mathlib.Core.Bool.{Bool, true, false, not, ◌||◌, or-false, true≢false}
@@ -17,8 +17,6 @@ use Rattle.links.specs.Links.{null_row, non_null, next_row, sibling_row, child_w
 use Rattle.links.specs.Inside.Links.{RowsHold}
 use Rattle.links.specs.Inside.EachChild.{rows_met, is_ending, walk_on, Ends}
 use Rattle.links.specs.Inside.AnyChild.{gone_over}
-use Rattle.links.specs.declared.any_child.Walked.{Walked}
-use Rattle.links.specs.declared.any_child.Walked.TheVariants.{Ended, Endless}
 use Rattle.links.proofs.Laws.Children.{at-end, past-last, goes, stopped, unended, met}
 
 -- ---- one turn of the walk
@@ -33,7 +31,7 @@ turned rows cs false c false h = rw (h, ne_eqb (suc (length (non_null rows cs)))
 -- a row that is met turns what is left into what is left after it
 over-met : (rows : List ℕ) (before : Bool) (c : ℕ) (w : Walk) → gone_over rows before (meets c w) ≡ gone_over rows (before || not (null_row rows c)) w
 unfolding gone_over meets
-over-met rows before c (ends cs) = ap Ended (turned rows cs before c (null_row rows c) refl)
+over-met rows before c (ends cs) = ap Some (turned rows cs before c (null_row rows c) refl)
 over-met rows before c endless = refl
 
 -- ---- the loop: what is left of the walk comes to the whole
@@ -42,24 +40,21 @@ pub record GoingOver (rows : List ℕ) (n : ℕ) (next : ℕ → ℕ) (end from 
   pub in_time : turns ≤ n
   pub left : gone_over rows before (walk_from n next end (n - turns) c) ≡ gone_over rows false (walk_from n next end n from)
 
-pub over-begins : (rows : List ℕ) (n : ℕ) (next : ℕ → ℕ) (end from : ℕ) → GoingOver rows n next end from from false 0
-over-begins rows n next end from = record { in_time = omega arith; left = rw sub-zero }
-
 module _ {rows : List ℕ} {n : ℕ} {next : ℕ → ℕ} {end from c : ℕ} {before : Bool} {turns : ℕ} (w : GoingOver rows n next end from c before turns) where
   -- the walk has stopped: what was met by then is all
-  over-stopped : stops n next end c ≡ true → Ended before ≡ gone_over rows false (walk_from n next end n from)
+  over-stopped : stops n next end c ≡ true → Some before ≡ gone_over rows false (walk_from n next end n from)
   unfolding gone_over non_null
-  over-stopped h = ap Ended (sym (or-false before)) ∙ ap (gone_over rows before) (sym (stopped n next end c h (n - turns))) ∙ w.left
+  over-stopped h = ap Some (sym (or-false before)) ∙ ap (gone_over rows before) (sym (stopped n next end c h (n - turns))) ∙ w.left
 
-  pub over-end : c ≡ end → Ended before ≡ gone_over rows false (walk_from n next end n from)
+  pub over-end : c ≡ end → Some before ≡ gone_over rows false (walk_from n next end n from)
   over-end h = over-stopped (at-end n next end c h)
 
-  pub over-past : n ≤ c → Ended before ≡ gone_over rows false (walk_from n next end n from)
+  pub over-past : n ≤ c → Some before ≡ gone_over rows false (walk_from n next end n from)
   over-past h = over-stopped (past-last n next end c h)
 
   module _ (h : c ≡ end → ⊥) (l : c < n) where
     -- all rows' turns are used up, and it has not
-    pub over-never : n ≤ turns → Endless ≡ gone_over rows false (walk_from n next end n from)
+    pub over-never : n ≤ turns → None ≡ gone_over rows false (walk_from n next end n from)
     unfolding gone_over
     over-never t =
         let none : n - turns ≡ zero = omega arith in
@@ -80,33 +75,23 @@ module _ {rows : List ℕ} {n : ℕ} {next : ℕ → ℕ} {end from c : ℕ} {be
               ∙ w.left;
         }
 
--- ---- the child walk of a row
-
-module _ (e : Endian) (s rows attrs : List ℕ) (n i : ℕ) where
-  pub over-children : {end from : ℕ} {told : Walked} → end ≡ sibling_row (lent_rows e s rows attrs n) i → from ≡ next_row rows n i
-      → told ≡ gone_over rows false (walk_on e s rows attrs n end from) → told ≡ gone_over rows false (child_walk (lent_rows e s rows attrs n) i)
-  unfolding child_walk walk_on
-  over-children {end} p q h =
-      h ∙ ap (λ (x : ℕ). gone_over rows false (walk_on e s rows attrs n end x)) q
-      ∙ ap (λ (x : ℕ). gone_over rows false (walk_on e s rows attrs n x (next_row rows n i))) p
-
 -- ---- what going over a walk tells of it
 
-abbrev IsEnded : Bool → Walked → Type 0
-IsEnded b (Ended x) = b ≡ x
-IsEnded b Endless = ⊥
+abbrev IsEnded : Bool → Option Bool → Type 0
+IsEnded b (Some x) = b ≡ x
+IsEnded b None = ⊥
 
-abbrev IsEndless : Walked → Type 0
-IsEndless (Ended x) = ⊥
-IsEndless Endless = Unit
+abbrev IsEndless : Option Bool → Type 0
+IsEndless (Some x) = ⊥
+IsEndless None = Unit
 
-ended_by : (rows : List ℕ) (w : Walk) {told : Walked} → told ≡ gone_over rows false w → {any : Bool} → told ≡ Ended any
+ended_by : (rows : List ℕ) (w : Walk) {told : Option Bool} → told ≡ gone_over rows false w → {any : Bool} → told ≡ Some any
     → (is_ending w ≡ true) × (any ≡ not (eqb (length (non_null rows (rows_met w))) 0))
 unfolding gone_over is_ending rows_met
 ended_by rows (ends cs) p {any} q = (refl, subst (IsEnded any) (sym q ∙ p) refl)
 ended_by rows endless p {any} q = absurd (subst (IsEnded any) (sym q ∙ p) refl)
 
-endless-by : (rows : List ℕ) (w : Walk) {told : Walked} → told ≡ gone_over rows false w → told ≡ Endless → w ≡ endless
+endless-by : (rows : List ℕ) (w : Walk) {told : Option Bool} → told ≡ gone_over rows false w → told ≡ None → w ≡ endless
 unfolding gone_over
 endless-by rows (ends cs) p q = absurd (subst IsEndless (sym q ∙ p) tt)
 endless-by rows endless p q = refl
@@ -116,8 +101,9 @@ unfolding is_ending rows_met
 ending-walk (ends cs) h = refl
 ending-walk endless h = absurd (true≢false (sym h))
 
-module _ (e : Endian) (s rows attrs : List ℕ) (n i : ℕ) {told : Walked} (is : told ≡ gone_over rows false (child_walk (lent_rows e s rows attrs n) i)) where
-  module _ {any : Bool} (p : told ≡ Ended any) where
+module _ (e : Endian) (s rows attrs : List ℕ) (n i : ℕ) {told : Option Bool}
+    (is : told ≡ gone_over rows false (child_walk (lent_rows e s rows attrs n) i)) where
+  module _ {any : Bool} (p : told ≡ Some any) where
     pub ended-ends : RowsHold rows n → Ends e s rows attrs n (sibling_row (lent_rows e s rows attrs n) i) (next_row rows n i)
     unfolding walk_on child_walk
     ended-ends table = record { table = table; ending = (ended_by rows _ is p).0 }
@@ -128,5 +114,5 @@ module _ (e : Endian) (s rows attrs : List ℕ) (n i : ℕ) {told : Walked} (is 
     pub ended-any : any ≡ not (eqb (length (non_null rows (rows_met (child_walk (lent_rows e s rows attrs n) i)))) 0)
     ended-any = (ended_by rows _ is p).1
 
-  pub endless-walk : told ≡ Endless → child_walk (lent_rows e s rows attrs n) i ≡ endless
+  pub endless-walk : told ≡ None → child_walk (lent_rows e s rows attrs n) i ≡ endless
   endless-walk p = endless-by rows _ is p

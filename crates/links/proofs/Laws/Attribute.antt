@@ -1,4 +1,5 @@
 -- What follows from `Attribute`, for each way that the code comes to an answer.
+use Rattle.std.specs.Prelude.{Option, Some, None}
 use Prim.Native.Nat.{ℕ, zero, suc, ◌+◌, ◌-◌, ◌≤◌, ◌<◌}
 use native.Mathlib.Nat.{le_refl}
 use native.Mathlib.Omega.{arith}
@@ -6,24 +7,15 @@ use mathlib.Core.Path.{◌≡◌, sym, ap, ◌∙◌, subst}
 use mathlib.Core.Bool.{Bool, true, false}
 use mathlib.Core.List.{List}
 use Rattle.numbers.proofs.Laws.Tests.{cond-all}
-use Rattle.numbers.specs.Value.{read_at}
-use Rattle.numbers.specs.declared.Endian.{Endian}
-use Rattle.numbers.specs.declared.unsigned.Read32.TheVariants as read32
 use Rattle.tables.specs.Row.{row_at, attr_at}
-use Rattle.tables.specs.declared.row.Row.{Row}
 use Rattle.tables.specs.declared.row.Attr.{Attr}
-use Rattle.tables.specs.declared.find.Found.{Found}
-use Rattle.tables.specs.declared.find.Found.TheVariants.{At, Nothing}
-use Rattle.links.specs.Attribute.{wants, attr_from, attribute_of, as_reference, reference_by, reference_of}
+use Rattle.links.specs.Attribute.{wants, attr_from, attribute_of}
 use Rattle.links.specs.declared.lookup.Wanted.{Wanted}
-use Rattle.links.specs.declared.lookup.Wanted.TheVariants as wanted
-use Rattle.links.specs.declared.lookup.Reference.{Reference}
-use Rattle.links.specs.declared.lookup.Reference.TheVariants as reference
 
 module _ (w : Wanted) (attrs : List ℕ) (first n k : ℕ) where
   -- the attribute at first + k is the first wanted
   pub attr-wanted : {a : Attr} {b : Bool} → k < n → a ≡ attr_at attrs (first + k) → b ≡ wants w a.number → b ≡ true
-      → At (first + k) ≡ attr_from w attrs (first + k) (n - k)
+      → Some (first + k) ≡ attr_from w attrs (first + k) (n - k)
   unfolding attr_from
   attr-wanted h p q t =
       let step : n - k ≡ suc (n - suc k) = omega arith in
@@ -40,24 +32,18 @@ module _ (w : Wanted) (attrs : List ℕ) (first n k : ℕ) where
       let test : wants w (attr_at attrs (first + k)).number ≡ false = ap (λ (x : Attr). wants w x.number) (sym p) ∙ sym q ∙ t in
       rw (step, test, place)
 
-  pub attr-none : n ≤ k → Nothing ≡ attr_from w attrs (first + k) (n - k)
+  pub attr-none : n ≤ k → None ≡ attr_from w attrs (first + k) (n - k)
   unfolding attr_from
   attr-none h = let step : n - k ≡ 0 = omega arith in rw step
 
--- row i's attributes are looked through
-pub attribute-first : (rows attrs : List ℕ) (i : ℕ) (w : Wanted) {row : Row} {r : Found} → row ≡ row_at rows i
-    → r ≡ attr_from w attrs row.first row.count → r ≡ attribute_of rows attrs i w
-unfolding attribute_of
-attribute-first rows attrs i w p h = h ∙ ap (λ (x : Row). attr_from w attrs x.first x.count) p
-
 -- what is found is one of the attributes looked through, and is wanted
-abbrev Among : Wanted → List ℕ → ℕ → ℕ → Found → Type 0
-Among w attrs first end (At k) = (first ≤ k) × (k < end) × (wants w (attr_at attrs k).number ≡ true)
-Among w attrs first end Nothing = Unit
+abbrev Among : Wanted → List ℕ → ℕ → ℕ → Option ℕ → Type 0
+Among w attrs first end (Some k) = (first ≤ k) × (k < end) × (wants w (attr_at attrs k).number ≡ true)
+Among w attrs first end None = Unit
 
-among-more : (w : Wanted) (attrs : List ℕ) (first end : ℕ) (found : Found) → Among w attrs (suc first) end found → Among w attrs first end found
-among-more w attrs first end (At k) g = (omega arith, g.1, g.2)
-among-more w attrs first end Nothing g = tt
+among-more : (w : Wanted) (attrs : List ℕ) (first end : ℕ) (found : Option ℕ) → Among w attrs (suc first) end found → Among w attrs first end found
+among-more w attrs first end (Some k) g = (omega arith, g.1, g.2)
+among-more w attrs first end None g = tt
 
 among : (w : Wanted) (attrs : List ℕ) (first n end : ℕ) → first + n ≡ end → Among w attrs first end (attr_from w attrs first n)
 unfolding attr_from
@@ -67,21 +53,10 @@ among w attrs first (suc n) end q =
     (λ f. among-more w attrs first end (attr_from w attrs (suc first) n) (among w attrs (suc first) n end (omega arith)))
 
 -- an attribute of row i that was found is one of the row's, and is wanted
-pub attribute-found : (rows attrs : List ℕ) (i : ℕ) (w : Wanted) {k : ℕ} → attribute_of rows attrs i w ≡ At k
+pub attribute-found : (rows attrs : List ℕ) (i : ℕ) (w : Wanted) {k : ℕ} → attribute_of rows attrs i w ≡ Some k
     → ((row_at rows i).first ≤ k) × (k < (row_at rows i).first + (row_at rows i).count) × (wants w (attr_at attrs k).number ≡ true)
 unfolding attribute_of
 attribute-found rows attrs i w p =
     let first : ℕ = (row_at rows i).first in
     let n : ℕ = (row_at rows i).count in
     subst (Among w attrs first (first + n)) p (among w attrs first n (first + n) (omega arith))
-
-module _ (e : Endian) (s rows attrs : List ℕ) (i number : ℕ) {found : Found} (is : found ≡ attribute_of rows attrs i (wanted.Number number)) where
-  pub reference-there : {k : ℕ} {a : Attr} {r : Reference} → found ≡ At k → a ≡ attr_at attrs k
-      → r ≡ as_reference (read_at read32.Value read32.Short e 4 s a.value) → r ≡ reference_of e s rows attrs i number
-  unfolding reference_of reference_by
-  reference-there p q h =
-      h ∙ ap (λ (x : Attr). as_reference (read_at read32.Value read32.Short e 4 s x.value)) q ∙ ap (reference_by e s attrs) (sym p ∙ is)
-
-  pub reference-none : found ≡ Nothing → reference.Nothing ≡ reference_of e s rows attrs i number
-  unfolding reference_of reference_by
-  reference-none p = ap (reference_by e s attrs) (sym p ∙ is)

@@ -1,6 +1,10 @@
 -- What follows from `Children` and its ways, for each way that the code comes to an answer.
+use Rattle.std.specs.Prelude.{Option, Some, None, Result, Ok, Err}
+use Rattle.format.specs.declared.refusal.Refusal.{Refusal}
+use Rattle.format.specs.declared.refusal.Unfilled.TheVariants.{Refused, Room}
+use Rattle.format.specs.Said.{said_counted, Said, gives, refuses, ◌>>=◌, in_room, fills_room}
 use Prim.Native.Nat.{ℕ, zero, suc, ◌+◌, ◌-◌, ◌≤◌, ◌<◌}
-use native.Mathlib.Nat.{add-zero, sub-zero}
+use native.Mathlib.Nat.{add-zero}
 use native.Mathlib.Omega.{arith}
 use mathlib.Core.Path.{◌≡◌, refl, sym, ap, ◌∙◌, subst}
 use mathlib.Core.Bool.{Bool, true, false, cond, or-true}
@@ -8,35 +12,23 @@ use mathlib.Core.List.{List, [], ◌∷◌}
 use lib.ListN.{length, set, length-set}
 use lib.Dec.{leb, eqb}
 use borrow.Author.Tests.{le-leb, lt-leb, eq-eqb, ne_eqb}
-use Rattle.tables.specs.Table.{Table, table, lent_rows}
+use Rattle.tables.specs.Table.{Table, table, table_rows}
 use Rattle.tables.specs.Keyed.{row_of}
-use Rattle.tables.specs.Inside.Keyed.{said_keyed, refused_at}
-use Rattle.tables.specs.declared.keyed.Keyed.{Keyed}
+use Rattle.tables.specs.Inside.Keyed.{refused_at}
 use Rattle.lent.specs.Outcome.{Outcome, Given}
 use Rattle.numbers.proofs.Laws.Tests.{cond-all}
 use Rattle.links.specs.Walk.{Walk, ends, endless, meets, stops, walk_from}
-use Rattle.format.specs.Limits.{entry_limit}
-use Rattle.format.specs.Said.{Said, ◌>>=◌, in_room, fills_room}
-use Rattle.format.proofs.Laws.Said.{goes_in}
-use Rattle.tables.specs.Row.{row_at}
-use Rattle.tables.specs.declared.row.Row.{Row}
 use Rattle.tables.specs.Holds.{TableHolds}
 use Rattle.tables.proofs.Laws.Held.{held-rising, held-rows-few}
 use Rattle.tables.specs.Tests.{Tells}
 use Rattle.tables.proofs.Laws.Tests.{passed-held}
 use Rattle.tables.specs.declared.row.Counts.{Counts}
-use Rattle.tables.specs.declared.tests.Tested.{Tested}
-use Rattle.tables.specs.declared.tests.Tested.TheVariants.{Passed}
 use Rattle.format.specs.declared.settings.Settings.{Settings}
 use Rattle.format.specs.declared.refusal.Reason.TheVariants as reason
-use Rattle.numbers.specs.declared.Endian.{Endian}
-use Rattle.links.specs.Links.{null_row, non_null, next_row, sibling_row, child_walk}
+use Rattle.links.specs.Links.{null_row, non_null, child_walk}
 use Rattle.links.specs.Inside.Links.{RowsHold}
-use Rattle.links.specs.Children.{said_child_rows, children_met, child_rows_of, children_of_key}
-use Rattle.links.specs.declared.children.ChildRows.TheVariants.{Listed, Refused, Room}
-use Rattle.links.specs.Inside.Children.{gathered_into, Gathers, TakesChild, Small, listed_into}
-use Rattle.links.specs.declared.children.Gathered.{Gathered}
-use Rattle.links.specs.declared.children.Gathered.TheVariants.{Count, Endless}
+use Rattle.links.specs.Children.{children_met, child_rows_of, children_of_key}
+use Rattle.links.specs.Inside.Children.{gathered_into, Gathers, TakesChild, listed_into}
 
 -- ---- one turn of the walk
 
@@ -99,12 +91,9 @@ pub record Walking (rows : List ℕ) (n : ℕ) (next : ℕ → ℕ) (end from : 
   pub same_room : length room ≡ length room₀
   pub left : gathered_into rows k room (walk_from n next end (n - turns) c) ≡ gathered_into rows 0 room₀ (walk_from n next end n from)
 
-pub walking-begins : (rows : List ℕ) (n : ℕ) (next : ℕ → ℕ) (end from : ℕ) (room : List ℕ) → Walking rows n next end from room room from 0 0
-walking-begins rows n next end from room = record { in_time = omega arith; counted = omega arith; same_room = refl; left = rw sub-zero }
-
-abbrev pub IsEndless : Gathered → Type 0
-IsEndless (Count k) = ⊥
-IsEndless Endless = Unit
+abbrev pub IsEndless : Option ℕ → Type 0
+IsEndless (Some k) = ⊥
+IsEndless None = Unit
 
 length_taken : (b : Bool) (room : List ℕ) (k c : ℕ) → length (cond b room (set room k c)) ≡ length room
 length_taken true room k c = refl
@@ -113,38 +102,40 @@ length_taken false room k c = length-set room k c
 module _ {rows : List ℕ} {n : ℕ} {next : ℕ → ℕ} {end from : ℕ} {room₀ room : List ℕ} {c k turns : ℕ}
     (w : Walking rows n next end from room₀ room c k turns) where
   -- the walk has stopped: all is gathered
-  gathered : stops n next end c ≡ true → Gathers (gathered_into rows 0 room₀ (walk_from n next end n from)) (Count k) room
+  gathered : stops n next end c ≡ true → Gathers (gathered_into rows 0 room₀ (walk_from n next end n from)) (Some k) room
   unfolding gathered_into non_null
   gathered h =
       let rest : gathered_into rows k room (ends []) ≡ gathered_into rows 0 room₀ (walk_from n next end n from) =
       ap (gathered_into rows k room) (sym (stopped n next end c h (n - turns))) ∙ w.left
       in
       record {
-        answer_is = ap Count (sym (add-zero k)) ∙ ap (λ (o : Outcome Gathered ℕ). o.answer) rest;
-        room_is = λ m p. ap (λ (o : Outcome Gathered ℕ). o.room) rest;
+        answer_is = ap Some (sym (add-zero k)) ∙ ap (λ (o : Outcome (Option ℕ) ℕ). o.answer) rest;
+        room_is = λ m p. ap (λ (o : Outcome (Option ℕ) ℕ). o.room) rest;
       }
 
-  pub gathered-end : c ≡ end → Gathers (gathered_into rows 0 room₀ (walk_from n next end n from)) (Count k) room
+  pub gathered-end : c ≡ end → Gathers (gathered_into rows 0 room₀ (walk_from n next end n from)) (Some k) room
   gathered-end h = gathered (at-end n next end c h)
 
-  pub gathered-past : n ≤ c → Gathers (gathered_into rows 0 room₀ (walk_from n next end n from)) (Count k) room
+  pub gathered-past : n ≤ c → Gathers (gathered_into rows 0 room₀ (walk_from n next end n from)) (Some k) room
   gathered-past h = gathered (past-last n next end c h)
 
   -- all rows' turns are used up, and it has not
-  pub gathered-never : (c ≡ end → ⊥) → c < n → n ≤ turns → Gathers (gathered_into rows 0 room₀ (walk_from n next end n from)) Endless room
+  pub gathered-never : (c ≡ end → ⊥) → c < n → n ≤ turns → Gathers (gathered_into rows 0 room₀ (walk_from n next end n from)) None room
   unfolding gathered_into
   gathered-never h l t =
       let none : n - turns ≡ zero = omega arith in
       let rest : gathered_into rows k room endless ≡ gathered_into rows 0 room₀ (walk_from n next end n from) =
       ap (gathered_into rows k room) (sym (ap (λ (f : ℕ). walk_from n next end f c) none ∙ unended n next end c (goes n next end c h l))) ∙ w.left
       in
-      record { answer_is = ap (λ (o : Outcome Gathered ℕ). o.answer) rest; room_is = λ m p. absurd (subst IsEndless p tt) }
+      record { answer_is = ap (λ (o : Outcome (Option ℕ) ℕ). o.answer) rest; room_is = λ m p. absurd (subst IsEndless p tt) }
 
   pub walking_on : (c ≡ end → ⊥) → c < n → turns < n → {r c' : ℕ} {room' : List ℕ} → TakesChild rows c k r room room' → c' ≡ next c
       → Walking rows n next end from room₀ room' c' r (turns + 1)
   walking_on h l t {r} {c'} {room'} takes p =
       let one : n - turns ≡ suc (n - (turns + 1)) = omega arith in
-      let most : r ≤ k + 1 = subst (λ (x : ℕ). x ≤ k + 1) (sym takes.count_is) (cond-all (λ (x : ℕ). x ≤ k + 1) (null_row rows c) (λ q. omega arith) (λ q. omega arith)) in
+      let most : r ≤ k + 1 =
+      subst (λ (x : ℕ). x ≤ k + 1) (sym takes.count_is) (cond-all (λ (x : ℕ). x ≤ k + 1) (null_row rows c) (λ q. omega arith) (λ q. omega arith))
+      in
       let counted' : k ≤ turns = w.counted in
       record {
         in_time = omega arith;
@@ -157,47 +148,16 @@ module _ {rows : List ℕ} {n : ℕ} {next : ℕ → ℕ} {end from : ℕ} {room
             ∙ w.left;
       }
 
--- ---- what is required along the way
+-- ---- the calls around the child walk of a row
 
-pub small-turn : (rows : List ℕ) {n : ℕ} {next : ℕ → ℕ} {end from : ℕ} {room₀ room : List ℕ} {c k turns : ℕ} → RowsHold rows n
-    → Walking rows n next end from room₀ room c k turns → c < n → turns < n → Small c k
-small-turn rows {n} {c = c} {k = k} {turns = turns} table w l t =
-    let few : n ≤ entry_limit = table.few in
-    let counted' : k ≤ turns = w.counted in
-    record { row_small = omega arith; count_small = omega arith }
-
-pub takes-null : (rows : List ℕ) (c k : ℕ) (room : List ℕ) {row : Row} → row ≡ row_at rows c → row.kind ≡ 0 → TakesChild rows c k k room room
-unfolding null_row
-takes-null rows c k room p h =
-    let test : null_row rows c ≡ true = eq-eqb (row_at rows c).kind 0 (ap (λ (r : Row). r.kind) (sym p) ∙ h) in
-    record { count_is = rw test; room_is = rw test }
-
-pub takes-row : (rows : List ℕ) (c k : ℕ) (room : List ℕ) {room' : List ℕ} {row : Row} → row ≡ row_at rows c → (row.kind ≡ 0 → ⊥) → room' ≡ set room k c
-    → TakesChild rows c k (k + 1) room room'
-unfolding null_row
-takes-row rows c k room p h q =
-    let test : null_row rows c ≡ false = ne_eqb (row_at rows c).kind 0 (λ z. h (ap (λ (r : Row). r.kind) p ∙ z)) in
-    record { count_is = rw test; room_is = q ∙ rw test }
-
--- ---- the child walk of a row, and the calls around it
-
-module _ (e : Endian) (s rows attrs : List ℕ) (n i : ℕ) where
-  pub gathers-children : (room : List ℕ) {end from : ℕ} {room' : List ℕ} {r : Gathered} → end ≡ sibling_row (lent_rows e s rows attrs n) i → from ≡ next_row rows n i
-      → Gathers (gathered_into rows 0 room (walk_from n (λ c. sibling_row (lent_rows e s rows attrs n) c) end n from)) r room'
-      → Gathers (gathered_into rows 0 room (child_walk (lent_rows e s rows attrs n) i)) r room'
-  unfolding child_walk
-  gathers-children room {end} {from} {room'} {r} p q g =
-      subst (λ (x : ℕ). Gathers (gathered_into rows 0 room (walk_from n (λ c. sibling_row (lent_rows e s rows attrs n) c) x n (next_row rows n i))) r room') p
-      (subst (λ (x : ℕ). Gathers (gathered_into rows 0 room (walk_from n (λ c. sibling_row (lent_rows e s rows attrs n) c) end n x)) r room') q g)
-
-abbrev pub IsCount : ℕ → Gathered → Type 0
-IsCount k (Count m) = k ≡ m
-IsCount k Endless = ⊥
+abbrev pub IsCount : ℕ → Option ℕ → Type 0
+IsCount k (Some m) = k ≡ m
+IsCount k None = ⊥
 
 module _ (rows : List ℕ) (key : ℕ) (room : List ℕ) where
-  listed_by : (w : Walk) (told : Gathered) → told ≡ (gathered_into rows 0 [] w).answer → (k : ℕ) → told ≡ Count k → k ≤ length room → {r : Gathered} {room' : List ℕ}
-      → Gathers (gathered_into rows 0 room w) r room' → Given (listed_into rows key room w) (said_child_rows (Listed k)) room'
-  unfolding gathered_into listed_into children_met in_room fills_room said_child_rows
+  listed_by : (w : Walk) (told : Option ℕ) → told ≡ (gathered_into rows 0 [] w).answer → (k : ℕ) → told ≡ Some k → k ≤ length room
+      → {r : Option ℕ} {room' : List ℕ} → Gathers (gathered_into rows 0 room w) r room' → Given (listed_into rows key room w) (said_counted (Ok k)) room'
+  unfolding gathered_into listed_into children_met in_room fills_room said_counted
   listed_by (ends cs) told p k q h {r} g =
       let told-many : k ≡ 0 + length (non_null rows cs) = subst (IsCount k) (sym q ∙ p) refl in
       let many : k ≡ length (non_null rows cs) = omega arith in
@@ -205,9 +165,9 @@ module _ (rows : List ℕ) (key : ℕ) (room : List ℕ) where
       record { answer_is = rw (fit, many); room_is = rw fit (g.room_is (0 + length (non_null rows cs)) g.answer_is) }
   listed_by endless told p k q h g = absurd (subst (IsCount k) (sym q ∙ p) refl)
 
-  unfit-by : (w : Walk) (told : Gathered) → told ≡ (gathered_into rows 0 [] w).answer → (k : ℕ) → told ≡ Count k → length room < k
-      → Given (listed_into rows key room w) (said_child_rows (Room k)) room
-  unfolding gathered_into listed_into children_met in_room fills_room said_child_rows
+  unfit-by : (w : Walk) (told : Option ℕ) → told ≡ (gathered_into rows 0 [] w).answer → (k : ℕ) → told ≡ Some k → length room < k
+      → Given (listed_into rows key room w) (said_counted (Err (Room k))) room
+  unfolding gathered_into listed_into children_met in_room fills_room said_counted
   unfit-by (ends cs) told p k q h =
       let told-many : k ≡ 0 + length (non_null rows cs) = subst (IsCount k) (sym q ∙ p) refl in
       let many : k ≡ length (non_null rows cs) = omega arith in
@@ -215,36 +175,37 @@ module _ (rows : List ℕ) (key : ℕ) (room : List ℕ) where
       record { answer_is = rw (fit, many); room_is = rw fit }
   unfit-by endless told p k q h = absurd (subst (IsCount k) (sym q ∙ p) refl)
 
-  never-by : (w : Walk) (told : Gathered) → told ≡ (gathered_into rows 0 [] w).answer → told ≡ Endless
-      → Given (listed_into rows key room w) (said_child_rows (Refused (refused_at key reason.Link))) room
-  unfolding gathered_into listed_into children_met in_room said_child_rows
+  never-by : (w : Walk) (told : Option ℕ) → told ≡ (gathered_into rows 0 [] w).answer → told ≡ None
+      → Given (listed_into rows key room w) (said_counted (Err (Refused (refused_at key reason.Link)))) room
+  unfolding gathered_into listed_into children_met in_room said_counted
   never-by (ends cs) told p q = absurd (subst IsEndless (sym q ∙ p) tt)
   never-by endless told p q = record { answer_is = refl; room_is = refl }
 
-  module _ (w : Walk) {told : Gathered} (p : told ≡ (gathered_into rows 0 [] w).answer) where
-    pub given-listed : {k : ℕ} → told ≡ Count k → k ≤ length room → {r : Gathered} {room' : List ℕ} → Gathers (gathered_into rows 0 room w) r room'
-        → Given (listed_into rows key room w) (said_child_rows (Listed k)) room'
+  module _ (w : Walk) {told : Option ℕ} (p : told ≡ (gathered_into rows 0 [] w).answer) where
+    pub given-listed : {k : ℕ} → told ≡ Some k → k ≤ length room → {r : Option ℕ} {room' : List ℕ} → Gathers (gathered_into rows 0 room w) r room'
+        → Given (listed_into rows key room w) (said_counted (Ok k)) room'
     given-listed {k} q h g = listed_by w told p k q h g
 
-    pub given-unfit : {k : ℕ} → told ≡ Count k → length room < k → Given (listed_into rows key room w) (said_child_rows (Room k)) room
+    pub given-unfit : {k : ℕ} → told ≡ Some k → length room < k → Given (listed_into rows key room w) (said_counted (Err (Room k))) room
     given-unfit {k} q h = unfit-by w told p k q h
 
-    pub given-never : told ≡ Endless → Given (listed_into rows key room w) (said_child_rows (Refused (refused_at key reason.Link))) room
+    pub given-never : told ≡ None → Given (listed_into rows key room w) (said_counted (Err (Refused (refused_at key reason.Link)))) room
     given-never q = never-by w told p q
 
-pub tested-rows : {settings : Settings} {vendors sizes s rows attrs : List ℕ} {counts : Counts} {told : Tested}
-    → Tells (table s settings vendors sizes rows attrs counts) told → told ≡ Passed → RowsHold rows counts.rows
+pub tested-rows : {settings : Settings} {vendors sizes s rows attrs : List ℕ} {counts : Counts} {told : Result Unit Refusal}
+    → Tells (table s settings vendors sizes rows attrs counts) told → told ≡ Ok tt → RowsHold rows counts.rows
 tested-rows {s = s} {rows = rows} {attrs = attrs} {counts = counts} is p =
     let c : TableHolds s _ rows attrs counts = passed-held is p in record { rising = held-rising c; few = held-rows-few c }
 
+-- a room after a step is one room for both
+in-bind : {A B C E : Type 0} (room : List E) (d : Said A) (f : A → Said B) (next : B → Outcome (Said C) E)
+    → in_room room d (λ x. in_room room (f x) next) ≡ in_room room (d >>= f) next
+unfolding in_room ◌>>=◌
+in-bind room (gives x) f next = refl
+in-bind room (refuses number place counts) f next = refl
+
 -- from what the row of a key comes to
-module _ (t : Table) (key : ℕ) (room : List ℕ) {told x : Keyed} (is : said_keyed told ≡ row_of t key) (p : told ≡ x) where
-  abbrev met_by : ℕ → Said (List ℕ)
-  met_by i = children_met t.rows key (child_walk (lent_rows t.settings.endian t.section t.rows t.attrs t.counts.rows) i)
-
-  abbrev into : List ℕ → Outcome (Said ℕ) ℕ
-  into cs = fills_room (leb (length cs) (length room)) (length cs) (length cs ∷ []) cs room
-
-  pub children-from : {z : Said ℕ} {room' : List ℕ} → Given (in_room room (said_keyed x >>= met_by) into) z room' → Given (children_of_key t key room) z room'
-  unfolding children_of_key child_rows_of
-  children-from = goes_in (λ (r : Keyed). said_keyed r >>= met_by) (ap (λ (d : Said ℕ). d >>= met_by) is) p room into
+pub children-keyed : (t : Table) (key : ℕ) (room : List ℕ) {z : Said ℕ} {room' : List ℕ}
+    → Given (in_room room (row_of t key) (λ i. listed_into t.rows key room (child_walk (table_rows t) i))) z room' → Given (children_of_key t key room) z room'
+unfolding children_of_key child_rows_of listed_into
+children-keyed t key room {z} {room'} = subst (λ o. Given o z room') (in-bind room (row_of t key) _ _)

@@ -1,4 +1,5 @@
 -- What follows from `EachChild`: a walk that ends also ends from each row that it meets, so that its children can be taken one at a time.
+use Rattle.std.specs.Prelude.{Option, Some, None}
 use Prim.Native.Nat.{ℕ, zero, suc, ◌+◌, ◌≤◌, ◌<◌}
 use native.Mathlib.Nat.{le_refl, le_trans, lt_of_not-le}
 use native.Mathlib.Decide.{dec_le}
@@ -16,13 +17,11 @@ use Rattle.tables.specs.Row.{row_at}
 use Rattle.tables.specs.declared.row.Row.{Row}
 use Rattle.links.specs.Walk.{Walk, ends, endless, meets, stops, walk_from}
 use Rattle.links.specs.Links.{next_row, sibling_row, child_walk, null_row, non_null}
-use Rattle.links.specs.Inside.Links.{AtRow, RowsHold}
+use Rattle.links.specs.Inside.Links.{RowsHold}
 use Rattle.links.specs.Inside.Children.{gathered_into}
 use Rattle.links.proofs.Laws.Children.{at-end, past-last, goes, stopped, unended, met, IsEndless, IsCount}
 use Rattle.links.proofs.Laws.Endless.{on_below}
 use Rattle.links.specs.Inside.EachChild.{rows_met, is_ending, walk_on, children_from, children_at, Ends, first_or}
-use Rattle.links.specs.declared.children.Gathered.{Gathered}
-use Rattle.links.specs.declared.children.Gathered.TheVariants.{Count, Endless}
 
 -- what follows from both answers of a test
 by-test : {P : Type 0} (b : Bool) → (b ≡ true → P) → (b ≡ false → P) → P
@@ -130,7 +129,17 @@ module _ (e : Endian) (s rows attrs : List ℕ) (n end : ℕ) where
       by-test (Stops c) (λ h. inl (stopped-children c h))
       (λ h. by-test (null_row rows c)
       (λ t. (let less : rest c ≡ suc (rest (after c)) = fewer w h in firsts-on (null-children w h t) (firsts m (after c) (omega arith) (ends-after w h))))
-      (λ t. inr (c, record { there = on_below n (λ d. sibling_row (lent_rows e s rows attrs n) d) end c h; kept = t; here = w; own = row-children w h t; on = ends-after w h; list = row-children w h t })))
+      (λ t. inr (
+        c,
+        record {
+          there = on_below n (λ d. sibling_row (lent_rows e s rows attrs n) d) end c h;
+          kept = t;
+          here = w;
+          own = row-children w h t;
+          on = ends-after w h;
+          list = row-children w h t;
+        },
+      )))
 
   -- from a row that is not there on, there are none
   past-children : (c : ℕ) → n ≤ c → children_from e s rows attrs n end c ≡ []
@@ -138,7 +147,8 @@ module _ (e : Endian) (s rows attrs : List ℕ) (n end : ℕ) where
 
   past-ends : (c : ℕ) → n ≤ c → is_ending (walk_on e s rows attrs n end c) ≡ true
   unfolding walk_on is_ending
-  past-ends c l = ap is_ending (stopped n (λ d. sibling_row (lent_rows e s rows attrs n) d) end c (past-last n (λ d. sibling_row (lent_rows e s rows attrs n) d) end c l) n)
+  past-ends c l =
+      let next : ℕ → ℕ = λ d. sibling_row (lent_rows e s rows attrs n) d in ap is_ending (stopped n next end c (past-last n next end c l) n)
 
   module _ {c : ℕ} (w : Ends e s rows attrs n end c) {d : ℕ} (is : d ≡ first_or n (children_from e s rows attrs n end c)) where
     first : d < n → First c d
@@ -166,7 +176,11 @@ module _ (e : Endian) (s rows attrs : List ℕ) (n end : ℕ) where
 
     -- from the first child on, or from n where there is none, the children are the same
     pub children-same : children_from e s rows attrs n end d ≡ children_from e s rows attrs n end c
-    children-same = elim (dec_le n d) [ yes l ↦ past-children d l ∙ sym (children-none l) | no l ↦ let f : First c d = first (lt_of_not-le l) in f.own ∙ sym f.list ]
+    children-same =
+        elim (dec_le n d) [
+          | yes l ↦ past-children d l ∙ sym (children-none l)
+          | no l ↦ (let f : First c d = first (lt_of_not-le l) in f.own ∙ sym f.list)
+        ]
 
     pub ends_same : Ends e s rows attrs n end d
     ends_same = elim (dec_le n d) [ yes l ↦ record { table = w.table; ending = past-ends d l } | no l ↦ (first (lt_of_not-le l)).here ]
@@ -179,9 +193,6 @@ module _ (e : Endian) (s rows attrs : List ℕ) (n end : ℕ) where
   pub record Seeking (from c : ℕ) : Type 0 where
     pub on : Ends e s rows attrs n end c
     pub left : children_from e s rows attrs n end c ≡ children_from e s rows attrs n end from
-
-  pub seeking-begins : {from : ℕ} → Ends e s rows attrs n end from → Seeking from from
-  seeking-begins w = record { on = w; left = refl }
 
   module _ {from c : ℕ} (w : Seeking from c) where
     none_left : Stops c ≡ true → n ≡ first_or n (children_from e s rows attrs n end from)
@@ -203,9 +214,6 @@ module _ (e : Endian) (s rows attrs : List ℕ) (n end : ℕ) where
       seeking-found p k =
           ap (first_or n) (sym (row-children w.on on-way (ne_eqb (row_at rows c).kind 0 (λ z. k (ap (λ (r : Row). r.kind) p ∙ z)))) ∙ w.left)
 
-      pub seeking-at : AtRow rows n c
-      seeking-at = record { rising = w.on.table.rising; there = l }
-
       pub seeking-on : {row : Row} {c' : ℕ} → row ≡ row_at rows c → row.kind ≡ 0 → c' ≡ sibling_row (lent_rows e s rows attrs n) c → Seeking from c'
       unfolding null_row
       seeking-on p k q =
@@ -222,7 +230,7 @@ module _ (e : Endian) (s rows attrs : List ℕ) (n end : ℕ) where
 
 -- ---- what counting tells
 
-counted-by : (rows : List ℕ) (w : Walk) {told : Gathered} → told ≡ (gathered_into rows 0 [] w).answer → {k : ℕ} → told ≡ Count k
+counted-by : (rows : List ℕ) (w : Walk) {told : Option ℕ} → told ≡ (gathered_into rows 0 [] w).answer → {k : ℕ} → told ≡ Some k
     → (is_ending w ≡ true) × (k ≡ length (non_null rows (rows_met w)))
 unfolding gathered_into is_ending rows_met
 counted-by rows (ends cs) p {k} q =
@@ -230,7 +238,7 @@ counted-by rows (ends cs) p {k} q =
     (refl, omega arith)
 counted-by rows endless p {k} q = absurd (subst (IsCount k) (sym q ∙ p) refl)
 
-endless-by : (rows : List ℕ) (w : Walk) {told : Gathered} → told ≡ (gathered_into rows 0 [] w).answer → told ≡ Endless → w ≡ endless
+endless-by : (rows : List ℕ) (w : Walk) {told : Option ℕ} → told ≡ (gathered_into rows 0 [] w).answer → told ≡ None → w ≡ endless
 unfolding gathered_into
 endless-by rows (ends cs) p q = absurd (subst IsEndless (sym q ∙ p) tt)
 endless-by rows endless p q = refl
@@ -254,19 +262,19 @@ module _ (e : Endian) (s rows attrs : List ℕ) (n i : ℕ) where
   unfolding children_at children_from walk_on child_walk rows_met
   walk-children p = ap (λ (w : Walk). non_null rows (rows_met w)) p
 
-  module _ {told : Gathered} (is : told ≡ (gathered_into rows 0 [] (child_walk (lent_rows e s rows attrs n) i)).answer) where
-    pub counted-ends : {k : ℕ} → RowsHold rows n → told ≡ Count k → Ends e s rows attrs n (sibling_row (lent_rows e s rows attrs n) i) (next_row rows n i)
+  module _ {told : Option ℕ} (is : told ≡ (gathered_into rows 0 [] (child_walk (lent_rows e s rows attrs n) i)).answer) where
+    pub counted-ends : {k : ℕ} → RowsHold rows n → told ≡ Some k → Ends e s rows attrs n (sibling_row (lent_rows e s rows attrs n) i) (next_row rows n i)
     unfolding walk_on child_walk
     counted-ends table p = record { table = table; ending = (counted-by rows _ is p).0 }
 
-    pub counted-children : {k : ℕ} → told ≡ Count k → k ≡ length (children_at e s rows attrs n i)
+    pub counted-children : {k : ℕ} → told ≡ Some k → k ≡ length (children_at e s rows attrs n i)
     unfolding children_at children_from walk_on child_walk
     counted-children p = (counted-by rows _ is p).1
 
-    pub counted-walk : {k : ℕ} → told ≡ Count k → child_walk (lent_rows e s rows attrs n) i ≡ ends (rows_met (child_walk (lent_rows e s rows attrs n) i))
+    pub counted-walk : {k : ℕ} → told ≡ Some k → child_walk (lent_rows e s rows attrs n) i ≡ ends (rows_met (child_walk (lent_rows e s rows attrs n) i))
     counted-walk p = ending-walk (child_walk (lent_rows e s rows attrs n) i) (counted-by rows _ is p).0
 
-    pub endless-walk : told ≡ Endless → child_walk (lent_rows e s rows attrs n) i ≡ endless
+    pub endless-walk : told ≡ None → child_walk (lent_rows e s rows attrs n) i ≡ endless
     endless-walk p = endless-by rows _ is p
 
 -- ---- how many children there are at most
@@ -281,8 +289,9 @@ unfolding walk_from rows_met
 few-walked n next end zero c = cond-all (λ (w : Walk). length (rows_met w) ≤ 0) (stops n next end c) (λ t. omega arith) (λ t. omega arith)
 few-walked n next end (suc turns) c =
     cond-all (λ (w : Walk). length (rows_met w) ≤ suc turns) (stops n next end c) (λ t. omega arith)
-    (λ t. (let here : length (rows_met (meets c (walk_from n next end turns (next c)))) ≤ suc (length (rows_met (walk_from n next end turns (next c)))) = few-met c (walk_from n next end turns (next c)) in
-    let rest : length (rows_met (walk_from n next end turns (next c))) ≤ turns = few-walked n next end turns (next c) in
+    (λ t. (let more : Walk = walk_from n next end turns (next c) in
+    let here : length (rows_met (meets c more)) ≤ suc (length (rows_met more)) = few-met c more in
+    let rest : length (rows_met more) ≤ turns = few-walked n next end turns (next c) in
     omega arith))
 
 few-kept : (rows cs : List ℕ) → length (non_null rows cs) ≤ length cs

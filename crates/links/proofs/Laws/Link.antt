@@ -4,16 +4,9 @@ use native.Mathlib.Omega.{arith}
 use mathlib.Core.Path.{◌≡◌, sym, ap, ◌∙◌, subst}
 use mathlib.Core.Bool.{Bool, true, false}
 use mathlib.Core.List.{List}
-use Rattle.tables.specs.Table.{lent_rows}
 use Rattle.tables.specs.Row.{row_at, erased_row}
 use Rattle.tables.specs.declared.row.Row.{Row}
-use Rattle.numbers.specs.declared.Endian.{Endian}
-use Rattle.tables.specs.Find.{row_of_key}
-use Rattle.links.specs.Attribute.{sibling_number, reference_of}
-use Rattle.links.specs.Links.{next_from, next_row, row_number, sibling_by, sibling_row}
-use Rattle.links.specs.declared.lookup.Reference.{Reference}
-use Rattle.links.specs.declared.lookup.Reference.TheVariants.{To}
-use Rattle.links.specs.declared.lookup.Reference.TheVariants as reference
+use Rattle.links.specs.Links.{next_from}
 
 module _ (rows : List ℕ) (asking : Bool) (n j : ℕ) where
   -- an erased row that asks passes over none
@@ -40,23 +33,6 @@ module _ (rows : List ℕ) (asking : Bool) (n j : ℕ) where
       let test : erased_row (row_at rows j).flags ≡ true = ap (λ (r : Row). erased_row r.flags) (sym p) ∙ sym q ∙ e in
       subst (λ (a : Bool). next_from rows a (j + 1) (n - (j + 1)) ≡ next_from rows a j (n - j)) (sym t) (rw (step, test, ← place))
 
-  pub next-none : n ≤ j → j ≡ next_from rows asking j (n - j)
+  pub next-none : n ≤ j → j ≤ n → n ≡ next_from rows asking j (n - j)
   unfolding next_from
-  next-none h = let step : n - j ≡ 0 = omega arith in rw step
-
-pub next-after : (rows : List ℕ) (n i : ℕ) {row : Row} {b : Bool} {r : ℕ} → row ≡ row_at rows i → b ≡ erased_row row.flags
-    → r ≡ next_from rows b (i + 1) (n - (i + 1)) → r ≡ next_row rows n i
-unfolding next_row
-next-after rows n i p q h =
-    let place : i + 1 ≡ suc i = omega arith in
-    h ∙ ap (λ (x : Bool). next_from rows x (i + 1) (n - (i + 1))) (q ∙ ap (λ (r : Row). erased_row r.flags) p)
-    ∙ ap (λ (k : ℕ). next_from rows (erased_row (row_at rows i).flags) k (n - k)) place
-
-module _ (e : Endian) (s rows attrs : List ℕ) (n i : ℕ) {told : Reference} (is : told ≡ reference_of e s rows attrs i sibling_number) where
-  pub sibling-named : {key r : ℕ} → told ≡ To key → r ≡ row_number n (row_of_key rows n key) → r ≡ sibling_row (lent_rows e s rows attrs n) i
-  unfolding sibling_row sibling_by
-  sibling-named p h = h ∙ ap (sibling_by rows n i) (sym p ∙ is)
-
-  pub sibling-next : {r : ℕ} → told ≡ reference.Nothing → r ≡ next_row rows n i → r ≡ sibling_row (lent_rows e s rows attrs n) i
-  unfolding sibling_row sibling_by
-  sibling-next p h = h ∙ ap (sibling_by rows n i) (sym p ∙ is)
+  next-none h l = let step : n - j ≡ 0 = omega arith in rw step (omega arith)

@@ -51,7 +51,8 @@ not-nine false n counts words room p = let z : ◌≡◌ {A = ℕ} 8 9 = ap numb
 
 module _ (t : Table) (key i : ℕ) (row : row_of t key ≡ gives i) (room : List ℕ) where
   by-walk : (w : Walk) → child_walk (table_rows t) i ≡ w
-      → ((in_room room (children_met t.rows key w) (λ cs. fills_room (leb (length cs) (length room)) (length cs) (length cs ∷ []) cs room)).answer ≡ refuse reason.Link key)
+      → ((in_room room (children_met t.rows key w) (λ cs. fills_room (leb (length cs) (length room)) (length cs) (length cs ∷ []) cs room)).answer
+      ≡ refuse reason.Link key)
       ↔ NeverEnds (table_rows t) i
   unfolding children_met in_room
   by-walk (ends cs) p = (λ q. absurd (not-nine _ _ _ _ room q), λ never. absurd (apart (sym p ∙ never-when (table_rows t) i never)))

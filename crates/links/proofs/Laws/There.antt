@@ -1,5 +1,7 @@
 -- In a table that passed the table test the bytes of every value are there: a typed lookup says nothing only where there is nothing to say, and a text or a
 -- block that is told as found is whole.
+use Rattle.std.specs.Prelude.{Option, Some, None, Result, Ok, Err}
+use Rattle.format.specs.Said.{said, Said, gives, refuses, ◌>>=◌}
 use Prim.Native.Nat.{ℕ, suc, ◌+◌, ◌-◌, ◌≤◌, ◌<◌}
 use native.Mathlib.Omega.{arith}
 use mathlib.Core.Path.{◌≡◌, refl, sym, ap, ◌∙◌, subst}
@@ -15,56 +17,45 @@ use Rattle.numbers.specs.Value.{value_of, there, read_at}
 use Rattle.numbers.proofs.Laws.Value.{there-inside, reads}
 use Rattle.numbers.proofs.Laws.Written.{inside-there}
 use Rattle.numbers.specs.declared.Endian.{Endian}
-use Rattle.numbers.specs.declared.unsigned.Read16.TheVariants as read16
-use Rattle.numbers.specs.declared.unsigned.Read32.TheVariants as read32
-use Rattle.format.specs.Said.{Said, gives, refuses, ◌>>=◌}
 use Rattle.format.proofs.Laws.Said.{given_is, given-refused}
 use Rattle.format.specs.Lookup.{lookup}
 use Rattle.format.specs.FormKind.{forms, form_of, form_number, is_form}
 use Rattle.format.specs.declared.form_kind.FormKind.{FormKind}
 use Rattle.format.specs.declared.form_kind.FormKind.TheVariants.{Addr, Ref, Block2, Block4, Data2, Data4, Data8, String, Undefined}
 use Rattle.format.specs.declared.settings.Settings.{Settings}
+use Rattle.attributes.specs.declared.value.Unread.{Unread}
+use Rattle.attributes.specs.declared.value.Unread.TheVariants as unread
 use Rattle.attributes.specs.Text.{zero_from}
 use Rattle.attributes.specs.End.{fixed_end, block_end, text_end, value_end}
 use Rattle.attributes.proofs.Laws.End.{of-form}
 use Rattle.attributes.proofs.Laws.Text.{zero-after}
 use Rattle.attributes.specs.Parts.{part_at, part_lies, block_lies, text_lies, Stretch, Shown}
 use Rattle.attributes.specs.declared.decode.Extent.{Extent}
-use Rattle.attributes.specs.declared.decode.Lying.{Lying}
-use Rattle.attributes.specs.declared.decode.Lying.TheVariants as lying
 use Rattle.attributes.proofs.Laws.Part as parts
-use Rattle.attributes.specs.declared.value.End.{End}
-use Rattle.attributes.specs.declared.value.End.TheVariants as end
-use Rattle.tables.specs.Row.{row_at, attr_at, endian_of}
+use Rattle.tables.specs.Row.{row_at, attr_at, endian_of, ends_of}
 use Rattle.tables.specs.Holds.{is_at, TableHolds}
 use Rattle.tables.proofs.Laws.Held.{AttrKnown, held-attr}
 use Rattle.tables.specs.declared.row.Counts.{Counts}
-use Rattle.tables.specs.declared.find.Found.{Found}
-use Rattle.tables.specs.declared.find.Found.TheVariants.{At, Nothing}
-use Rattle.links.specs.Attribute.{wants, attribute_of, as_reference, reference_by, reference_of}
+use Rattle.links.specs.Attribute.{wants, attribute_of, reference_by, reference_of}
 use Rattle.links.proofs.Laws.Attribute.{attribute-found}
 use Rattle.tables.specs.Keyed.{row_of}
-use Rattle.tables.specs.Inside.Keyed.{said_keyed}
-use Rattle.tables.specs.Row.{ends_of}
-use Rattle.links.specs.Maybe.{Maybe, none, some}
-use Rattle.links.specs.Typed.{spot_found, spot_at, spot_in, place_of_key, as_value, as_widened, word_at, word_of_place, value_of_key, lies_at, as_extent, extent_of_place, extent_of_key, part_of}
+use Rattle.links.specs.Typed.{spot_found, spot_at, spot_in, place_of_key, word_at, word_of_place, value_of_key}
+use Rattle.links.specs.Typed.{lies_at, extent_of_place, extent_of_key, part_of}
 use Rattle.tables.proofs.Laws.Keyed.{keyed-held, keyed-there, keyed-key}
 use Rattle.links.specs.declared.lookup.Wanted.TheVariants as wanted
-use Rattle.links.specs.declared.lookup.Reference.TheVariants as reference
-use Rattle.tables.specs.declared.keyed.Keyed.TheVariants as keyed
 use Rattle.links.specs.declared.typed.Spot.{Spot}
 use Rattle.links.specs.There.{IsNumber, NumberTold, IsPart, WholeText, WholeBlock, Without}
 
 -- ---- the bytes of a value that ends inside are there
 
-at_both : (b : Bool) (v : End) (field : ℕ) → is_at (cond b v (end.Short field)) ≡ true → (b ≡ true) × (is_at v ≡ true)
+at_both : (b : Bool) (v : Result ℕ Unread) (field : ℕ) → is_at (cond b v (Err (unread.Short field))) ≡ true → (b ≡ true) × (is_at v ≡ true)
 unfolding is_at
 at_both true v field h = (refl, h)
 at_both false v field h = absurd (true≢false (sym h))
 
 fixed-there : (s : List ℕ) (at w : ℕ) → is_at (fixed_end s at w) ≡ true → there s at w ≡ true
 unfolding fixed_end
-fixed-there s at w h = (at_both (there s at w) (end.At (at + w)) at h).0
+fixed-there s at w h = (at_both (there s at w) (Ok (at + w)) at h).0
 
 -- and are read
 fixed-read : {A : Type 0} (is : ℕ → A) (short : A) (e : Endian) (w : ℕ) (s : List ℕ) (at : ℕ) → is_at (fixed_end s at w) ≡ true
@@ -73,19 +64,17 @@ fixed-read is short e w s at h = sym (reads is short e w s at (fixed-there s at 
 
 -- ---- numbers
 
-told-by : {A : Type 0} (is : ℕ → A) (short : A) (tell : A → Maybe ℕ) → ((n : ℕ) → tell (is n) ≡ some n) → (e : Endian) (w : ℕ) (s : List ℕ) (at : ℕ)
-    → is_at (fixed_end s at w) ≡ true → NumberTold (tell (read_at is short e w s at))
-told-by is short tell tells e w s at h =
-    record { number = value_of e w s at; is_number = ap tell (fixed-read is short e w s at h) ∙ tells (value_of e w s at) }
+told-by : (e : Endian) (w : ℕ) (s : List ℕ) (at : ℕ) → is_at (fixed_end s at w) ≡ true → NumberTold (read_at Some None e w s at)
+told-by e w s at h = record { number = value_of e w s at; is_number = fixed-read Some None e w s at h }
 
 -- a number whose value ends inside is told
 word-told : (form : FormKind) → IsNumber form → (s : List ℕ) (spot : Spot) → is_at (value_end form spot.ends.«data» s spot.at) ≡ true
     → NumberTold (word_at form s spot)
-unfolding value_end word_at as_value as_widened
-word-told Addr n s spot h = told-by read32.Value read32.Short as_value (λ k. refl) _ 4 s spot.at h
-word-told Ref n s spot h = told-by read32.Value read32.Short as_value (λ k. refl) _ 4 s spot.at h
-word-told Data2 n s spot h = told-by read16.Value read16.Short as_widened (λ k. refl) _ 2 s spot.at h
-word-told Data4 n s spot h = told-by read32.Value read32.Short as_value (λ k. refl) _ 4 s spot.at h
+unfolding value_end word_at
+word-told Addr n s spot h = told-by _ 4 s spot.at h
+word-told Ref n s spot h = told-by _ 4 s spot.at h
+word-told Data2 n s spot h = told-by _ 2 s spot.at h
+word-told Data4 n s spot h = told-by _ 4 s spot.at h
 word-told Block2 n s spot h = absurd n
 word-told Block4 n s spot h = absurd n
 word-told Data8 n s spot h = absurd n
@@ -94,11 +83,11 @@ word-told Undefined n s spot h = absurd n
 
 -- and a reference whose value ends inside is one
 reference-is : (e own : Endian) (s attrs : List ℕ) (k : ℕ) → is_at (value_end Ref own s (attr_at attrs k).value) ≡ true
-    → reference_by e s attrs (At k) ≡ reference.Nothing → ⊥
-unfolding value_end reference_by as_reference
+    → reference_by e s attrs (Some k) ≡ None → ⊥
+unfolding value_end reference_by
 reference-is e own s attrs k h p =
-    let q : reference.To (value_of e 4 s (attr_at attrs k).value) ≡ reference.Nothing =
-    sym (ap as_reference (fixed-read read32.Value read32.Short e 4 s (attr_at attrs k).value h)) ∙ p
+    let q : Some (value_of e 4 s (attr_at attrs k).value) ≡ None =
+    sym (fixed-read Some None e 4 s (attr_at attrs k).value h) ∙ p
     in
     let z : ◌≡◌ {A = ℕ} 0 1 = cc in
     absurd (omega arith)
@@ -106,15 +95,15 @@ reference-is e own s attrs k h p =
 -- ---- texts and blocks
 
 -- a part lies somewhere, and this holds of its place and length
-record LiesSo (P : Extent → Type 0) (l : Lying) : Type 0 where
+record LiesSo (P : Extent → Type 0) (l : Option Extent) : Type 0 where
   extent : Extent
-  is_extent : l ≡ lying.At extent
+  is_extent : l ≡ Some extent
   so : P extent
 
 text-whole : (s : List ℕ) (at : ℕ) → is_at (text_end s at) ≡ true → LiesSo (WholeText s at) (text_lies s at)
 unfolding text_end
 text-whole s at h =
-    let test : ltb (zero_from s at) (length s) ≡ true = (at_both (ltb (zero_from s at) (length s)) (end.At (suc (zero_from s at))) at h).0 in
+    let test : ltb (zero_from s at) (length s) ≡ true = (at_both (ltb (zero_from s at) (length s)) (Ok (suc (zero_from s at))) at h).0 in
     let inside : zero_from s at < length s = ltb-true (zero_from s at) (length s) test in
     let after : at ≤ zero_from s at = zero-after s at refl in
     record {
@@ -131,29 +120,27 @@ block-whole e w s at h =
     let bytes : there s (at + w) n ≡ true = fixed-there s (at + w) n fields.1 in
     record {
       extent = record { place = at + w; length = n };
-      is_extent = sym (parts.part_lies_lem s (at + w) n bytes ∙ reads (λ k. part_lies s (at + w) k) lying.Cut e w s at fields.0 refl);
+      is_extent = sym (parts.part_lies_lem s (at + w) n bytes ∙ reads (λ k. part_lies s (at + w) k) None e w s at fields.0 refl);
       so = record { begins = refl; many = refl; inside = there-inside s (at + w) n bytes };
     }
 
-some-none : {A : Type 0} {x : A} → some x ≡ none → ⊥
+some-none : {A : Type 0} {x : A} → Some x ≡ None → ⊥
 some-none p = let z : ◌≡◌ {A = ℕ} 0 1 = cc in absurd (omega arith)
 
 -- a part that lies somewhere is told
-lies-told : {P : Extent → Type 0} {l : Lying} → LiesSo P l → as_extent l ≡ none → ⊥
-unfolding as_extent
-lies-told f p = some-none (ap as_extent (sym f.is_extent) ∙ p)
+lies-told : {P : Extent → Type 0} {l : Option Extent} → LiesSo P l → l ≡ None → ⊥
+lies-told f p = some-none (sym f.is_extent ∙ p)
 
 -- and this holds of what is told
-told-so : {P : Extent → Type 0} {l : Lying} {x : Extent} → LiesSo P l → as_extent l ≡ some x → P x
-unfolding as_extent
+told-so : {P : Extent → Type 0} {l : Option Extent} {x : Extent} → LiesSo P l → l ≡ Some x → P x
 told-so {P} {l} {x} f p =
-    let q : some f.extent ≡ some x = ap as_extent (sym f.is_extent) ∙ p in
+    let q : Some f.extent ≡ Some x = sym f.is_extent ∙ p in
     let same : f.extent ≡ x = cc in
     subst P same f.so
 
 -- a part whose value ends inside is told
 part-told : (form : FormKind) → IsPart form → (s : List ℕ) (spot : Spot) → is_at (value_end form spot.ends.«data» s spot.at) ≡ true
-    → as_extent (lies_at form s spot) ≡ none → ⊥
+    → lies_at form s spot ≡ None → ⊥
 unfolding value_end lies_at
 part-told String n s spot h = lies-told (text-whole s spot.at h)
 part-told Block2 n s spot h = lies-told (block-whole spot.ends.«data» 2 s spot.at h)
@@ -166,14 +153,13 @@ part-told Data8 n s spot h = absurd n
 part-told Undefined n s spot h = absurd n
 
 -- what is told lies inside the section
-shown-inside : (s : List ℕ) (l : Lying) (part : List ℕ) {x : Extent} → Shown s l part → as_extent l ≡ some x → x.place + x.length ≤ length s
-unfolding as_extent
-shown-inside s (lying.At y) part {x} h p =
+shown-inside : (s : List ℕ) (l : Option Extent) (part : List ℕ) {x : Extent} → Shown s l part → l ≡ Some x → x.place + x.length ≤ length s
+shown-inside s (Some y) part {x} h p =
     let same : y ≡ x = cc in subst (λ (z : Extent). z.place + z.length ≤ length s) same h.inside
-shown-inside s lying.Cut part h p = absurd (some-none (sym p))
+shown-inside s None part h p = absurd (some-none (sym p))
 
-lies-inside : (form : FormKind) (s : List ℕ) (spot : Spot) {x : Extent} → as_extent (lies_at form s spot) ≡ some x → x.place + x.length ≤ length s
-unfolding lies_at as_extent
+lies-inside : (form : FormKind) (s : List ℕ) (spot : Spot) {x : Extent} → lies_at form s spot ≡ Some x → x.place + x.length ≤ length s
+unfolding lies_at
 lies-inside String s spot p = shown-inside s (text_lies s spot.at) _ (parts.text-shown s spot.at) p
 lies-inside Block2 s spot p = shown-inside s (block_lies spot.ends.«data» 2 s spot.at) _ (parts.block-shown spot.ends.«data» 2 s spot.at) p
 lies-inside Block4 s spot p = shown-inside s (block_lies spot.ends.«data» 4 s spot.at) _ (parts.block-shown spot.ends.«data» 4 s spot.at) p
@@ -187,7 +173,7 @@ lies-inside Undefined s spot p = absurd (some-none (sym p))
 -- the part of a place and a length that lie inside is what stands there
 inside-stretch : (s : List ℕ) (x : Extent) → x.place + x.length ≤ length s → Stretch s x (part_at s x.place x.length)
 inside-stretch s x h =
-    subst (λ (l : Lying). Shown s l (part_at s x.place x.length)) (sym (parts.part_lies_lem s x.place x.length (inside-there s x.place x.length h)))
+    subst (λ (l : Option Extent). Shown s l (part_at s x.place x.length)) (sym (parts.part_lies_lem s x.place x.length (inside-there s x.place x.length h)))
     (parts.part-shown s x.place x.length)
 
 -- ---- an attribute that a row has
@@ -214,7 +200,7 @@ form-known form number h =
 module _ {s vendors rows attrs : List ℕ} {counts : Counts} (checked : TableHolds s vendors rows attrs counts) (i : ℕ) (here : i < counts.rows)
     (number : ℕ) (form : FormKind) where
   -- its value ends inside, in the row's data endianness
-  ends-inside : {k : ℕ} → is_form form number ≡ true → attribute_of rows attrs i (wanted.Number number) ≡ At k
+  ends-inside : {k : ℕ} → is_form form number ≡ true → attribute_of rows attrs i (wanted.Number number) ≡ Some k
       → is_at (value_end form (endian_of (row_at rows i).flags) s (attr_at attrs k).value) ≡ true
   unfolding is_at wants
   ends-inside {k} formed found =
@@ -224,62 +210,63 @@ module _ {s vendors rows attrs : List ℕ} {counts : Counts} (checked : TableHol
       ap is_at (of-form (endian_of (row_at rows i).flags) s (attr_at attrs k).value (ap form_of is_number ∙ form-known form number formed) ∙ passed.ends)
 
   -- the number that it says is there
-  pub number_there : IsNumber form → (e : Endian) {k : ℕ} → is_form form number ≡ true → attribute_of rows attrs i (wanted.Number number) ≡ At k
+  pub number_there : IsNumber form → (e : Endian) {k : ℕ} → is_form form number ≡ true → attribute_of rows attrs i (wanted.Number number) ≡ Some k
       → NumberTold (word_at form s (record { at = (attr_at attrs k).value; ends = ends_of e rows i }))
   unfolding ends_of
   number_there n e {k} formed found = word-told form n s (record { at = (attr_at attrs k).value; ends = ends_of e rows i }) (ends-inside formed found)
 
 -- a row's reference, as the walks over rows read it, is nothing only where the row has no such attribute
-pub reference-there : {s vendors rows attrs : List ℕ} {counts : Counts} → TableHolds s vendors rows attrs counts → (e : Endian) (i : ℕ) → i < counts.rows → (number : ℕ)
-    → is_form Ref number ≡ true → reference_of e s rows attrs i number ≡ reference.Nothing → attribute_of rows attrs i (wanted.Number number) ≡ Nothing
+pub reference-there : {s vendors rows attrs : List ℕ} {counts : Counts} → TableHolds s vendors rows attrs counts → (e : Endian) (i : ℕ)
+    → i < counts.rows → (number : ℕ) → is_form Ref number ≡ true
+    → reference_of e s rows attrs i number ≡ None → attribute_of rows attrs i (wanted.Number number) ≡ None
 unfolding reference_of
 reference-there {s} {rows = rows} {attrs = attrs} checked e i here number formed = go (attribute_of rows attrs i (wanted.Number number)) refl
   where
-    go : (found : Found) → attribute_of rows attrs i (wanted.Number number) ≡ found → reference_by e s attrs found ≡ reference.Nothing → found ≡ Nothing
-    go (At k) p q = absurd (reference-is e (endian_of (row_at rows i).flags) s attrs k (ends-inside checked i here number Ref formed p) q)
-    go Nothing p q = refl
+    go : (found : Option ℕ) → attribute_of rows attrs i (wanted.Number number) ≡ found → reference_by e s attrs found ≡ None → found ≡ None
+    go (Some k) p q = absurd (reference-is e (endian_of (row_at rows i).flags) s attrs k (ends-inside checked i here number Ref formed p) q)
+    go None p q = refl
 
 -- ---- the place that a lookup comes to
 
 -- the value at a place ends inside; where there is no place, there is none for it
 module _ (s rows attrs : List ℕ) (n key number : ℕ) (form : FormKind) where
-  abbrev Sound : Said (Maybe Spot) → Type 0
-  Sound (gives (some spot)) = is_at (value_end form spot.ends.«data» s spot.at) ≡ true
-  Sound (gives none) = Without rows attrs n key number form
+  abbrev Sound : Said (Option Spot) → Type 0
+  Sound (gives (Some spot)) = is_at (value_end form spot.ends.«data» s spot.at) ≡ true
+  Sound (gives None) = Without rows attrs n key number form
   Sound (refuses reason place counts) = Unit
 
   -- where all that stands at a place is told, nothing is told only where there is no place
-  nothing-told : {A : Type 0} (tells : Maybe Spot → Maybe A)
-      → ((spot : Spot) → is_at (value_end form spot.ends.«data» s spot.at) ≡ true → tells (some spot) ≡ none → ⊥)
-      → (place : Said (Maybe Spot)) → Sound place → (place >>= (λ spot. gives (tells spot))) ≡ gives none → Without rows attrs n key number form
+  nothing-told : {A : Type 0} (tells : Option Spot → Option A)
+      → ((spot : Spot) → is_at (value_end form spot.ends.«data» s spot.at) ≡ true → tells (Some spot) ≡ None → ⊥)
+      → (place : Said (Option Spot)) → Sound place → (place >>= (λ spot. gives (tells spot))) ≡ gives None → Without rows attrs n key number form
   unfolding ◌>>=◌
-  nothing-told tells told (gives (some spot)) h p = absurd (told spot h (given_is p))
-  nothing-told tells told (gives none) h p = h
+  nothing-told tells told (gives (Some spot)) h p = absurd (told spot h (given_is p))
+  nothing-told tells told (gives None) h p = h
   nothing-told tells told (refuses reason place counts) h p = absurd (given-refused (sym p))
 
 module _ {s vendors rows attrs : List ℕ} {counts : Counts} (checked : TableHolds s vendors rows attrs counts) (i : ℕ) (here : i < counts.rows) (key : ℕ)
     (has_key : (row_at rows i).key ≡ key) (number : ℕ) (form : FormKind) (e : Endian) where
-  found-sound : is_form form number ≡ true → (found : Found) → attribute_of rows attrs i (wanted.Number number) ≡ found
+  found-sound : is_form form number ≡ true → (found : Option ℕ) → attribute_of rows attrs i (wanted.Number number) ≡ found
       → Sound s rows attrs counts.rows key number form (gives (spot_found (ends_of e rows i) attrs found))
   unfolding spot_found ends_of
-  found-sound formed (At k) p = ends-inside checked i here number form formed p
-  found-sound formed Nothing p = record { row = i; is_there = here; has_key = has_key; none = inr p }
+  found-sound formed (Some k) p = ends-inside checked i here number form formed p
+  found-sound formed None p = record { row = i; is_there = here; has_key = has_key; none = inr p }
 
   spot-sound : Sound s rows attrs counts.rows key number form (gives (spot_in e rows attrs number form i))
   unfolding spot_in spot_at
   spot-sound =
-      cond-all (λ (m : Maybe Spot). Sound s rows attrs counts.rows key number form (gives m)) (is_form form number)
+      cond-all (λ (m : Option Spot). Sound s rows attrs counts.rows key number form (gives m)) (is_form form number)
       (λ formed. found-sound formed (attribute_of rows attrs i (wanted.Number number)) refl)
       (λ other. record { row = i; is_there = here; has_key = has_key; none = inl other })
 
 module _ (settings : Settings) (vendors sizes s rows attrs : List ℕ) (counts : Counts) (key number : ℕ) (form : FormKind) where
   row-sound : (d : Said ℕ) → row_of (table s settings vendors sizes rows attrs counts) key ≡ d
       → Sound s rows attrs counts.rows key number form (d >>= (λ i. gives (spot_in settings.endian rows attrs number form i)))
-  unfolding said_keyed ◌>>=◌
+  unfolding said ◌>>=◌
   row-sound (gives i) p =
-      spot-sound (keyed-held settings vendors sizes s rows attrs counts key {told = keyed.Row i} (sym p) refl) i
-      (keyed-there settings vendors sizes s rows attrs counts key {told = keyed.Row i} (sym p) refl) key
-      (keyed-key settings vendors sizes s rows attrs counts key {told = keyed.Row i} (sym p) refl) number form settings.endian
+      spot-sound (keyed-held settings vendors sizes s rows attrs counts key {told = Ok i} (sym p) refl) i
+      (keyed-there settings vendors sizes s rows attrs counts key {told = Ok i} (sym p) refl) key
+      (keyed-key settings vendors sizes s rows attrs counts key {told = Ok i} (sym p) refl) number form settings.endian
   row-sound (refuses reason place counts) p = tt
 
   place-sound : Sound s rows attrs counts.rows key number form (place_of_key (table s settings vendors sizes rows attrs counts) key number form)
@@ -287,7 +274,7 @@ module _ (settings : Settings) (vendors sizes s rows attrs : List ℕ) (counts :
   place-sound = row-sound (row_of (table s settings vendors sizes rows attrs counts) key) refl
 
   -- a lookup of a number tells nothing only where the key's row has no such attribute or it has another form
-  pub value_there : IsNumber form → value_of_key (table s settings vendors sizes rows attrs counts) key number form ≡ gives none
+  pub value_there : IsNumber form → value_of_key (table s settings vendors sizes rows attrs counts) key number form ≡ gives None
       → Without rows attrs counts.rows key number form
   unfolding value_of_key word_of_place
   value_there n p =
@@ -296,7 +283,7 @@ module _ (settings : Settings) (vendors sizes s rows attrs : List ℕ) (counts :
       (place_of_key (table s settings vendors sizes rows attrs counts) key number form) place-sound p
 
   -- so does a lookup of a part
-  pub extent-there : IsPart form → extent_of_key (table s settings vendors sizes rows attrs counts) key number form ≡ gives none
+  pub extent-there : IsPart form → extent_of_key (table s settings vendors sizes rows attrs counts) key number form ≡ gives None
       → Without rows attrs counts.rows key number form
   unfolding extent_of_key extent_of_place
   extent-there n p =
@@ -304,55 +291,56 @@ module _ (settings : Settings) (vendors sizes s rows attrs : List ℕ) (counts :
       (place_of_key (table s settings vendors sizes rows attrs counts) key number form) place-sound p
 
   -- the value at the place that a lookup comes to ends inside
-  place_inside : {spot : Spot} → place_of_key (table s settings vendors sizes rows attrs counts) key number form ≡ gives (some spot)
+  place_inside : {spot : Spot} → place_of_key (table s settings vendors sizes rows attrs counts) key number form ≡ gives (Some spot)
       → is_at (value_end form spot.ends.«data» s spot.at) ≡ true
   place_inside p = subst (Sound s rows attrs counts.rows key number form) p place-sound
 
   -- what is told follows from the place
-  extent-at : {spot : Spot} {x : Extent} → place_of_key (table s settings vendors sizes rows attrs counts) key number form ≡ gives (some spot)
-      → extent_of_key (table s settings vendors sizes rows attrs counts) key number form ≡ gives (some x) → as_extent (lies_at form s spot) ≡ some x
+  extent-at : {spot : Spot} {x : Extent} → place_of_key (table s settings vendors sizes rows attrs counts) key number form ≡ gives (Some spot)
+      → extent_of_key (table s settings vendors sizes rows attrs counts) key number form ≡ gives (Some x) → lies_at form s spot ≡ Some x
   unfolding extent_of_key extent_of_place ◌>>=◌
-  extent-at p q = given_is (sym (ap (λ (d : Said (Maybe Spot)). d >>= (λ m. gives (extent_of_place form s m))) p) ∙ q)
+  extent-at p q = given_is (sym (ap (λ (d : Said (Option Spot)). d >>= (λ m. gives (extent_of_place form s m))) p) ∙ q)
 
-  told-inside : (place : Said (Maybe Spot)) {x : Extent} → (place >>= (λ spot. gives (extent_of_place form s spot))) ≡ gives (some x)
+  told-inside : (place : Said (Option Spot)) {x : Extent} → (place >>= (λ spot. gives (extent_of_place form s spot))) ≡ gives (Some x)
       → x.place + x.length ≤ length s
   unfolding extent_of_place ◌>>=◌
-  told-inside (gives (some spot)) p = lies-inside form s spot (given_is p)
-  told-inside (gives none) p = absurd (some-none (sym (given_is p)))
+  told-inside (gives (Some spot)) p = lies-inside form s spot (given_is p)
+  told-inside (gives None) p = absurd (some-none (sym (given_is p)))
   told-inside (refuses reason place counts) p = absurd (given-refused (sym p))
 
-  extent-inside : {x : Extent} → extent_of_key (table s settings vendors sizes rows attrs counts) key number form ≡ gives (some x) → x.place + x.length ≤ length s
+  extent-inside : {x : Extent} → extent_of_key (table s settings vendors sizes rows attrs counts) key number form ≡ gives (Some x)
+      → x.place + x.length ≤ length s
   unfolding extent_of_key
   extent-inside p = told-inside (place_of_key (table s settings vendors sizes rows attrs counts) key number form) p
 
   -- the part that a lookup hands back is what stands at the place and has the length that the call beside it tells, all of it inside the section
-  pub part-there : {x : Extent} → extent_of_key (table s settings vendors sizes rows attrs counts) key number form ≡ gives (some x)
+  pub part-there : {x : Extent} → extent_of_key (table s settings vendors sizes rows attrs counts) key number form ≡ gives (Some x)
       → Stretch s x (part_of s (extent_of_key (table s settings vendors sizes rows attrs counts) key number form))
   unfolding part_of
   part-there {x} p =
       let inside : x.place + x.length ≤ length s = extent-inside p in
-      subst (λ (d : Said (Maybe Extent)). Stretch s x (part_of s d)) (sym p) (inside-stretch s x inside)
+      subst (λ (d : Said (Option Extent)). Stretch s x (part_of s d)) (sym p) (inside-stretch s x inside)
 
 module _ (settings : Settings) (vendors sizes s rows attrs : List ℕ) (counts : Counts) (key number : ℕ) {spot : Spot} {x : Extent} where
   -- a text that is told is whole
-  pub text-there : place_of_key (table s settings vendors sizes rows attrs counts) key number String ≡ gives (some spot)
-      → extent_of_key (table s settings vendors sizes rows attrs counts) key number String ≡ gives (some x) → WholeText s spot.at x
+  pub text-there : place_of_key (table s settings vendors sizes rows attrs counts) key number String ≡ gives (Some spot)
+      → extent_of_key (table s settings vendors sizes rows attrs counts) key number String ≡ gives (Some x) → WholeText s spot.at x
   unfolding lies_at value_end
   text-there p q =
       told-so (text-whole s spot.at (place_inside settings vendors sizes s rows attrs counts key number String p))
       (extent-at settings vendors sizes s rows attrs counts key number String p q)
 
   -- and a block
-  pub block2-there : place_of_key (table s settings vendors sizes rows attrs counts) key number Block2 ≡ gives (some spot)
-      → extent_of_key (table s settings vendors sizes rows attrs counts) key number Block2 ≡ gives (some x)
+  pub block2-there : place_of_key (table s settings vendors sizes rows attrs counts) key number Block2 ≡ gives (Some spot)
+      → extent_of_key (table s settings vendors sizes rows attrs counts) key number Block2 ≡ gives (Some x)
       → WholeBlock spot.ends.«data» 2 s spot.at x
   unfolding lies_at value_end
   block2-there p q =
       told-so (block-whole spot.ends.«data» 2 s spot.at (place_inside settings vendors sizes s rows attrs counts key number Block2 p))
       (extent-at settings vendors sizes s rows attrs counts key number Block2 p q)
 
-  pub block4-there : place_of_key (table s settings vendors sizes rows attrs counts) key number Block4 ≡ gives (some spot)
-      → extent_of_key (table s settings vendors sizes rows attrs counts) key number Block4 ≡ gives (some x)
+  pub block4-there : place_of_key (table s settings vendors sizes rows attrs counts) key number Block4 ≡ gives (Some spot)
+      → extent_of_key (table s settings vendors sizes rows attrs counts) key number Block4 ≡ gives (Some x)
       → WholeBlock spot.ends.«data» 4 s spot.at x
   unfolding lies_at value_end
   block4-there p q =

@@ -1,5 +1,5 @@
 -- How the code gathers children: one walk that counts on empty room and fills lent room.
-use Rattle.std.specs.Prelude.{ℕ, ◌+◌, ◌^◌, ◌<◌, ◌≡◌, cond, List, [], ◌∷◌, length, set, leb}
+use Rattle.std.specs.Prelude.{Option, Some, None, ℕ, ◌+◌, ◌^◌, ◌<◌, ◌≡◌, cond, List, [], ◌∷◌, length, set, leb}
 use Rattle.std.proofs.lemmas.List.Edits.{sets}
 use Rattle.lent.specs.Outcome.{Outcome}
 use Rattle.format.specs.Said.{Said, in_room, fills_room}
@@ -7,18 +7,16 @@ use Rattle.links.specs.Walk.{Walk, ends, endless}
 use Rattle.links.specs.Links.{null_row, non_null}
 use Rattle.links.specs.Children.{children_met}
 use Rattle.links.specs.Inside.Links.{RowsHold}
-use Rattle.links.specs.declared.children.Gathered.{Gathered}
-use Rattle.links.specs.declared.children.Gathered.TheVariants.{Count, Endless}
 
 -- of an endless walk there is nothing to count
-unfoldable pub gathered_into : List ℕ → ℕ → List ℕ → Walk → Outcome Gathered ℕ
-gathered_into rows k room (ends cs) = record { answer = Count (k + length (non_null rows cs)); room = sets room k (non_null rows cs) }
-gathered_into rows k room endless = record { answer = Endless; room = [] }
+unfoldable pub gathered_into : List ℕ → ℕ → List ℕ → Walk → Outcome (Option ℕ) ℕ
+gathered_into rows k room (ends cs) = record { answer = Some (k + length (non_null rows cs)); room = sets room k (non_null rows cs) }
+gathered_into rows k room endless = record { answer = None; room = [] }
 
 -- what gathering answers; of an endless walk's room nothing is said, since that walk is only made on room of no words
-pub record Gathers (o : Outcome Gathered ℕ) (r : Gathered) (room : List ℕ) : Type 0 where
+pub record Gathers (o : Outcome (Option ℕ) ℕ) (r : Option ℕ) (room : List ℕ) : Type 0 where
   pub answer_is : r ≡ o.answer
-  pub room_is : (k : ℕ) → r ≡ Count k → room ≡ o.room
+  pub room_is : (k : ℕ) → r ≡ Some k → room ≡ o.room
 
 -- one row: counted and stored unless it is a null entry
 pub record TakesChild (rows : List ℕ) (c k r : ℕ) (room room' : List ℕ) : Type 0 where

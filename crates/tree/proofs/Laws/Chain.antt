@@ -2,7 +2,7 @@
 use Prim.Native.Nat.{ℕ, zero, suc, ◌+◌, ◌-◌, ◌≤◌, ◌<◌}
 use native.Mathlib.Omega.{arith}
 use mathlib.Core.Path.{◌≡◌, refl, sym, ap, ◌∙◌}
-use borrow.Author.Tests.{lt-ltb, le-ltb, le-leb, lt-leb, eq-eqb, ne_eqb}
+use borrow.Author.Tests.{lt-ltb, le-ltb, le-leb, lt-leb}
 use Rattle.tree.specs.Inside.Passing.{chain, fault_of_row, fault_from}
 use Rattle.tree.proofs.Laws.Ends.{Reaching}
 use Rattle.tree.proofs.Laws.Fault.{good-later}
@@ -82,26 +82,10 @@ pub fault-begin : (n : ℕ) (reach : ℕ → ℕ) → n ≡ fault_from n reach n
 unfolding fault_from
 fault-begin n reach = let none : n - n ≡ 0 = omega arith in rw none
 
-module _ (n : ℕ) (reach : ℕ → ℕ) (i : ℕ) where
-  module _ (b : ℕ) {end : ℕ} (is : end ≡ reach i) where
-    pub fault-here : end ≡ 0 → i ≡ fault_of_row n reach i b
-    unfolding fault_of_row
-    fault-here h = rw (eq-eqb (reach i) 0 (sym is ∙ h))
-
-    pub fault-along : {r : ℕ} → (end ≡ 0 → ⊥) → r ≡ chain n reach end b n (suc i) → r ≡ fault_of_row n reach i b
-    unfolding fault_of_row
-    fault-along h p = p ∙ rw (ne_eqb (reach i) 0 (λ e. h (is ∙ e)), is)
-
-  pub fault-back : {b r : ℕ} → 0 < i → i ≤ n → b ≡ fault_from n reach i (n - i) → r ≡ fault_of_row n reach (i - 1) b
-      → r ≡ fault_from n reach (i - 1) (n - (i - 1))
-  unfolding fault_from
-  fault-back h l p q =
-      let back : n - (i - 1) ≡ suc (n - i) = omega arith in
-      let here : suc (i - 1) ≡ i = omega arith in
-      q ∙ rw (back, here, p)
-
-  pub fault-all : {b : ℕ} → i ≤ 0 → b ≡ fault_from n reach i (n - i) → b ≡ fault_from n reach 0 n
-  fault-all h p =
-      let first : i ≡ 0 = omega arith in
-      let all : n - i ≡ n = omega arith in
-      p ∙ rw (all, first)
+pub fault-back : (n : ℕ) (reach : ℕ → ℕ) (i : ℕ) {b r : ℕ} → 0 < i → i ≤ n → b ≡ fault_from n reach i (n - i) → r ≡ fault_of_row n reach (i - 1) b
+    → r ≡ fault_from n reach (i - 1) (n - (i - 1))
+unfolding fault_from
+fault-back n reach i h l p q =
+    let back : n - (i - 1) ≡ suc (n - i) = omega arith in
+    let here : suc (i - 1) ≡ i = omega arith in
+    q ∙ rw (back, here, p)

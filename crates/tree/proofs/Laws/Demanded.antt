@@ -1,4 +1,5 @@
 -- From the ends of reaches as numbers to the demand's own words: which row a reach ends at, what lies in it, depth, parent and children.
+use Rattle.std.specs.Prelude.{Option, Some, None}
 use Prim.Native.Nat.{ℕ, zero, suc, ◌+◌, ◌≤◌, ◌<◌}
 use native.Mathlib.Nat.{le_refl}
 use native.Mathlib.Decide.{ℕ_discrete, dec_le}
@@ -17,17 +18,12 @@ use Rattle.tables.specs.Table.{Rows, lent_rows}
 use Rattle.tables.specs.Row.{row_at}
 use Rattle.tables.specs.Find.{row_of_key}
 use Rattle.tables.proofs.Laws.Find.{row-found, row-of-own-key}
-use Rattle.tables.specs.declared.find.Found.{Found}
-use Rattle.tables.specs.declared.find.Found.TheVariants.{At, Nothing}
 use Rattle.links.specs.Links.{null_row}
-use Rattle.links.specs.declared.lookup.Reference.{Reference}
-use Rattle.links.specs.declared.lookup.Reference.TheVariants as reference
 use Rattle.tree.specs.Pick.{count_below}
-use Rattle.tree.proofs.Laws.Pick.{all_from}
+use Rattle.tree.proofs.Laws.Pick.{all_from, Nearest, nearest-below-is}
 use Rattle.tree.specs.Reach.{later_row, reach_by, reach_end}
 use Rattle.tree.specs.Nest.{lies, depth, parent}
 use Rattle.tree.specs.Demand.{Among, RiseFrom, Exactly, key_of, sibling_of, ReachEnds, alone, rest, up_to, Lies, Depth, Parent, none, nearest, ChildOf}
-use Rattle.tree.proofs.Laws.Pick.{Nearest, nearest-below-is}
 use Rattle.tree.proofs.Laws.Reach.{reach-all, reach-row, reach-alone, later-named}
 use Rattle.tree.proofs.Laws.WalkTree.{Plain}
 use Rattle.tree.proofs.Laws.Ends.{children_in}
@@ -73,7 +69,8 @@ unfolding all_from
 among-passes p i zero n = λ a. absurd a
 among-passes p i (suc k) n =
     cond-all (λ (xs : List ℕ). Among n xs → (n < i + suc k) × (p n ≡ true)) (p i)
-    (λ t a. ⊎_elim (λ e. (let same : i ≡ n = e in (omega arith, ap p (sym same) ∙ t))) (λ b. (let later = among-passes p (suc i) k n b in (omega (arith, later.0), later.1))) a)
+    (λ t a. ⊎_elim (λ e. (let same : i ≡ n = e in (omega arith, ap p (sym same) ∙ t)))
+    (λ b. (let later = among-passes p (suc i) k n b in (omega (arith, later.0), later.1))) a)
     (λ f a. (let later = among-passes p (suc i) k n a in (omega (arith, later.0), later.1)))
 
 -- a test that says a property
@@ -95,7 +92,9 @@ add-more p i zero =
 add-more p i (suc k) =
     let place : i + suc k ≡ suc i + k = omega arith in
     let later : length (all_from p (suc i) (suc k)) ≡ length (all_from p (suc i) k) + cond (p (suc i + k)) 1 0 = add-more p (suc i) k in
-    let one_more : suc (length (all_from p (suc i) k) + cond (p (suc i + k)) 1 0) ≡ suc (length (all_from p (suc i) k)) + cond (p (suc i + k)) 1 0 = omega arith in
+    let one_more : suc (length (all_from p (suc i) k) + cond (p (suc i + k)) 1 0) ≡ suc (length (all_from p (suc i) k)) + cond (p (suc i + k)) 1 0 =
+    omega arith
+    in
     by-test (p i) (λ t. rw (place, t) (ap suc later ∙ one_more)) (λ f. rw (place, f) later)
 
 pub all-counted : (p : ℕ → Bool) (k : ℕ) → length (all_from p 0 k) ≡ count_below p k
@@ -159,23 +158,23 @@ module _ {s rows : List ℕ} {n : ℕ} (plain : Plain s rows n) (e : Endian) (at
       (omega arith, sym (reach-row e s rows attrs n i refl p (λ same. omega arith) (later-named i refl (row-of-own-key plain.rising j l) h)), h, omega arith)
 
   -- a later row that is found is named
-  found-named : {i key : ℕ} → i < n → sibling_of t i ≡ reference.To key → (found : Found) → row_of_key rows n key ≡ found → (later_row i found ≡ 0 → ⊥)
+  found-named : {i key : ℕ} → i < n → sibling_of t i ≡ Some key → (found : Option ℕ) → row_of_key rows n key ≡ found → (later_row i found ≡ 0 → ⊥)
       → ReachEnds t i (later_row i found)
   unfolding later_row
-  found-named {i} {key} h p (At j) q other =
+  found-named {i} {key} h p (Some j) q other =
       let is = row-found rows n key q in
       by-test (ltb i j)
-      (λ b. rw b (up_to i j (ltb-true i j b) is.0 (p ∙ ap reference.To (sym is.1))))
+      (λ b. rw b (up_to i j (ltb-true i j b) is.0 (p ∙ ap Some (sym is.1))))
       (λ b. absurd (other (rw b)))
-  found-named h p Nothing q other = absurd (other refl)
+  found-named h p None q other = absurd (other refl)
 
-  by-named : {i : ℕ} → i < n → (told : Reference) → sibling_of t i ≡ told → (reach_by s rows n i told ≡ 0 → ⊥) → ReachEnds t i (reach_by s rows n i told)
+  by-named : {i : ℕ} → i < n → (told : Option ℕ) → sibling_of t i ≡ told → (reach_by s rows n i told ≡ 0 → ⊥) → ReachEnds t i (reach_by s rows n i told)
   unfolding reach_by
-  by-named {i} h (reference.To key) p other =
+  by-named {i} h (Some key) p other =
       by-test (eqb key (length s))
-      (λ b. rw b (rest i h (p ∙ ap reference.To (eqb-true key (length s) b))))
+      (λ b. rw b (rest i h (p ∙ ap Some (eqb-true key (length s) b))))
       (λ b. rw b (found-named h p (row_of_key rows n key) refl (λ z. other (rw b z))))
-  by-named {i} h reference.Nothing p other = alone i h p
+  by-named {i} h None p other = alone i h p
 
   -- a reference that is not bad names a row
   pub reach-named : {i : ℕ} → i < n → (reach i ≡ 0 → ⊥) → ReachEnds t i (reach i)

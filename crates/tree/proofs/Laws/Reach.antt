@@ -1,4 +1,5 @@
 -- What follows from `Reach`, for each way that the code comes to an answer; and that every end is 0, or later and within the table.
+use Rattle.std.specs.Prelude.{Option, Some, None}
 use Prim.Native.Nat.{ℕ, suc, ◌≤◌, ◌<◌}
 use native.Mathlib.Omega.{arith}
 use mathlib.Core.Path.{◌≡◌, refl, sym, ap, ◌∙◌}
@@ -6,43 +7,30 @@ use mathlib.Core.Logic.{◌⊎◌, inl, inr, ⊎_elim}
 use mathlib.Core.List.{List}
 use lib.ListN.{length}
 use lib.Dec.{ltb, eqb}
-use borrow.Author.Tests.{lt-ltb, le-ltb, eq-eqb, ne_eqb, ltb-true}
+use borrow.Author.Tests.{lt-ltb, eq-eqb, ne_eqb, ltb-true}
 use Rattle.numbers.proofs.Laws.Tests.{cond-all}
 use Rattle.numbers.specs.declared.Endian.{Endian}
 use Rattle.tables.specs.Table.{Table, lent_rows, table_rows}
 use Rattle.tables.specs.Find.{row_of_key}
 use Rattle.tables.proofs.Laws.Find.{row-found}
-use Rattle.tables.specs.declared.find.Found.{Found}
-use Rattle.tables.specs.declared.find.Found.TheVariants.{At, Nothing}
 use Rattle.links.specs.Attribute.{sibling_number, reference_of}
-use Rattle.links.specs.declared.lookup.Reference.{Reference}
-use Rattle.links.specs.declared.lookup.Reference.TheVariants as reference
 use Rattle.tree.specs.Reach.{later_row, reach_by, reach_end}
 use Rattle.tree.proofs.Laws.Ends.{Reaching}
 
-module _ (i : ℕ) {found told : Found} (is : found ≡ told) where
-  pub later-named : {j : ℕ} → found ≡ At j → i < j → j ≡ later_row i told
-  unfolding later_row
-  later-named {j} p h = sym (ap (later_row i) (sym is ∙ p) ∙ rw (lt-ltb i j h))
+pub later-named : (i : ℕ) {found told : Option ℕ} → found ≡ told → {j : ℕ} → found ≡ Some j → i < j → j ≡ later_row i told
+unfolding later_row
+later-named i is {j} p h = sym (ap (later_row i) (sym is ∙ p) ∙ rw (lt-ltb i j h))
 
-  pub earlier-named : {j : ℕ} → found ≡ At j → j ≤ i → 0 ≡ later_row i told
-  unfolding later_row
-  earlier-named {j} p h = sym (ap (later_row i) (sym is ∙ p) ∙ rw (le-ltb i j h))
-
-  pub none_named : found ≡ Nothing → 0 ≡ later_row i told
-  unfolding later_row
-  none_named p = ap (later_row i) (sym p ∙ is)
-
-module _ (e : Endian) (s rows attrs : List ℕ) (n i : ℕ) {told : Reference} (is : told ≡ reference_of e s rows attrs i sibling_number) where
-  pub reach-all : {key : ℕ} → told ≡ reference.To key → key ≡ length s → n ≡ reach_end (lent_rows e s rows attrs n) i
+module _ (e : Endian) (s rows attrs : List ℕ) (n i : ℕ) {told : Option ℕ} (is : told ≡ reference_of e s rows attrs i sibling_number) where
+  pub reach-all : {key : ℕ} → told ≡ Some key → key ≡ length s → n ≡ reach_end (lent_rows e s rows attrs n) i
   unfolding reach_end reach_by
   reach-all {key} p h = sym (ap (reach_by s rows n i) (sym is ∙ p) ∙ rw (eq-eqb key (length s) h))
 
-  pub reach-row : {key r : ℕ} → told ≡ reference.To key → (key ≡ length s → ⊥) → r ≡ later_row i (row_of_key rows n key) → r ≡ reach_end (lent_rows e s rows attrs n) i
+  pub reach-row : {key r : ℕ} → told ≡ Some key → (key ≡ length s → ⊥) → r ≡ later_row i (row_of_key rows n key) → r ≡ reach_end (lent_rows e s rows attrs n) i
   unfolding reach_end reach_by
   reach-row {key} p h q = q ∙ sym (ap (reach_by s rows n i) (sym is ∙ p) ∙ rw (ne_eqb key (length s) h))
 
-  pub reach-alone : told ≡ reference.Nothing → suc i ≡ reach_end (lent_rows e s rows attrs n) i
+  pub reach-alone : told ≡ None → suc i ≡ reach_end (lent_rows e s rows attrs n) i
   unfolding reach_end reach_by
   reach-alone p = ap (reach_by s rows n i) (sym p ∙ is)
 
@@ -51,18 +39,18 @@ module _ (e : Endian) (s rows attrs : List ℕ) (n i : ℕ) {told : Reference} (
 abbrev Reaches : ℕ → ℕ → ℕ → Type 0
 Reaches n i r = (r ≡ 0) ⊎ ((i < r) × (r ≤ n))
 
-later-reaches : (rows : List ℕ) (n i key : ℕ) (found : Found) → row_of_key rows n key ≡ found → Reaches n i (later_row i found)
+later-reaches : (rows : List ℕ) (n i key : ℕ) (found : Option ℕ) → row_of_key rows n key ≡ found → Reaches n i (later_row i found)
 unfolding later_row
-later-reaches rows n i key (At j) p =
+later-reaches rows n i key (Some j) p =
     cond-all (Reaches n i) (ltb i j)
     (λ h. let low : i < j = ltb-true i j h in let high : j < n = (row-found rows n key p).0 in inr (low, omega arith)) (λ h. inl refl)
-later-reaches rows n i key Nothing p = inl refl
+later-reaches rows n i key None p = inl refl
 
-by-reaches : (s rows : List ℕ) (n i : ℕ) → i < n → (told : Reference) → Reaches n i (reach_by s rows n i told)
+by-reaches : (s rows : List ℕ) (n i : ℕ) → i < n → (told : Option ℕ) → Reaches n i (reach_by s rows n i told)
 unfolding reach_by
-by-reaches s rows n i h (reference.To key) =
+by-reaches s rows n i h (Some key) =
     cond-all (Reaches n i) (eqb key (length s)) (λ p. inr (h, omega arith)) (λ p. later-reaches rows n i key (row_of_key rows n key) refl)
-by-reaches s rows n i h reference.Nothing = inr (omega arith, omega arith)
+by-reaches s rows n i h None = inr (omega arith, omega arith)
 
 pub reaching : (e : Endian) (s rows attrs : List ℕ) (n : ℕ) → Reaching n (λ i. reach_end (lent_rows e s rows attrs n) i)
 unfolding reach_end

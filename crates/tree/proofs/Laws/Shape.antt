@@ -129,7 +129,8 @@ module _ (n : ℕ) (reach : ℕ → ℕ) where
   around-all k = record { counted = λ j h l. refl; nearest = λ j h l. refl }
 
   -- a row's reach holds the rows below it
-  around-below : {row k depth parent : ℕ} (below : ℕ) → Around row k depth parent → reach row ≡ suc row + below → suc below ≤ k → Around (suc row) below (suc depth) (suc row)
+  around-below : {row k depth parent : ℕ} (below : ℕ) → Around row k depth parent → reach row ≡ suc row + below → suc below ≤ k
+      → Around (suc row) below (suc depth) (suc row)
   unfolding count_below nearest_below
   around-below {row} below around end h = record {
     counted = λ j l m. rw (lies_in row j (omega arith) (omega arith)) (ap suc (around.counted j (omega arith) (omega arith)));
@@ -156,14 +157,17 @@ module _ (n : ℕ) (reach : ℕ → ℕ) where
       rw (more, place) (ap (λ (xs : List ℕ). depth n reach i ∷ parent n reach i ∷ xs) (places-append (suc i) a b))
 
   -- the rows from `row` on have these depths and parents
-  spans-places : (t : Shape) (row d p : ℕ) → Spans reach t row → Around row (size t) d p → row + size t ≤ n → places_from n reach row (size t) ≡ places t row d p
+  spans-places : (t : Shape) (row d p : ℕ) → Spans reach t row → Around row (size t) d p → row + size t ≤ n
+      → places_from n reach row (size t) ≡ places t row d p
   unfolding size places places_from parent
   spans-places none row d p s around h = refl
   spans-places (node below siblings) row d p s around h =
       let next : ℕ = suc row + size below in
       let own : depth n reach row ≡ d = depth-before row (omega arith) ∙ around.counted row (le_refl row) (omega arith) in
       let its : nearest_below (λ i. lies n reach i row) row ≡ p = around.nearest row (le_refl row) (omega arith) in
-      let ends : (i : ℕ) → row ≤ i → i < next → reach i ≤ next = λ i a b. omega (arith, (spans-inside reach (node below none) row (s.0, s.1, tt) i a (omega arith)).1) in
+      let ends : (i : ℕ) → row ≤ i → i < next → reach i ≤ next =
+      λ i a b. omega (arith, (spans-inside reach (node below none) row (s.0, s.1, tt) i a (omega arith)).1)
+      in
       let first = spans-places below (suc row) (suc d) (suc row) s.1 (around-below (size below) around s.0 (omega arith)) (omega arith) in
       let others = spans-places siblings next d p s.2 (around-behind next (size siblings) around (omega arith) (omega arith) ends) (omega arith) in
       rw (own, its, places-append (suc row) (size below) (size siblings), first, others)

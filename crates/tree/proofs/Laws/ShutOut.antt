@@ -1,5 +1,5 @@
--- The wrong readers that document 01 shuts out ('Holding each promise to account'), by name: what each answers and leaves does not meet the contract. Sections are
--- small and computed, settings are the listing program's; the lent tables and rooms are any that are long enough.
+-- The wrong readers that document 01 shuts out ('Holding each promise to account'), by name: what each answers and leaves does not meet the contract. Sections
+-- are small and computed, settings are the listing program's; the lent tables and rooms are any that are long enough.
 use Prim.Native.Nat.{ℕ, ◌*◌, ◌≤◌, ◌<◌}
 use native.Mathlib.Omega.{arith}
 use mathlib.Core.Path.{◌≡◌, refl, sym, ap, ◌∙◌, subst}
@@ -43,8 +43,8 @@ use Rattle.entries.specs.Entry.{little_flag, flag_of, flags_of, attributes, entr
 use Rattle.entries.specs.Walk.{Entries, entries, entries_then, whole_entry, entries_from, read_tags}
 use Rattle.tables.specs.Holds.{fitting}
 use Rattle.entries.specs.Section.{counts, counts_of, whole_walk, section_entries, read_debug_section}
-use Rattle.entries.proofs.Laws.Section.{attrs-decide, read-stored}
-use Rattle.links.specs.Attribute.{wants, attr_from, attribute_of, as_reference, reference_by, reference_of}
+use Rattle.entries.proofs.Laws.Section.{read-stored}
+use Rattle.links.specs.Attribute.{wants, attr_from, attribute_of, reference_by, reference_of}
 use Rattle.tree.specs.Pick.{count_below, nearest_below, first_from}
 use Rattle.tree.specs.Reach.{reach_by, reach_end}
 use Rattle.tree.specs.Nest.{lies, depth, parent, crosses, faulty, deep, first_fault, first_deep}
@@ -62,12 +62,18 @@ storing rs xs rows attrs =
     outcomes (gives (counts (length rs) (length xs))) (sets rows 0 (rows_words (with_units rs))) (sets attrs 0 (attrs_words xs))
 
 walk-stored : (s : List ℕ) (rs : List Row) (xs : List Attr) (place : ℕ) → whole_walk settings [] s ≡ gives (entries rs xs place) → length s < section_limit
-    → length rs ≤ entry_limit → length xs ≤ attribute_limit → (rows attrs : List ℕ) → length rs * row_width ≤ length rows → length xs * attr_width ≤ length attrs
+    → length rs ≤ entry_limit → length xs ≤ attribute_limit → (rows attrs : List ℕ) → length rs * row_width ≤ length rows
+    → length xs * attr_width ≤ length attrs
     → reading s rows attrs ≡ storing rs xs rows attrs
-unfolding section_entries must ◌>>◌
+unfolding fitting section_entries must ◌>>◌
 walk-stored s rs xs place walk short few-rows few-attrs rows attrs h k =
     let fits : fitting (counts (length rs) (length xs)) (length rows) (length attrs) ≡ true =
-    sym (attrs-decide (counts (length rs) (length xs)) (length rows) (length attrs) few-rows h few-attrs) ∙ le-leb (length xs * attr_width) (length attrs) k
+    rw (
+      le-leb (length rs) entry_limit few-rows,
+      le-leb (length rs * row_width) (length rows) h,
+      le-leb (length xs) attribute_limit few-attrs,
+      le-leb (length xs * attr_width) (length attrs) k,
+    )
     in
     let all : section_entries settings [] four_each s ≡ gives (entries rs xs place) = rw (settings_held, lt-ltb (length s) section_limit short, walk) in
     read-stored settings [] four_each s rows attrs all fits
@@ -106,9 +112,12 @@ rows_a = row_of 0x00 tag.structure_type 0 2 ∷ row_of 0x12 tag.member 2 2 ∷ r
 abbrev attrs_a : List Attr
 attrs_a = attr number.sibling 8 ∷ attr number.byte_size 14 ∷ attr number.fund_type 26 ∷ attr number.location 30 ∷ []
 
-walks : (whole_walk settings [] null_section ≡ gives (entries (first_null ∷ []) [] 4)) × (whole_walk settings [] two_section ≡ gives (entries two_rows two_attrs 18))
+walks : (whole_walk settings [] null_section ≡ gives (entries (first_null ∷ []) [] 4))
+    × (whole_walk settings [] two_section ≡ gives (entries two_rows two_attrs 18))
     × (whole_walk settings [] input_a ≡ gives (entries rows_a attrs_a 42))
-unfolding value_of there read_at is_on index_of lookup tags used also_known attribute_kinds known forms form_of zero_from fixed_end block_end text_end value_end ending numbered read_attribute null_end tag_head size_head head_at plays run_ends read_on read_run little_flag flag_of flags_of attributes entry_from read_entry entries_then whole_entry entries_from read_tags whole_walk ◌>>=◌ placed
+unfolding value_of there read_at is_on index_of lookup tags used also_known attribute_kinds known forms form_of zero_from fixed_end block_end text_end
+    value_end ending numbered read_attribute null_end tag_head size_head head_at plays run_ends read_on read_run little_flag flag_of flags_of attributes
+    entry_from read_entry entries_then whole_entry entries_from read_tags whole_walk ◌>>=◌ placed
 walks = (refl, refl, refl)
 
 -- ---- one null entry
@@ -125,7 +134,8 @@ module _ (rows attrs : List ℕ) (enough : row_width ≤ length rows) where
   refuses-all why p = subst IsRead (sym (null-answer p)) tt
 
   -- or that finds no room enough
-  pub refuses-room : (needed : Counts) {rows' attrs' : List ℕ} → BothGiven (reading null_section rows attrs) (wanting (needed.rows ∷ needed.attrs ∷ [])) rows' attrs' → ⊥
+  pub refuses-room : (needed : Counts) {rows' attrs' : List ℕ}
+      → BothGiven (reading null_section rows attrs) (wanting (needed.rows ∷ needed.attrs ∷ [])) rows' attrs' → ⊥
   refuses-room needed p = subst IsRead (sym (null-answer p)) tt
 
   -- one that answers no rows for everything
@@ -135,7 +145,8 @@ module _ (rows attrs : List ℕ) (enough : row_width ≤ length rows) where
 -- ---- two entries
 
 -- one that reads the first entry and pads the rest
-pub first-and-padding : (rows attrs : List ℕ) → 2 * row_width ≤ length rows → 4 ≤ length attrs → {r : Said Counts} {rows' attrs' : List ℕ} → (row_at rows' 1).kind ≡ tag.padding
+pub first-and-padding : (rows attrs : List ℕ) → 2 * row_width ≤ length rows → 4 ≤ length attrs → {r : Said Counts} {rows' attrs' : List ℕ}
+    → (row_at rows' 1).kind ≡ tag.padding
     → BothGiven (reading two_section rows attrs) r rows' attrs' → ⊥
 unfolding rows_from unit_of in_unit units_from
 first-and-padding rows attrs h k {r} {rows'} padded p =
@@ -149,7 +160,8 @@ first-and-padding rows attrs h k {r} {rows'} padded p =
 
 -- one that writes nothing, into tables whose first row is not that of a structure
 module _ (rows attrs : List ℕ) (rows-enough : 2 * row_width ≤ length rows) (attrs-enough : 4 ≤ length attrs) where
-  pub writes_nothing : ((row_at rows 0).kind ≡ tag.structure_type → ⊥) → {r : Said Counts} {attrs' : List ℕ} → BothGiven (reading two_section rows attrs) r rows attrs' → ⊥
+  pub writes_nothing : ((row_at rows 0).kind ≡ tag.structure_type → ⊥) → {r : Said Counts} {attrs' : List ℕ}
+      → BothGiven (reading two_section rows attrs) r rows attrs' → ⊥
   unfolding rows_from unit_of in_unit units_from
   writes_nothing other p =
       let whole = walk-stored two_section two_rows two_attrs 18 walks.1 (omega arith) (omega arith) (omega arith) rows attrs rows-enough attrs-enough in
@@ -160,7 +172,8 @@ module _ (rows attrs : List ℕ) (rows-enough : 2 * row_width ≤ length rows) (
       other (ap (λ (r : Row). r.kind) first)
 
 -- so of tables filled with zeros, whatever their lengths
-pub leaves-zeros : (k m : ℕ) → 2 * row_width ≤ k → 4 ≤ m → {r : Said Counts} {attrs' : List ℕ} → BothGiven (reading two_section (replicate k 0) (replicate m 0)) r (replicate k 0) attrs' → ⊥
+pub leaves-zeros : (k m : ℕ) → 2 * row_width ≤ k → 4 ≤ m → {r : Said Counts} {attrs' : List ℕ}
+    → BothGiven (reading two_section (replicate k 0) (replicate m 0)) r (replicate k 0) attrs' → ⊥
 unfolding row_at
 leaves-zeros k m h l =
     writes_nothing (replicate k 0) (replicate m 0) (rw (length-replicate {A = ℕ} k 0) h) (rw (length-replicate {A = ℕ} m 0) l)
@@ -169,7 +182,8 @@ leaves-zeros k m h l =
 -- ---- any input
 
 fit-counts : (all : Entries) (fits : Bool) (rows attrs : List ℕ)
-    → said_counts (fills_rooms fits (counts_of all) (length all.rows ∷ length all.attrs ∷ []) (rows_words (with_units all.rows)) (attrs_words all.attrs) rows attrs).answer
+    → said_counts (fills_rooms fits (counts_of all) (length all.rows ∷ length all.attrs ∷ []) (rows_words (with_units all.rows)) (attrs_words all.attrs) rows
+    attrs).answer
     ≡ counts_of all
 unfolding fills_rooms
 fit-counts all true rows attrs = refl
@@ -200,7 +214,9 @@ places_a = 0 ∷ 0 ∷ 1 ∷ 1 ∷ 1 ∷ 1 ∷ []
 A-listed : (rows attrs room : List ℕ) → 6 ≤ length room
     → listing_of (rows_words rows_a ++ rows) 3 (λ i. reach_end (lent_rows Big input_a (rows_words rows_a ++ rows) (attrs_words attrs_a ++ attrs) 3) i) room
     ≡ outcome (gives 3) (sets room 0 places_a)
-unfolding value_of there read_at row_words attr_words rows_words attrs_words row_at attr_at erased_row wants attr_from attribute_of as_reference reference_by reference_of count_below nearest_below first_from reach_by reach_end lies depth parent crosses faulty deep first_fault first_deep places_from first_erased tree_tests listing_of must ◌>>◌ in_room fills_room
+unfolding value_of there read_at row_words attr_words rows_words attrs_words row_at attr_at erased_row wants attr_from attribute_of reference_by
+    reference_of count_below nearest_below first_from reach_by reach_end lies depth parent crosses faulty deep first_fault first_deep places_from
+    first_erased tree_tests listing_of must ◌>>◌ in_room fills_room
 A-listed rows attrs room h = ap (λ (b : Bool). cond b (outcome (gives 3) (sets room 0 places_a)) (outcome (wanting (3 ∷ [])) room)) (le-leb 6 (length room) h)
 
 module _ (rows₀ attrs₀ : List ℕ) (rows-enough : 3 * row_width ≤ length rows₀) (attrs-enough : 8 ≤ length attrs₀) {c : Counts} {rows attrs : List ℕ}
@@ -224,7 +240,8 @@ module _ (rows₀ attrs₀ : List ℕ) (rows-enough : 3 * row_width ≤ length r
       → Given (list_tree (table input_a settings [] four_each rows attrs c) room) r room' → ⊥
   depth-zero room h {r} {room'} zeros given =
       let tree : list_tree (table input_a settings [] four_each rows attrs c) room ≡ outcome (gives 3) (sets room 0 places_a) =
-      tree-listed settings [] four_each input_a rows₀ attrs₀ c refl read room ∙ rw (A-counts, A-rows, A-attrs) (A-listed (drop (3 * row_width) rows₀) (drop 8 attrs₀) room h)
+      tree-listed settings [] four_each input_a rows₀ attrs₀ c refl read room
+      ∙ rw (A-counts, A-rows, A-attrs) (A-listed (drop (3 * row_width) rows₀) (drop 8 attrs₀) room h)
       in
       let inside : get_or room' 2 0 ≡ 1 =
       ap (λ (t : List ℕ). get_or t 2 0) (given.room_is ∙ ap (λ (o : Outcome (Said ℕ) ℕ). o.room) tree) ∙ sets-back room 0 places_a 2 h (omega arith)

@@ -12,7 +12,7 @@ use lib.Seq.{get_or-set_same, get_or-set_other, sets, length-sets}
 use lib.Dec.{ltb}
 use borrow.Author.Tests.{lt-ltb, le-ltb}
 use Rattle.format.specs.Limits.{depth_limit}
-use Rattle.lent.proofs.Laws.Stores.{sets-append, sets-out}
+use Rattle.lent.proofs.Laws.Stores.{sets-append}
 use Rattle.tree.proofs.Laws.Pick.{first-unique}
 use Rattle.tree.specs.Inside.Passing.{closing, opened, open_at, nearest, open_deep, open_words, OpenListed}
 use Rattle.tree.specs.Tree.{place_width}
@@ -20,24 +20,18 @@ use Rattle.tree.specs.Inside.Stack.{stack_of, top_of, height_at}
 
 -- ---- each way that the code comes to an answer
 
-pub top-none : (t : List ℕ) (h : ℕ) → h ≡ 0 → 0 ≡ top_of t h
-unfolding top_of
-top-none t h e = rw e
-
-pub top-last : (t : List ℕ) (h : ℕ) → (h ≡ 0 → ⊥) → {r : ℕ} → r ≡ get_or t (h - 1) 0 → r ≡ top_of t h
-unfolding top_of
-top-last t zero h p = absurd (h refl)
-top-last t (suc h) some p = let back : suc h - 1 ≡ h = omega arith in rw back at p
-
 -- how the code comes to the height, where it has come down from h rows to k
 module _ (j : ℕ) (ends : List ℕ) (h : ℕ) where
   -- the uppermost row stays
-  pub height-here : (k : ℕ) → height_at j ends k ≡ height_at j ends h → 0 < k → {end : ℕ} → end ≡ get_or ends (k - 1) 0 → j < end → k ≡ height_at j ends h
+  pub height-here : (k : ℕ) → height_at j ends k ≡ height_at j ends h → 0 < k → {end : ℕ} → end ≡ get_or ends (k - 1) 0 → j < end
+      → k - 1 + 1 ≡ height_at j ends h
   unfolding height_at
   height-here zero same some p l = absurd (omega arith)
   height-here (suc k) same some p l =
       let back : suc k - 1 ≡ k = omega arith in
-      let past : ltb j (get_or ends k 0) ≡ true = lt-ltb j (get_or ends k 0) (rw (p, back) at l) in rw past at same
+      let past : ltb j (get_or ends k 0) ≡ true = lt-ltb j (get_or ends k 0) (rw (p, back) at l) in
+      let own : suc k - 1 + 1 ≡ suc k = omega arith in
+      own ∙ rw past at same
 
   -- it is taken off
   pub height-less : (k : ℕ) → height_at j ends k ≡ height_at j ends h → 0 < k → {end : ℕ} → end ≡ get_or ends (k - 1) 0 → end ≤ j
@@ -52,13 +46,6 @@ module _ (j : ℕ) (ends : List ℕ) (h : ℕ) where
   unfolding height_at
   height-none zero same none = same
   height-none (suc k) same none = absurd (omega arith)
-
-pub place-stored : (t : List ℕ) (i depth parent : ℕ) {t₁ t₂ : List ℕ} → t₁ ≡ set t (i * place_width) depth → t₂ ≡ set t₁ (i * place_width + 1) parent
-    → t₂ ≡ sets t (i * place_width) (depth ∷ parent ∷ [])
-place-stored t i depth parent p₁ p₂ = rw (p₂, p₁, add-one)
-
-pub place-unstored : (t : List ℕ) (i depth parent : ℕ) → length t ≤ i → t ≡ sets t (i * place_width) (depth ∷ parent ∷ [])
-place-unstored t i depth parent h = sym (sets-out t (i * place_width) (depth ∷ parent ∷ []) (omega arith))
 
 -- ---- the stack
 

@@ -1,5 +1,6 @@
 -- A forest that the standard writes is listed as that forest: every entry once, in its order, with its depth and its parent. First of the definition
 -- of the listing, then of the calls, over their own contracts.
+use Rattle.format.specs.Said.{said_counted, Said, gives}
 use Prim.Native.Nat.{ℕ, suc, ◌+◌, ◌*◌}
 use native.Mathlib.Nat.{add-zero}
 use native.Mathlib.Omega.{arith}
@@ -17,9 +18,8 @@ use Rattle.numbers.specs.declared.Endian.{Endian}
 use Rattle.standard.specs.Entries.{Die, written_dies}
 use Rattle.standard.specs.Forest.{Forest, done, ended, alone, childless, family}
 use Rattle.format.specs.Limits.{erased_limit}
-use Rattle.format.specs.Said.{Said, gives}
 use Rattle.format.specs.declared.settings.Settings.{Settings}
-use Rattle.tables.specs.Table.{Table, table}
+use Rattle.tables.specs.Table.{Table, table, table_of}
 use Rattle.tables.specs.declared.row.Row.{Row}
 use Rattle.tables.specs.declared.row.Attr.{Attr}
 use Rattle.tables.specs.declared.row.Counts.{Counts}
@@ -32,7 +32,7 @@ use Rattle.entries.proofs.Laws.Filled.{answer-read}
 use Rattle.entries.proofs.Laws.StandardRead.{standard-read}
 use Rattle.entries.proofs.section.read_debug_section as read
 use Rattle.tree.specs.Nest.{depth}
-use Rattle.tree.specs.Tree.{said_listing, places_from, list_tree}
+use Rattle.tree.specs.Tree.{places_from, list_tree}
 use Rattle.tree.specs.Demand.{Called}
 use Rattle.tree.specs.Standard.{forest_places, ForestFits, ForestListed}
 use Rattle.tree.proofs.Laws.Ends.{Listable}
@@ -153,12 +153,12 @@ module _ (κs : Lfts 5) (a : Dens κs read.Kinds.ps) (z : (res_t read.Kinds.r κ
       attrs_then = x.1.1.1.1.1.0.now;
     })
     (n : Counts) (says : c.said ≡ gives n)
-    (κs' : Lfts 6) (a' : Dens κs' list.Kinds.ps) (z' : (res_t list.Kinds.r κs').Denot) (x' : AtExit (ended_of 6 list.Kinds.ps list.Kinds.r) κs')
+    (κs' : Lfts 3) (a' : Dens κs' list.Kinds.ps) (z' : (res_t list.Kinds.r κs').Denot) (x' : AtExit (ended_of 3 list.Kinds.ps list.Kinds.r) κs')
     (post' : list.Reads.Post κs' a' z' x')
-    (asked : table a'.0.now a'.1.0 a'.1.1.0.now a'.1.1.1.0.now a'.1.1.1.1.0.now a'.1.1.1.1.1.0.now a'.1.1.1.1.1.1.0
+    (asked : table_of a'.0.now
     ≡ table c.section c.settings c.vendors c.sizes c.rows_then c.attrs_then n) where
   abbrev listing : Called
-  listing = record { room = a'.1.1.1.1.1.1.1.0.now; said = said_listing z'; room' = x'.1.1.1.1.1.1.1.0.now }
+  listing = record { room = a'.1.0.now; said = said_counted z'; room' = x'.1.0.now }
 
   given : BothGiven (read_debug_section c.settings c.vendors c.sizes c.section c.rows c.attrs) c.said c.rows_then c.attrs_then
   given = rw is post
@@ -168,8 +168,8 @@ module _ (κs : Lfts 5) (a : Dens κs read.Kinds.ps) (z : (res_t read.Kinds.r κ
 
   -- a section that the standard wrote as a forest, and that was read with the flag off, is listed as that forest
   pub forest-listed : (dies : Dies c) → WrittenLent c dies → {closed : Bool} (forest : Forest (taken c.vendors) c.settings.endian closed 0 dies)
-      → ForestFits forest a'.1.1.1.1.1.1.1.0.now
-      → ForestListed forest (record { room = a'.1.1.1.1.1.1.1.0.now; said = said_listing z'; room' = x'.1.1.1.1.1.1.1.0.now })
+      → ForestFits forest a'.1.0.now
+      → ForestListed forest (record { room = a'.1.0.now; said = said_counted z'; room' = x'.1.0.now })
   forest-listed dies lent forest fits =
       forest-listing c.settings c.vendors c.sizes c.section c.rows c.attrs n lent.flag_off
       (subst (λ (r : Said Counts). BothGiven (read_debug_section c.settings c.vendors c.sizes c.section c.rows c.attrs) r c.rows_then c.attrs_then) says given)

@@ -1,5 +1,6 @@
 -- The table of entries that the standard wrote without padding: row i is entry i, its key is where the entry begins, and its sibling reference is what
 -- its first AT_sibling names. So in the table of a forest each row's reach ends behind the rows below it.
+use Rattle.std.specs.Prelude.{Option, Some, None}
 use Prim.Native.Nat.{ℕ, suc, ◌+◌, ◌%◌, ◌<◌}
 use native.Mathlib.Nat.{add-zero, le_refl}
 use native.Mathlib.Omega.{arith}
@@ -28,10 +29,8 @@ use Rattle.entries.proofs.Laws.KnownRun.{by-test}
 use Rattle.entries.proofs.Laws.Tagged.{tagged}
 use Rattle.entries.proofs.Laws.StandardValue.{body_stands, value-decoded}
 use Rattle.entries.proofs.Laws.StandardRead.{dies-length, die-stands, others-stand}
-use Rattle.links.specs.Attribute.{sibling_number, wants, attr_from, attribute_of, as_reference, reference_by, reference_of}
+use Rattle.links.specs.Attribute.{sibling_number, wants, attr_from, attribute_of, reference_by, reference_of}
 use Rattle.links.specs.declared.lookup.Wanted.TheVariants as wanted
-use Rattle.links.specs.declared.lookup.Reference.{Reference}
-use Rattle.links.specs.declared.lookup.Reference.TheVariants.{To, Nothing}
 use Rattle.tree.specs.Demand.{sibling_of}
 use Rattle.tree.specs.Demand as demand
 use Rattle.tree.specs.Reach.{reach_end}
@@ -43,16 +42,16 @@ use Rattle.tree.proofs.Laws.Shape.{Shape, none, node, size, Spans}
 -- ---- the sibling reference of a run of attributes
 
 -- what the first of these values refers to
-unfoldable named : List Value → Reference
-named [] = Nothing
-named (number key ∷ more) = To key
-named (bytes xs ∷ more) = Nothing
+unfoldable named : List Value → Option ℕ
+named [] = None
+named (number key ∷ more) = Some key
+named (bytes xs ∷ more) = None
 
 module _ (e : Endian) (s : List ℕ) where
   -- a reference that was written is read
   reference-read : (at : ℕ) {form : Form} {v : Value} (more : List Value) → form_number form ≡ 2 → Decoded e s at form v
-      → as_reference (reference_at (both e) s at) ≡ named (v ∷ more)
-  unfolding form_number named as_reference
+      → reference_at (both e) s at ≡ named (v ∷ more)
+  unfolding form_number named
   reference-read at more two (decoded.address n p) = absurd (omega arith)
   reference-read at more two (decoded.reference n p) = rw p
   reference-read at more two (decoded.block2 xs p) = absurd (omega arith)
@@ -214,7 +213,8 @@ module _ {numbers : List ℕ} {e : Endian} {s rows attrs : List ℕ} {n i at : �
       rw (from_first, from-count) (die-sibling s attrs d at f.attr (die-stands d dies f.stand) attrs-apart.0)
 
 -- those behind some of them
-from-behind : {numbers : List ℕ} {e : Endian} {s rows attrs : List ℕ} {n i j at next : ℕ} (dies more : List (Die numbers e)) → From e s rows attrs n i at (dies ++ more)
+from-behind : {numbers : List ℕ} {e : Endian} {s rows attrs : List ℕ} {n i j at next : ℕ} (dies more : List (Die numbers e))
+    → From e s rows attrs n i at (dies ++ more)
     → i + length dies ≡ j → at + length (written_dies numbers e dies) ≡ next → From e s rows attrs n j next more
 unfolding written_dies
 from-behind {e = e} {s} {rows} {attrs} {n} {i} {at = at} {next = next} [] more f p q =
@@ -230,7 +230,8 @@ from-behind {numbers} {i = i} {at = at} (d ∷ dies) more f p q =
 abbrev Begins : (s rows : List ℕ) (n i at : ℕ) → Type 0
 Begins s rows n i at = ((i < n) × ((row_at rows i).key ≡ at)) ⊎ ((i ≡ n) × (at ≡ length s))
 
-from-begins : {numbers : List ℕ} {e : Endian} {s rows attrs : List ℕ} {n i at : ℕ} (dies : List (Die numbers e)) → From e s rows attrs n i at dies → Begins s rows n i at
+from-begins : {numbers : List ℕ} {e : Endian} {s rows attrs : List ℕ} {n i at : ℕ} (dies : List (Die numbers e)) → From e s rows attrs n i at dies
+    → Begins s rows n i at
 unfolding written_dies
 from-begins {i = i} {at} [] f = inr (omega (arith, f.last_row), omega (arith, f.section_ends))
 from-begins (d ∷ dies) f = inl (from-inside f, from_key f)
@@ -243,10 +244,10 @@ module _ {s rows : List ℕ} {n : ℕ} (plain : Plain s rows n) (e : Endian) (at
   reach i = reach_end (lent_rows e s rows attrs n) i
 
   -- a reference to a later place where an entry begins, or to the end
-  reach-to : {i j at : ℕ} → i < j → i < n → sibling_of t i ≡ To at → Begins s rows n j at → reach i ≡ j
+  reach-to : {i j at : ℕ} → i < j → i < n → sibling_of t i ≡ Some at → Begins s rows n j at → reach i ≡ j
   reach-to {i} {j} h l p begins =
-      ⊎_elim (λ row. (reach-is plain e attrs (demand.up_to i j h row.0 (p ∙ ap To (sym row.1)))).1)
-      (λ end. (reach-is plain e attrs (demand.rest i l (p ∙ ap To end.1))).1 ∙ sym end.0) begins
+      ⊎_elim (λ row. (reach-is plain e attrs (demand.up_to i j h row.0 (p ∙ ap Some (sym row.1)))).1)
+      (λ end. (reach-is plain e attrs (demand.rest i l (p ∙ ap Some end.1))).1 ∙ sym end.0) begins
 
 -- ---- forests
 
@@ -335,8 +336,8 @@ pub forest-rows : {numbers : List ℕ} {e : Endian} {closed : Bool} {at : ℕ} {
 forest-rows {at = at} {dies} forest = rows-many dies at 0 (forest-rowed forest)
 
 -- in a table that holds a forest's rows and attributes each row's reach ends behind the rows below it
-pub table-spans : {s rows : List ℕ} {n : ℕ} (plain : Plain s rows n) (attrs : List ℕ) {numbers : List ℕ} {e : Endian} {closed : Bool} {dies : List (Die numbers e)}
-    (forest : Forest numbers e closed 0 dies) → s ≡ written_dies numbers e dies → n ≡ length dies
+pub table-spans : {s rows : List ℕ} {n : ℕ} (plain : Plain s rows n) (attrs : List ℕ) {numbers : List ℕ} {e : Endian} {closed : Bool}
+    {dies : List (Die numbers e)} (forest : Forest numbers e closed 0 dies) → s ≡ written_dies numbers e dies → n ≡ length dies
     → rows_from rows 0 (length (rows_of numbers e 0 0 dies)) ≡ with_units (rows_of numbers e 0 0 dies)
     → attrs_from attrs 0 (length (attrs_of numbers e 0 dies)) ≡ attrs_of numbers e 0 dies
     → Spans (λ i. reach_end (lent_rows e s rows attrs n) i) (shape_of forest) 0

@@ -1,43 +1,28 @@
 -- What follows from `Tree`, for each way that the code comes to an answer.
-use Prim.Native.Nat.{ℕ, zero, suc, ◌+◌, ◌*◌, ◌-◌, ◌≤◌, ◌<◌}
-use native.Mathlib.Nat.{sub-zero}
+use Rattle.format.specs.Said.{gives}
+use Prim.Native.Nat.{ℕ, zero, suc, ◌+◌, ◌-◌, ◌≤◌, ◌<◌}
 use native.Mathlib.Omega.{arith}
-use mathlib.Core.Path.{◌≡◌, refl, sym, ap, ◌∙◌, subst}
+use mathlib.Core.Path.{◌≡◌, refl, sym, ap, ◌∙◌}
 use mathlib.Core.Bool.{Bool, true, false, cond}
-use mathlib.Core.List.{List, [], ◌∷◌}
-use lib.ListN.{length}
+use mathlib.Core.List.{List}
 use lib.Seq.{sets}
-use lib.Dec.{leb, ltb}
-use borrow.Author.Tests.{le-leb, lt-leb}
-use Rattle.tables.specs.Table.{table, lent_rows}
-use Rattle.lent.specs.Outcome.{Given}
+use lib.Dec.{ltb}
+use borrow.Author.Tests.{leb-true}
 use Rattle.format.specs.Limits.{depth_limit}
-use Rattle.format.specs.Said.{Said, gives, refusal, wanting, must, ◌>>◌, in_room, fills_room}
-use Rattle.format.proofs.Laws.Said.{goes_in}
-use Rattle.format.specs.declared.settings.Settings.{Settings}
-use Rattle.format.specs.declared.refusal.Refusal.{Refusal}
+use Rattle.format.proofs.Laws.Said.{last-gave, tests-gave}
 use Rattle.format.specs.declared.refusal.Reason.{Reason}
 use Rattle.format.specs.declared.refusal.Reason.TheVariants as reason
 use Rattle.tables.specs.Row.{row_at, erased_row}
-use Rattle.tables.specs.Tests.{said_tested, Tells}
-use Rattle.tables.specs.Inside.Keyed.{refused_at}
 use Rattle.tables.specs.declared.row.Row.{Row}
-use Rattle.tables.specs.declared.row.Counts.{Counts}
-use Rattle.tables.specs.declared.tests.Tested.{Tested}
-use Rattle.tables.specs.declared.tests.Tested.TheVariants.{Passed}
-use Rattle.tables.specs.declared.tests.Tested.TheVariants as tests
 use Rattle.tree.specs.Pick.{first_from}
 use Rattle.tree.proofs.Laws.Pick.{first-from-is}
-use Rattle.tree.specs.Reach.{reach_end}
 use Rattle.tree.specs.Nest.{deep, first_fault, first_deep}
 use Rattle.tree.proofs.Laws.Ends.{Reaching}
 use Rattle.tree.proofs.Laws.Nested.{Nested}
 use Rattle.tree.specs.Inside.Passing.{fault_from, open_deep, open_words, OpenListed}
 use Rattle.tree.proofs.Laws.Fault.{first-fault, fault-none}
 use Rattle.tree.proofs.Laws.Open.{open-depth, open-parent}
-use Rattle.tree.specs.Tree.{said_listing, place_width, places_from, first_erased, tree_tests, listing_of, list_tree}
-use Rattle.tree.specs.declared.listing.Listing.{Listing}
-use Rattle.tree.specs.declared.listing.Listing.TheVariants.{Refused}
+use Rattle.tree.specs.Tree.{places_from, first_erased, none_of, tree_tests}
 
 -- ---- the first erased row
 
@@ -58,13 +43,9 @@ module _ (rows : List ℕ) (n i : ℕ) where
       ap (λ (k : ℕ). first_from (λ j. erased_row (row_at rows j).flags) k (n - k)) one
       ∙ sym (erased-step false (ap (λ (r : Row). erased_row r.flags) (sym p) ∙ sym q ∙ t) h)
 
-  pub erased-none : n ≤ i → i ≡ first_from (λ j. erased_row (row_at rows j).flags) i (n - i)
+  pub erased-none : n ≤ i → i ≤ n → n ≡ first_from (λ j. erased_row (row_at rows j).flags) i (n - i)
   unfolding first_from
-  erased-none h = let step : n - i ≡ 0 = omega arith in rw step
-
-pub erased-begin : (rows : List ℕ) (n : ℕ) → first_from (λ j. erased_row (row_at rows j).flags) 0 (n - 0) ≡ first_erased rows n
-unfolding first_erased
-erased-begin rows n = rw sub-zero
+  erased-none h l = let step : n - i ≡ 0 = omega arith in rw step (omega arith)
 
 -- ---- where reaches nest, the open rows tell depth and parent
 
@@ -88,82 +69,50 @@ module _ {n : ℕ} {reach : ℕ → ℕ} (nested : Nested n reach) where
 
 -- ---- the tests in their order
 
-pub fault-row : (rows : List ℕ) (i : ℕ) (why : Reason) {row : Row} → row ≡ row_at rows i
-    → Refused (refused_at row.key why) ≡ Refused (refused_at (row_at rows i).key why)
-fault-row rows i why p = ap (λ (r : Row). Refused (refused_at r.key why)) p
+pub erased-tested : (rows : List ℕ) (n : ℕ) {erased : ℕ} → erased ≡ first_erased rows n → (why : Reason)
+    → none_of rows n erased why ≡ none_of rows n (first_erased rows n) why
+erased-tested rows n e why = ap (λ (k : ℕ). none_of rows n k why) e
 
-module _ (rows : List ℕ) (n : ℕ) (reach : ℕ → ℕ) (room : List ℕ) {erased : ℕ} (e : erased ≡ first_erased rows n) where
-  pub list-erased : {r : Listing} → erased < n → r ≡ Refused (refused_at (row_at rows erased).key reason.Kind) → Given (listing_of rows n reach room) (said_listing r) room
-  unfolding said_listing listing_of tree_tests in_room must ◌>>◌
-  list-erased h p =
-      let test : leb n (first_erased rows n) ≡ false = ap (λ (k : ℕ). leb n k) (sym e) ∙ lt-leb n erased h in
-      record { answer_is = rw (test, ← e) (ap said_listing p); room_is = rw test }
+module _ (rows : List ℕ) (n : ℕ) (reach : ℕ → ℕ) (reaching : Reaching n reach) where
+  -- the first row at fault, as the code finds it
+  pub fault-tested : {fault : ℕ} → fault ≡ fault_from n reach 0 n → (why : Reason) → none_of rows n fault why ≡ none_of rows n (first_fault n reach) why
+  fault-tested f why = ap (λ (k : ℕ). none_of rows n k why) (f ∙ first-fault n reach reaching)
 
-  module _ (none : n ≤ erased) (reaching : Reaching n reach) {fault : ℕ} (f : fault ≡ fault_from n reach 0 n) where
-    no-erased : leb n (first_erased rows n) ≡ true
-    no-erased = ap (λ (k : ℕ). leb n k) (sym e) ∙ le-leb n erased none
+  module _ (sound : none_of rows n (first_fault n reach) reason.Link ≡ gives tt) where
+    -- no row is at fault, so reaches nest
+    all-nest : Nested n reach
+    unfolding first_fault
+    all-nest =
+        let most : first_fault n reach ≤ 0 + n = (first-from-is _ 0 n).to in
+        let least : n ≤ first_fault n reach = leb-true n (first_fault n reach) (last-gave _ reason.Link _ sound) in
+        let same : first_fault n reach ≡ n = omega arith in
+        fault-none n reach reaching same
 
-    first : fault ≡ first_fault n reach
-    first = f ∙ first-fault n reach reaching
+    -- and the open rows tell which lies too deep
+    pub deep-tested : {deepest : ℕ} → deepest ≡ first_from (open_deep reach) 0 n → (why : Reason)
+        → none_of rows n deepest why ≡ none_of rows n (first_deep n reach) why
+    deep-tested d why = ap (λ (k : ℕ). none_of rows n k why) (d ∙ deep-same all-nest)
 
-    pub list-fault : {r : Listing} → fault < n → r ≡ Refused (refused_at (row_at rows fault).key reason.Link) → Given (listing_of rows n reach room) (said_listing r) room
-    unfolding said_listing listing_of tree_tests in_room must ◌>>◌
-    list-fault h p =
-        let test : leb n (first_fault n reach) ≡ false = ap (λ (k : ℕ). leb n k) (sym first) ∙ lt-leb n fault h in
-        record { answer_is = rw (no-erased, test, ← first) (ap said_listing p); room_is = rw (no-erased, test) }
+-- what the tests have told
+pub record Passed (rows : List ℕ) (n : ℕ) (reach : ℕ → ℕ) : Type 0 where
+  pub nested : Nested n reach
+  pub shallow : n ≤ first_deep n reach
 
-    module _ (sound : n ≤ fault) {deepest : ℕ} (d : deepest ≡ first_from (open_deep reach) 0 n) where
-      no-fault : leb n (first_fault n reach) ≡ true
-      no-fault = ap (λ (k : ℕ). leb n k) (sym first) ∙ le-leb n fault sound
+pub tests-passed : (rows : List ℕ) (n : ℕ) (reach : ℕ → ℕ) → Reaching n reach → tree_tests rows n reach ≡ gives tt → Passed rows n reach
+unfolding tree_tests
+tests-passed rows n reach reaching p =
+    let whole = tests-gave _ _ p in
+    let sound = tests-gave _ _ whole.1 in
+    record {
+      nested = all-nest rows n reach reaching sound.0;
+      shallow = leb-true n (first_deep n reach) (last-gave _ reason.Depth _ sound.1);
+    }
 
-      all-nest : Nested n reach
-      unfolding first_fault
-      all-nest =
-          let most : first_fault n reach ≤ 0 + n = (first-from-is _ 0 n).to in
-          let least : n ≤ first_fault n reach = subst (λ (k : ℕ). n ≤ k) first sound in
-          let same : first_fault n reach ≡ n = omega arith in
-          fault-none n reach reaching same
-
-      first-too-deep : deepest ≡ first_deep n reach
-      first-too-deep = d ∙ deep-same all-nest
-
-      pub list-deep : {r : Listing} → deepest < n → r ≡ Refused (refused_at (row_at rows deepest).key reason.Depth) → Given (listing_of rows n reach room) (said_listing r) room
-      unfolding said_listing listing_of tree_tests in_room must ◌>>◌
-      list-deep h p =
-          let test : leb n (first_deep n reach) ≡ false = ap (λ (k : ℕ). leb n k) (sym first-too-deep) ∙ lt-leb n deepest h in
-          record { answer_is = rw (no-erased, no-fault, test, ← first-too-deep) (ap said_listing p); room_is = rw (no-erased, no-fault, test) }
-
-      module _ (shallow : n ≤ deepest) where
-        no-deep : leb n (first_deep n reach) ≡ true
-        no-deep = ap (λ (k : ℕ). leb n k) (sym first-too-deep) ∙ le-leb n deepest shallow
-
-        pub list-unfit : length room < n * place_width → Given (listing_of rows n reach room) (wanting (n ∷ [])) room
-        unfolding listing_of tree_tests in_room fills_room must ◌>>◌
-        list-unfit h =
-            let test : leb (n * place_width) (length room) ≡ false = lt-leb (n * place_width) (length room) h in
-            record { answer_is = rw (no-erased, no-fault, no-deep, test); room_is = rw (no-erased, no-fault, no-deep, test) }
-
-        pub list-given : {r : ℕ} {room' : List ℕ} → n * place_width ≤ length room → OpenListed reach n r room room' → Given (listing_of rows n reach room) (gives n) room'
-        unfolding listing_of tree_tests in_room fills_room must ◌>>◌
-        list-given {r} {room'} h o =
-            let test : leb (n * place_width) (length room) ≡ true = le-leb (n * place_width) (length room) h in
-            let most : first_from (open_deep reach) 0 n ≤ 0 + n = (first-from-is (open_deep reach) 0 n).to in
-            let least : n ≤ first_from (open_deep reach) 0 n = subst (λ (k : ℕ). n ≤ k) d shallow in
-            let deep_is : r ≡ first_from (open_deep reach) 0 n = o.deep_is in
-            let all : r ≡ n = omega arith in
-            let words : room' ≡ sets room 0 (places_from n reach 0 n) =
-            o.room_is ∙ ap (λ (k : ℕ). sets room 0 (open_words reach 0 k)) all ∙ ap (sets room 0) (places_same all-nest 0 n (omega arith))
-            in
-            record { answer_is = rw (no-erased, no-fault, no-deep, test); room_is = rw (no-erased, no-fault, no-deep, test) words }
-
-module _ (settings : Settings) (vendors sizes s rows attrs : List ℕ) (counts : Counts) (room : List ℕ) {told : Tested}
-    (is : Tells (table s settings vendors sizes rows attrs counts) told) where
-  pub tree-passed : told ≡ Passed → {r : Said ℕ} {room' : List ℕ}
-      → Given (listing_of rows counts.rows (λ i. reach_end (lent_rows settings.endian s rows attrs counts.rows) i) room) r room'
-      → Given (list_tree (table s settings vendors sizes rows attrs counts) room) r room'
-  unfolding list_tree said_tested in_room
-  tree-passed p g = goes_in said_tested is.told p room _ g
-
-  pub tree-refused : {why : Refusal} → told ≡ tests.Refused why → Given (list_tree (table s settings vendors sizes rows attrs counts) room) (refusal why) room
-  unfolding list_tree said_tested in_room
-  tree-refused p = goes_in said_tested is.told p room _ (record { answer_is = refl; room_is = refl })
+-- the pass over the rows then comes to the end, and leaves the listing in the room
+pub all-listed : {rows : List ℕ} {n : ℕ} {reach : ℕ → ℕ} → Passed rows n reach → {room room' : List ℕ} {r : ℕ} → OpenListed reach n r room room'
+    → room' ≡ sets room 0 (places_from n reach 0 n)
+all-listed {n = n} {reach = reach} passed {room} {r = r} o =
+    let deepest : first_from (open_deep reach) 0 n ≡ first_deep n reach = deep-same passed.nested in
+    let most : first_from (open_deep reach) 0 n ≤ 0 + n = (first-from-is (open_deep reach) 0 n).to in
+    let all : r ≡ n = omega (arith, o.deep_is, passed.shallow) in
+    o.room_is ∙ ap (λ (k : ℕ). sets room 0 (open_words reach 0 k)) all ∙ ap (sets room 0) (places_same passed.nested 0 n (omega arith))

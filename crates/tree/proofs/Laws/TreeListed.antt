@@ -12,10 +12,9 @@ use lib.Dec.{leb, ltb}
 use borrow.Author.Tests.{le-ltb, le-leb, leb-true, ltb-false}
 use Rattle.tables.specs.Table.{Table, table}
 use Rattle.lent.specs.Outcome.{Outcome, outcome, Given, BothGiven}
-use Rattle.format.specs.Said.{Said, gives, must, ◌>>◌, in_room, fills_room}
+use Rattle.format.specs.Said.{Said, gives, must, ◌>>◌, in_room, fills_room, ◌>>=◌}
 use Rattle.format.specs.Limits.{depth_limit, section_limit}
 use Rattle.format.specs.Settings.{settings_hold}
-use Rattle.format.specs.Said.{Said, must, ◌>>=◌, ◌>>◌}
 use Rattle.format.specs.Said as said
 use Rattle.format.specs.declared.settings.Settings.{Settings}
 use Rattle.format.specs.declared.refusal.Reason.TheVariants as reason
@@ -34,18 +33,14 @@ use Rattle.links.specs.Children as children
 use Rattle.links.specs.Inside.Children.{listed_into}
 use Rattle.tree.specs.Pick.{first_from}
 use Rattle.tree.proofs.Laws.Pick.{first-none, first-from-is}
-use Rattle.tree.proofs.Laws.Reach.{reach_in}
+use Rattle.tree.proofs.Laws.Reach.{reach_in, reaching}
 use Rattle.tree.specs.Nest.{depth, parent, deep, first_fault, first_deep}
-use Rattle.tree.proofs.Laws.Ends.{Good, NoneCross}
+use Rattle.tree.proofs.Laws.Ends.{Good, NoneCross, Reaching, children_in, Listable}
 use Rattle.tree.proofs.Laws.Demand.{nests-exactly}
 use Rattle.tree.proofs.Laws.Nested.{Nested}
-use Rattle.tree.proofs.Laws.Ends.{Reaching}
 use Rattle.tree.proofs.Laws.Fault.{fault-none}
-use Rattle.tree.proofs.Laws.Reach.{reaching}
 use Rattle.tree.specs.Tree.{place_width, places_from, first_erased, tree_tests, listing_of, list_tree}
 use Rattle.tree.proofs.Laws.WalkTree.{Plain, children-given}
-use Rattle.tree.proofs.Laws.Ends.{children_in}
-use Rattle.tree.proofs.Laws.Ends.{Listable}
 
 -- ---- what the tests of the listing come to
 
@@ -82,7 +77,8 @@ none_first p n h = let all : first_from p 0 n ≡ n = (first-none p n).1 h in le
 -- ---- the places, read back
 
 pub places-depth : (n : ℕ) (reach : ℕ → ℕ) (i k j : ℕ) → j < k
-    → (get_or (places_from n reach i k) (j * place_width) 0 ≡ depth n reach (i + j)) × (get_or (places_from n reach i k) (j * place_width + 1) 0 ≡ parent n reach (i + j))
+    → (get_or (places_from n reach i k) (j * place_width) 0 ≡ depth n reach (i + j))
+    × (get_or (places_from n reach i k) (j * place_width + 1) 0 ≡ parent n reach (i + j))
 unfolding places_from
 places-depth n reach i zero j h = elim h [ ]
 places-depth n reach i (suc k) zero h =

@@ -1,5 +1,6 @@
 -- The tree theorem (demand 3) of the public calls, over their own contracts: take a table that `read_debug_section` filled with erased entries left out,
 -- and list and walk it with the section and settings it was read with. What is said there is `TreeTheorem` of specs/Demand.
+use Rattle.format.specs.Said.{said_counted, Said, gives}
 use Prim.Native.Nat.{ℕ, ◌+◌, ◌*◌, ◌<◌}
 use native.Mathlib.Omega.{arith}
 use mathlib.Core.Path.{◌≡◌, sym, ap, subst, ◌∙◌}
@@ -14,18 +15,17 @@ use contract.Lifetimes.{Lfts}
 use Rattle.lent.specs.Outcome.{Outcome, Given, BothGiven}
 use Rattle.lent.specs.Filled.{Filled}
 use Rattle.lent.proofs.Laws.Filled.{sets-filled}
-use Rattle.format.specs.Said.{Said, gives}
 use Rattle.format.specs.declared.settings.Settings.{Settings}
 use Rattle.format.proofs.Laws.Said.{room-gave, fill-gave}
-use Rattle.tables.specs.Table.{Table, table, table_rows}
+use Rattle.tables.specs.Table.{Table, table, table_of, table_rows}
 use Rattle.tables.specs.declared.row.Counts.{Counts}
 use Rattle.entries.specs.Section.{said_section, read_debug_section}
 use Rattle.entries.proofs.section.read_debug_section as read
-use Rattle.links.specs.Children.{said_child_rows, children_of_key}
+use Rattle.links.specs.Children.{children_of_key}
 use Rattle.links.proofs.children.children as walk
 use Rattle.tree.proofs.Laws.Reach.{reach_in}
 use Rattle.tree.specs.Nest.{depth, parent}
-use Rattle.tree.specs.Tree.{said_listing, places_from, listing_of, tree_tests, list_tree}
+use Rattle.tree.specs.Tree.{places_from, listing_of, tree_tests, list_tree}
 use Rattle.tree.specs.Demand.{key_of, Depth, Parent, IsTree, Listable, Called, TreeTheorem}
 use Rattle.tree.proofs.Laws.Ends.{Good, NoneCross, children_in}
 use Rattle.tree.proofs.Laws.Ends as ends
@@ -54,7 +54,8 @@ module _ (settings : Settings) (vendors sizes s rows₀ attrs₀ : List ℕ) (c 
   tree-then : IsTree (table_rows t) → Good n reach × NoneCross n reach
   tree-then tree = (
     λ i h bad. (let is = reach-is sound settings.endian attrs (tree.named i h).1 in omega (arith, is.1, is.2)),
-    λ i j h l o. ⊎_elim (λ holds. inl (λ k a. (let is = lies-then sound settings.endian attrs (holds k (lies-when sound settings.endian attrs l a.0 a.1)) in (is.1, is.2))))
+    λ i j h l o. ⊎_elim
+        (λ holds. inl (λ k a. (let is = lies-then sound settings.endian attrs (holds k (lies-when sound settings.endian attrs l a.0 a.1)) in (is.1, is.2))))
         (λ holds. inr (λ k a. (let is = lies-then sound settings.endian attrs (holds k (lies-when sound settings.endian attrs h a.0 a.1)) in (is.1, is.2))))
         (tree.nested i j (record {
           row = o.0;
@@ -142,37 +143,39 @@ module _ (settings : Settings) (vendors sizes s rows₀ attrs₀ : List ℕ) (c 
 
 module _ (κs : Lfts 5) (a : Dens κs read.Kinds.ps) (z : (res_t read.Kinds.r κs).Denot) (x : AtExit (ended_of 5 read.Kinds.ps read.Kinds.r) κs)
     (post : read.Reads.Post κs a z x) (c : Counts) (says : said_section z ≡ gives c) (off : a.1.0.erased ≡ false)
-    (κs' : Lfts 6) (a' : Dens κs' list.Kinds.ps) (z' : (res_t list.Kinds.r κs').Denot) (x' : AtExit (ended_of 6 list.Kinds.ps list.Kinds.r) κs')
+    (κs' : Lfts 3) (a' : Dens κs' list.Kinds.ps) (z' : (res_t list.Kinds.r κs').Denot) (x' : AtExit (ended_of 3 list.Kinds.ps list.Kinds.r) κs')
     (post' : list.Reads.Post κs' a' z' x')
-    (κs'' : Lfts 6) (a'' : Dens κs'' walk.Kinds.ps) (z'' : (res_t walk.Kinds.r κs'').Denot) (x'' : AtExit (ended_of 6 walk.Kinds.ps walk.Kinds.r) κs'')
+    (κs'' : Lfts 3) (a'' : Dens κs'' walk.Kinds.ps) (z'' : (res_t walk.Kinds.r κs'').Denot) (x'' : AtExit (ended_of 3 walk.Kinds.ps walk.Kinds.r) κs'')
     (post'' : walk.Reads.Post κs'' a'' z'' x'') (t : Table)
     (was_read : table a.0.now a.1.0 a.1.1.0.now a.1.1.1.0.now x.1.1.1.1.0.now x.1.1.1.1.1.0.now c ≡ t)
-    (listed : table a'.0.now a'.1.0 a'.1.1.0.now a'.1.1.1.0.now a'.1.1.1.1.0.now a'.1.1.1.1.1.0.now a'.1.1.1.1.1.1.0 ≡ t)
-    (walked : table a''.0.now a''.1.0 a''.1.1.0.now a''.1.1.1.0.now a''.1.1.1.1.0.now a''.1.1.1.1.1.0.now a''.1.1.1.1.1.1.0 ≡ t)
-    (i : ℕ) (asked : a''.1.1.1.1.1.1.1.0 ≡ key_of (table_rows t) i) where
+    (listed : table_of a'.0.now ≡ t)
+    (walked : table_of a''.0.now ≡ t)
+    (i : ℕ) (asked : a''.1.0 ≡ key_of (table_rows t) i) where
   abbrev filled-table : Table
   filled-table = table a.0.now a.1.0 a.1.1.0.now a.1.1.1.0.now x.1.1.1.1.0.now x.1.1.1.1.1.0.now c
 
   abbrev listing : Called
-  listing = record { room = a'.1.1.1.1.1.1.1.0.now; said = said_listing z'; room' = x'.1.1.1.1.1.1.1.0.now }
+  listing = record { room = a'.1.0.now; said = said_counted z'; room' = x'.1.0.now }
 
   abbrev walking : Called
-  walking = record { room = a''.1.1.1.1.1.1.1.1.0.now; said = said_child_rows z''; room' = x''.1.1.1.1.1.1.1.1.0.now }
+  walking = record { room = a''.1.1.0.now; said = said_counted z''; room' = x''.1.1.0.now }
 
   lists : Given (list_tree filled-table listing.room) listing.said listing.room'
   lists = subst (λ (y : Table). Given (list_tree y listing.room) listing.said listing.room') (listed ∙ sym was_read) post'
 
   walks : Given (children_of_key filled-table (key_of (table_rows filled-table) i) walking.room) walking.said walking.room'
   walks =
-      let key : a''.1.1.1.1.1.1.1.0 ≡ key_of (table_rows filled-table) i = asked ∙ ap (λ (y : Table). key_of (table_rows y) i) (sym was_read) in
+      let key : a''.1.0 ≡ key_of (table_rows filled-table) i = asked ∙ ap (λ (y : Table). key_of (table_rows y) i) (sym was_read) in
       subst (λ (k : ℕ). Given (children_of_key filled-table k walking.room) walking.said walking.room') key
-      (subst (λ (y : Table). Given (children_of_key y a''.1.1.1.1.1.1.1.0 walking.room) walking.said walking.room') (walked ∙ sym was_read) post'')
+      (subst (λ (y : Table). Given (children_of_key y a''.1.0 walking.room) walking.said walking.room') (walked ∙ sym was_read) post'')
 
   pub tree-theorem :
       TreeTheorem (table_rows t)
-      (record { room = a'.1.1.1.1.1.1.1.0.now; said = said_listing z'; room' = x'.1.1.1.1.1.1.1.0.now }) i
-      (record { room = a''.1.1.1.1.1.1.1.1.0.now; said = said_child_rows z''; room' = x''.1.1.1.1.1.1.1.1.0.now })
+      (record { room = a'.1.0.now; said = said_counted z'; room' = x'.1.0.now }) i
+      (record { room = a''.1.1.0.now; said = said_counted z''; room' = x''.1.1.0.now })
   tree-theorem =
       subst (λ (y : Table). TreeTheorem (table_rows y) listing i walking) was_read
       (tree-holds a.1.0 a.1.1.0.now a.1.1.1.0.now a.0.now a.1.1.1.1.0.now a.1.1.1.1.1.0.now c off
-      (subst (λ (r : Said Counts). BothGiven (read_debug_section a.1.0 a.1.1.0.now a.1.1.1.0.now a.0.now a.1.1.1.1.0.now a.1.1.1.1.1.0.now) r x.1.1.1.1.0.now x.1.1.1.1.1.0.now) says post) listing walking i lists walks)
+      (subst (λ (r : Said Counts). BothGiven (read_debug_section a.1.0 a.1.1.0.now a.1.1.1.0.now a.0.now a.1.1.1.1.0.now a.1.1.1.1.1.0.now) r
+      x.1.1.1.1.0.now x.1.1.1.1.1.0.now) says post)
+      listing walking i lists walks)

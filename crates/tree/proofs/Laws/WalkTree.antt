@@ -1,4 +1,5 @@
 -- The child walk in a table whose reaches nest: it meets exactly the rows with that parent.
+use Rattle.std.specs.Prelude.{Option, Some, None}
 use Prim.Native.Nat.{ℕ, zero, suc, ◌+◌, ◌-◌, ◌≤◌, ◌<◌}
 use native.Mathlib.Nat.{lt_irrefl}
 use native.Mathlib.Omega.{arith}
@@ -17,16 +18,12 @@ use Rattle.tables.specs.Row.{row_at, erased_row}
 use Rattle.tables.specs.Find.{row_of_key}
 use Rattle.tables.specs.Inside.Find.{Rising}
 use Rattle.tables.proofs.Laws.Find.{row-found}
-use Rattle.tables.specs.declared.find.Found.{Found}
-use Rattle.tables.specs.declared.find.Found.TheVariants.{At, Nothing}
 use Rattle.entries.proofs.Laws.KnownRun.{by-test}
 use Rattle.links.specs.Attribute.{sibling_number, reference_of}
 use Rattle.links.specs.Walk.{ends, stops, walk_from}
 use Rattle.links.specs.Links.{next_from, next_row, row_number, sibling_by, sibling_row, child_walk, null_row, non_null}
 use Rattle.links.specs.Children.{children_met}
 use Rattle.links.specs.Inside.Children.{listed_into}
-use Rattle.links.specs.declared.lookup.Reference.{Reference}
-use Rattle.links.specs.declared.lookup.Reference.TheVariants as reference
 use Rattle.tree.proofs.Laws.Pick.{all_from}
 use Rattle.tree.specs.Reach.{later_row, reach_by, reach_end}
 use Rattle.tree.specs.Nest.{parent}
@@ -73,26 +70,26 @@ module _ {s rows : List ℕ} {n : ℕ} (plain : Plain s rows n) where
   next-plain i h = next-from-plain (erased_row (row_at rows i).flags) (suc i) (n - suc i) (omega arith)
 
   -- the section's end is no row's key
-  end-nowhere : (key : ℕ) → key ≡ length s → (found : Found) → row_of_key rows n key ≡ found → row_number n found ≡ n
+  end-nowhere : (key : ℕ) → key ≡ length s → (found : Option ℕ) → row_of_key rows n key ≡ found → row_number n found ≡ n
   unfolding row_number
-  end-nowhere key h (At j) p =
+  end-nowhere key h (Some j) p =
       let there = row-found rows n key p in
       let low : (row_at rows j).key < length s = plain.inside j there.0 in
       let same : (row_at rows j).key ≡ key = there.1 in
       absurd (lt_irrefl (length s) (subst (λ (k : ℕ). k < length s) (same ∙ h) low))
-  end-nowhere key h Nothing p = refl
+  end-nowhere key h None p = refl
 
-  later-found : (i : ℕ) (found : Found) → i < later_row i found → row_number n found ≡ later_row i found
+  later-found : (i : ℕ) (found : Option ℕ) → i < later_row i found → row_number n found ≡ later_row i found
   unfolding row_number later_row
-  later-found i (At j) h = or-none i j (ltb i j) h
-  later-found i Nothing h = absurd (omega arith)
+  later-found i (Some j) h = or-none i j (ltb i j) h
+  later-found i None h = absurd (omega arith)
 
-  sibling-by-reach : (i : ℕ) → i < n → (told : Reference) → i < reach_by s rows n i told → sibling_by rows n i told ≡ reach_by s rows n i told
+  sibling-by-reach : (i : ℕ) → i < n → (told : Option ℕ) → i < reach_by s rows n i told → sibling_by rows n i told ≡ reach_by s rows n i told
   unfolding sibling_by reach_by
-  sibling-by-reach i l (reference.To key) h =
+  sibling-by-reach i l (Some key) h =
       by-test (eqb key (length s)) (λ t. rw t (end-nowhere key (eqb-true key (length s) t) (row_of_key rows n key) refl))
       (λ t. rw t (later-found i (row_of_key rows n key) (rw t at h)))
-  sibling-by-reach i l reference.Nothing h = next-plain i l
+  sibling-by-reach i l None h = next-plain i l
 
   module _ (e : Endian) (attrs : List ℕ) (nested : Nested n (λ i. reach_end (lent_rows e s rows attrs n) i)) where
     abbrev pub reach : ℕ → ℕ
@@ -108,7 +105,8 @@ module _ {s rows : List ℕ} {n : ℕ} (plain : Plain s rows n) where
     unfolding child_walk
     walk-parent i l =
         rw (sibling-reach i l, next-plain i l)
-        (walk_same n (λ c. sibling_row (lent_rows e s rows attrs n) c) (λ k. reach_end (lent_rows e s rows attrs n) k) (reach_end (lent_rows e s rows attrs n) i) sibling-reach n (suc i)
+        (walk_same n (λ c. sibling_row (lent_rows e s rows attrs n) c) (λ k. reach_end (lent_rows e s rows attrs n) k)
+        (reach_end (lent_rows e s rows attrs n) i) sibling-reach n (suc i)
         ∙ walk-children n (λ k. reach_end (lent_rows e s rows attrs n) k) nested i l)
 
 -- ---- null entries are left out
@@ -125,7 +123,8 @@ non-null-all rows p i (suc k) =
 pub children-given : {s rows : List ℕ} {n : ℕ} → Plain s rows n → (e : Endian) (attrs : List ℕ) → Nested n (λ i. reach_end (lent_rows e s rows attrs n) i)
     → (i : ℕ) → i < n → (room : List ℕ) → length (children_in rows n (λ k. reach_end (lent_rows e s rows attrs n) k) i) ≤ length room
     → listed_into rows (row_at rows i).key room (child_walk (lent_rows e s rows attrs n) i)
-    ≡ outcome (gives (length (children_in rows n (λ k. reach_end (lent_rows e s rows attrs n) k) i))) (sets room 0 (children_in rows n (λ k. reach_end (lent_rows e s rows attrs n) k) i))
+    ≡ outcome (gives (length (children_in rows n (λ k. reach_end (lent_rows e s rows attrs n) k) i)))
+    (sets room 0 (children_in rows n (λ k. reach_end (lent_rows e s rows attrs n) k) i))
 unfolding listed_into children_met in_room fills_room
 children-given {s} {rows} {n} plain e attrs nested i l room h =
     let given : List ℕ = children_in rows n (λ k. reach_end (lent_rows e s rows attrs n) k) i in

@@ -1,19 +1,14 @@
-use Rattle.format.specs.Said.{◌>>=◌, in_room}
-use Rattle.tables.specs.Inside.Keyed.{said_keyed}
-use Rattle.links.specs.Children.{said_child_rows}
-use Rattle.links.specs.Inside.Children.{listed_into}
-use Rattle.links.proofs.Laws.Children.{children-from}
+use Rattle.format.proofs.Laws.Said.{comes_in, gone_in}
+use Rattle.links.proofs.Laws.Children.{children-keyed}
 use Rattle.links.proofs.Laws.Typed.{keyed-asked}
 use mathlib.Core.Path.{refl}
 use Rattle.links.proofs.children.children.Goals as goal
 
+pub returns-in_err-i : goal.returns-in_err-i
+returns-in_err-i c = children-keyed _ _ _ (gone_in c.row_of.ensures c.in_err-i.was _ c.from_residual.ensures.1 _ refl)
+
 pub give-requires : goal.give-requires
-give-requires c = keyed-asked _ _ _ _ _ _ _ _ c.row_of.ensures c.in-Row.is
+give-requires c = keyed-asked _ _ _ _ _ _ _ _ c.row_of.ensures c.in_ok-i.was
 
-pub returns-in-Row : goal.returns-in-Row
-unfolding listed_into said_keyed ◌>>=◌
-returns-in-Row c = children-from _ _ _ c.row_of.ensures c.in-Row.is c.give.ensures
-
-pub returns-in-Refused : goal.returns-in-Refused
-unfolding said_keyed said_child_rows in_room ◌>>=◌
-returns-in-Refused c = children-from _ _ _ c.row_of.ensures c.in-Refused.is (record { answer_is = refl; room_is = refl })
+pub returns : goal.returns
+returns c = children-keyed _ _ _ (comes_in c.row_of.ensures c.in_ok-i.was _ _ c.give.ensures)

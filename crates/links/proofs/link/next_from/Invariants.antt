@@ -1,10 +1,7 @@
 use Rattle.links.specs.Links.{next_from}
-use Prim.Native.Nat.{◌-◌, ◌≤◌}
+use Prim.Native.Nat.{◌-◌}
 use mathlib.Core.Path.{◌≡◌}
 use Rattle.links.proofs.link.next_from.Given as goal
 
 abbrev pub invariant-loop-j : goal.invariant-loop-j
-invariant-loop-j l = (l.j ≤ l.n) × (next_from l.rows l.asking l.j (l.n - l.j) ≡ next_from l.rows l.asking l.i (l.n - l.i))
-
-abbrev pub decreases-loop-j : goal.decreases-loop-j
-decreases-loop-j l = l.n - l.j
+invariant-loop-j l = next_from l.rows l.asking l.j (l.n - l.j) ≡ next_from l.rows l.asking l.i (l.n - l.i)

@@ -1,18 +1,14 @@
-use Rattle.format.specs.Said.{◌>>=◌}
-use Rattle.format.proofs.Laws.Said.{goes_on}
-use Rattle.links.specs.Typed.{said_part_place, extent_of_place, extent_of_key}
-use Rattle.links.specs.Inside.Typed.{said_spotted}
-use mathlib.Core.Path.{refl}
+use Rattle.format.specs.Said.{said, gives}
+use Rattle.format.proofs.Laws.Said.{comes_on, gone_on}
+use Rattle.links.specs.Typed.{extent_of_key, extent_of_place}
+use borrow.Author.Rules.{rules}
+use mathlib.Core.Path.{ap}
 use Rattle.links.proofs.typed.part_place.Goals as goal
 
-pub returns-in-At : goal.returns-in-At
-unfolding extent_of_key said_spotted extent_of_place ◌>>=◌
-returns-in-At c = goes_on said_spotted c.place_of.ensures c.in-At.is _ c.part_spot.ensures
+pub returns-in_err-place : goal.returns-in_err-place
+unfolding extent_of_key
+returns-in_err-place c = gone_on c.place_of.ensures c.in_err-place.was _ c.from_residual.ensures.1 _
 
-pub returns-in-Nothing : goal.returns-in-Nothing
-unfolding extent_of_key said_spotted said_part_place extent_of_place ◌>>=◌
-returns-in-Nothing c = goes_on said_spotted c.place_of.ensures c.in-Nothing.is _ refl
-
-pub returns-in-Refused : goal.returns-in-Refused
-unfolding extent_of_key said_spotted said_part_place ◌>>=◌
-returns-in-Refused c = goes_on said_spotted c.place_of.ensures c.in-Refused.is _ refl
+pub returns : goal.returns
+unfolding extent_of_key extent_of_place said
+returns c = comes_on c.place_of.ensures c.in_ok-place.was _ (ap gives (search rules))

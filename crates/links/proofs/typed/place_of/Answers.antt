@@ -1,15 +1,13 @@
-use Rattle.format.specs.Said.{◌>>=◌}
-use Rattle.format.proofs.Laws.Said.{goes_on}
-use Rattle.tables.specs.Inside.Keyed.{said_keyed}
+use Rattle.format.specs.Said.{said, gives}
+use Rattle.format.proofs.Laws.Said.{comes_on, gone_on}
 use Rattle.links.specs.Typed.{place_of_key}
-use Rattle.links.specs.Inside.Typed.{said_spotted}
-use mathlib.Core.Path.{refl}
+use mathlib.Core.Path.{ap}
 use Rattle.links.proofs.typed.place_of.Goals as goal
 
-pub returns-in-Row : goal.returns-in-Row
-unfolding place_of_key said_keyed ◌>>=◌
-returns-in-Row c = goes_on said_keyed c.row_of.ensures c.in-Row.is _ c.spot_in.ensures
+pub returns-in_err-i : goal.returns-in_err-i
+unfolding place_of_key
+returns-in_err-i c = gone_on c.row_of.ensures c.in_err-i.was _ c.from_residual.ensures.1 _
 
-pub returns-in-Refused : goal.returns-in-Refused
-unfolding place_of_key said_keyed said_spotted ◌>>=◌
-returns-in-Refused c = goes_on said_keyed c.row_of.ensures c.in-Refused.is _ refl
+pub returns : goal.returns
+unfolding place_of_key said
+returns c = comes_on c.row_of.ensures c.in_ok-i.was _ (ap gives c.spot_in.ensures)

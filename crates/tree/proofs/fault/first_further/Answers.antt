@@ -1,21 +1,11 @@
 use Rattle.tree.proofs.Laws.Chain.{along-begin, along-blocked, along-bad, along-past, along-next, along-end}
-use native.Mathlib.Omega.{arith}
 use Rattle.tree.proofs.fault.first_further.Goals as goal
-
-pub overflow_add-c : goal.overflow_add-c
-overflow_add-c c = omega (arith, c.requires.there)
 
 pub loop-c-init : goal.loop-c-init
 loop-c-init c = along-begin c.requires.within
 
 pub returns-then-b-c : goal.returns-then-b-c
 returns-then-b-c c = along-blocked c.loop-c.invariant c.loop-c-test.true c.if-b-c.true
-
-pub end_of-next-requires : goal.end_of-next-requires
-end_of-next-requires c = record {
-  rising = c.requires.rising;
-  there = omega (arith, c.requires.within);
-}
 
 pub returns-then-next-c : goal.returns-then-next-c
 returns-then-next-c c = along-bad c.loop-c.invariant c.loop-c-test.true

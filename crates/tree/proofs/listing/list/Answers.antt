@@ -1,21 +1,23 @@
-use Rattle.tree.proofs.Laws.Tree.{list-erased, list-fault, list-deep, list-unfit, list-given}
+use Rattle.format.specs.Said.{said_counted}
+use Rattle.format.proofs.Laws.Said.{given-there, comes_in, gone_in, fills, wants}
+use Rattle.tree.specs.Tree.{listing_of}
 use Rattle.tree.proofs.Laws.Reach.{reaching}
-use Rattle.tree.specs.Tree.{said_listing}
+use Rattle.tree.proofs.Laws.Tree.{tests-passed, all-listed}
+use borrow.Author.Tests.{le-leb, lt-leb}
+use mathlib.Core.Path.{refl}
 use Rattle.tree.proofs.listing.list.Goals as goal
 
-pub returns-then-erased-n : goal.returns-then-erased-n
-returns-then-erased-n c = list-erased _ _ _ _ c.first_erased-erased.ensures c.if-erased-n.true c.fault_at_row.ensures
+pub returns-in_err-tree_tests : goal.returns-in_err-tree_tests
+unfolding listing_of
+returns-in_err-tree_tests c = gone_in c.tree_tests.ensures c.in_err-tree_tests.was _ c.from_residual.ensures.1 _ refl
 
-pub returns-then-fault-n : goal.returns-then-fault-n
-returns-then-fault-n c = list-fault _ _ _ _ c.first_erased-erased.ensures c.if-erased-n.false (reaching _ _ _ _ _) c.first_fault-fault.ensures c.if-fault-n.true c.fault_at_row-then-fault-n.ensures
+pub returns-then-t-room : goal.returns-then-t-room
+unfolding listing_of said_counted
+returns-then-t-room c =
+    let passed = tests-passed _ _ _ (reaching _ _ _ _ _) (given-there c.tree_tests.ensures c.in_ok-tree_tests.was) in
+    comes_in c.tree_tests.ensures c.in_ok-tree_tests.was _ _
+    (fills _ _ _ _ (le-leb _ _ c.if-t-room.true) refl (all-listed passed c.list_rows.ensures))
 
-pub returns-then-deep-n : goal.returns-then-deep-n
-returns-then-deep-n c = list-deep _ _ _ _ c.first_erased-erased.ensures c.if-erased-n.false (reaching _ _ _ _ _) c.first_fault-fault.ensures c.if-fault-n.false c.first_deep-deep.ensures c.if-deep-n.true c.fault_at_row-then-deep-n.ensures
-
-pub returns-then-n-room : goal.returns-then-n-room
-unfolding said_listing
-returns-then-n-room c = list-given _ _ _ _ c.first_erased-erased.ensures c.if-erased-n.false (reaching _ _ _ _ _) c.first_fault-fault.ensures c.if-fault-n.false c.first_deep-deep.ensures c.if-deep-n.false c.if-n-room.true c.list_rows.ensures
-
-pub returns-else-n-room : goal.returns-else-n-room
-unfolding said_listing
-returns-else-n-room c = list-unfit _ _ _ _ c.first_erased-erased.ensures c.if-erased-n.false (reaching _ _ _ _ _) c.first_fault-fault.ensures c.if-fault-n.false c.first_deep-deep.ensures c.if-deep-n.false c.if-n-room.false
+pub returns-else-t-room : goal.returns-else-t-room
+unfolding listing_of said_counted
+returns-else-t-room c = comes_in c.tree_tests.ensures c.in_ok-tree_tests.was _ _ (wants _ _ _ _ (lt-leb _ _ c.if-t-room.false) refl refl)

@@ -4,6 +4,3 @@ use Rattle.tree.proofs.pass.close.Given as goal
 
 abbrev pub invariant-loop-k : goal.invariant-loop-k
 invariant-loop-k l = height_at l.j l.ends l.k ≡ height_at l.j l.ends l.h
-
-abbrev pub decreases-loop-k : goal.decreases-loop-k
-decreases-loop-k l = l.k
