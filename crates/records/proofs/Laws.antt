@@ -7,9 +7,7 @@ pub mod Fields
 pub mod Front
 pub mod FrontCounted
 pub mod Record
-pub mod Member
-pub mod Variable
-pub mod OverlayBranch
+pub mod Steps
 pub mod MemberWords
 pub mod Unions
 pub mod UnionsCounted
@@ -18,7 +16,6 @@ pub mod Enumeration
 pub mod Typedef
 pub mod Form
 pub mod Never
-pub mod Back
 pub mod Only
 pub mod UnionFilled
 pub mod EnumerationFilled

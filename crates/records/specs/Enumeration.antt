@@ -1,10 +1,10 @@
 -- Enumerations (document 01, 'Types, records, sizes'; the Rust's `process_enumeration_tag`): attributes in their order, each list going by the
 -- ByteSize last seen before it; then no children; then a ByteSize is needed. GCC reverses the list.
-use Rattle.std.specs.Prelude.{ℕ, zero, suc, ◌+◌, ◌/◌, Bool, true, false, cond, ◌&&◌, List, [], ◌∷◌, ◌++◌, length, leb, ℤ}
+use Rattle.std.specs.Prelude.{Option, ℕ, zero, suc, ◌+◌, ◌/◌, Bool, true, false, cond, ◌&&◌, List, [], ◌∷◌, ◌++◌, length, leb, ℤ}
 use Rattle.tables.specs.Table.{Table, Rows, table_rows}
 use Rattle.lent.specs.Outcome.{Outcomes}
 use Rattle.format.specs.AttributeKind as attribute
-use Rattle.format.specs.Said.{Said, gives, refusal, wanting, ◌>>=◌, ◌>>◌, placed, in_rooms, fills_rooms}
+use Rattle.format.specs.Said.{Said, gives, ◌>>=◌, ◌>>◌, placed, in_rooms, fills_rooms}
 use Rattle.format.specs.declared.settings.Settings.{Settings}
 use Rattle.format.specs.declared.settings.Producer.{Producer}
 use Rattle.format.specs.declared.settings.Producer.TheVariants.{Mwcc, Gcc, Other}
@@ -13,26 +13,17 @@ use Rattle.links.specs.Links.{child_walk}
 use Rattle.tables.specs.Keyed.{row_of}
 use Rattle.records.specs.Taken.{special}
 use Rattle.records.specs.Scan.{run_of, attribute_at, number_at, fault_at}
-use Rattle.records.specs.Fields.{last_from, name_of, word_by, word_of, word_needed}
+use Rattle.records.specs.Fields.{last_from, name_of, word_by, word_of, needed}
 use Rattle.records.specs.Front.{kind_fault, childless_fault}
 use Rattle.records.specs.Elements.{Listed, list_width, elements_in, values_of, names_of}
 use Rattle.records.specs.declared.taken.Record.TheVariants as record'
 use Rattle.records.specs.declared.scan.Run.{Run}
 use Rattle.records.specs.declared.fields.Sought.TheVariants as sought
-use Rattle.records.specs.declared.fields.Word.{Word}
 use Rattle.records.specs.declared.enumeration.Enumeration.{Enumeration}
-use Rattle.records.specs.declared.enumeration.EnumerationRead.{EnumerationRead}
-use Rattle.records.specs.declared.enumeration.EnumerationRead.TheVariants.{Is, Refused, Room}
-
--- what an answer says
-unfoldable pub said_enumeration_read : EnumerationRead → Said Enumeration
-said_enumeration_read (Is enumeration) = gives enumeration
-said_enumeration_read (Refused why) = refusal why
-said_enumeration_read (Room many) = wanting (many ∷ [])
 
 module _ (s attrs : List ℕ) (run : Run) where
   -- the ByteSize last seen before attribute j
-  unfoldable pub size_before : ℕ → Word
+  unfoldable pub size_before : ℕ → Option ℕ
   size_before j = word_by s attrs run (last_from (sought.Number attribute.byte_size) attrs run.first j)
 
   -- the list that is attribute j: a block with a 4-byte length, its values in section endianness
@@ -72,7 +63,7 @@ in_order producer xs = cond (is_gcc producer) (reversed xs) xs
 -- with so many members: a ByteSize is needed, the name may be missing
 unfoldable pub enumeration_sized : List ℕ → List ℕ → Run → ℕ → Said Enumeration
 enumeration_sized s attrs run many = do
-  size ← word_needed run.key (word_of s attrs run attribute.byte_size)
+  size ← needed run.key (word_of s attrs run attribute.byte_size)
   gives (record { name = name_of s attrs run attribute.name; byte_size = size; members = many })
 
 module _ (settings : Settings) (t : Rows) (i : ℕ) where

@@ -1,5 +1,5 @@
 -- What a record picks out of a row's attributes: the last of a kind counts (a name, a type, an offset, a ByteSize, a visibility).
-use Rattle.std.specs.Prelude.{ℕ, zero, suc, ◌+◌, ◌-◌, Bool, cond, ◌||◌, List, eqb}
+use Rattle.std.specs.Prelude.{Option, Some, None, ℕ, zero, suc, ◌+◌, ◌-◌, Bool, cond, ◌||◌, List, eqb}
 use Rattle.format.specs.FormKind.{form_of}
 use Rattle.format.specs.AttributeKind as attribute
 use Rattle.format.specs.Said.{Said, gives, refuses, refuse, ◌>>=◌, placed}
@@ -9,20 +9,13 @@ use Rattle.attributes.specs.Parts.{block_at}
 use Rattle.blocks.specs.Location.{process_offset, process_address}
 use Rattle.blocks.specs.Types.{process_type}
 use Rattle.blocks.specs.declared.types.Type.{«Type»}
-use Rattle.tables.specs.declared.find.Found.{Found}
-use Rattle.tables.specs.declared.find.Found.TheVariants as found
 use Rattle.links.specs.Typed.{word_at}
-use Rattle.links.specs.Maybe.{Maybe, none, some}
 use Rattle.records.specs.Scan.{attribute_at, is_type}
 use Rattle.records.specs.declared.scan.Run.{Run}
 use Rattle.records.specs.declared.scan.Attribute.{Attribute}
 use Rattle.records.specs.declared.fields.Sought.{Sought}
 use Rattle.records.specs.declared.fields.Sought.TheVariants as sought
 use Rattle.records.specs.declared.fields.Text.{Text}
-use Rattle.records.specs.declared.fields.Name.{Name}
-use Rattle.records.specs.declared.fields.Name.TheVariants as name
-use Rattle.records.specs.declared.fields.Word.{Word}
-use Rattle.records.specs.declared.fields.Word.TheVariants as word
 use Rattle.records.specs.declared.fields.Visibility.{Visibility}
 use Rattle.records.specs.declared.fields.Visibility.TheVariants as visibility
 
@@ -33,12 +26,12 @@ is_sought sought.Type number = is_type number
 is_sought sought.Visibility number = eqb number attribute.private || (eqb number attribute.protected || eqb number attribute.public)
 
 -- the last of n attributes from `first` on that is sought
-unfoldable pub last_from : Sought → List ℕ → ℕ → ℕ → Found
-last_from what attrs first zero = found.Nothing
-last_from what attrs first (suc n) = cond (is_sought what (attribute_at attrs (first + n)).number) (found.At (first + n)) (last_from what attrs first n)
+unfoldable pub last_from : Sought → List ℕ → ℕ → ℕ → Option ℕ
+last_from what attrs first zero = None
+last_from what attrs first (suc n) = cond (is_sought what (attribute_at attrs (first + n)).number) (Some (first + n)) (last_from what attrs first n)
 
 -- the last of a row's
-unfoldable pub last_of : Sought → List ℕ → Run → Found
+unfoldable pub last_of : Sought → List ℕ → Run → Option ℕ
 last_of what attrs run = last_from what attrs run.first run.count
 
 -- ---- texts
@@ -48,38 +41,28 @@ unfoldable pub text_of : List ℕ → ℕ → Text
 text_of s at = record { place = at; length = zero_from s at - at }
 
 -- the text of an attribute of the table
-unfoldable pub name_by : List ℕ → List ℕ → Found → Name
-name_by s attrs (found.At k) = name.Is (text_of s (attribute_at attrs k).value)
-name_by s attrs found.Nothing = name.Nothing
+unfoldable pub name_by : List ℕ → List ℕ → Option ℕ → Option Text
+name_by s attrs (Some k) = Some (text_of s (attribute_at attrs k).value)
+name_by s attrs None = None
 
 -- the text of the last attribute of this number
-unfoldable pub name_of : List ℕ → List ℕ → Run → ℕ → Name
+unfoldable pub name_of : List ℕ → List ℕ → Run → ℕ → Option Text
 name_of s attrs run number = name_by s attrs (last_of (sought.Number number) attrs run)
 
 -- ---- what is needed: 15 without
 
--- an attribute of the table
-unfoldable pub attribute_needed : List ℕ → ℕ → Found → Said Attribute
-attribute_needed attrs key (found.At k) = gives (attribute_at attrs k)
-attribute_needed attrs key found.Nothing = refuse reason.Missing key
-
--- a name
-unfoldable pub name_needed : ℕ → Name → Said Text
-name_needed key (name.Is text) = gives text
-name_needed key name.Nothing = refuse reason.Missing key
-
--- a number
-unfoldable pub word_needed : ℕ → Word → Said ℕ
-word_needed key (word.Is x) = gives x
-word_needed key word.Nothing = refuse reason.Missing key
+-- a name, a number or where an attribute is
+unfoldable pub needed : {A : Type 0} → ℕ → Option A → Said A
+needed key (Some x) = gives x
+needed key None = refuse reason.Missing key
 
 -- ---- types
 
 -- the type that an attribute of the table says; its refusal is placed at the row
-unfoldable pub type_by : List ℕ → List ℕ → Run → Found → Said «Type»
+unfoldable pub type_by : List ℕ → List ℕ → Run → Option ℕ → Said «Type»
 type_by s attrs run found = do
-  a ← attribute_needed attrs run.key found
-  placed run.key (process_type run.ends s a.number a.value)
+  k ← needed run.key found
+  placed run.key (process_type run.ends s (attribute_at attrs k).number (attribute_at attrs k).value)
 
 -- the type that the last type attribute says
 unfoldable pub type_of : List ℕ → List ℕ → Run → Said «Type»
@@ -94,50 +77,45 @@ location_block s run a = block_at run.ends.«data» 2 s a.value
 -- the offset of the row's last location
 unfoldable pub offset_field : List ℕ → List ℕ → Run → Said ℕ
 offset_field s attrs run = do
-  a ← attribute_needed attrs run.key (last_of (sought.Number attribute.location) attrs run)
-  placed run.key (process_offset run.ends.section (location_block s run a))
+  k ← needed run.key (last_of (sought.Number attribute.location) attrs run)
+  placed run.key (process_offset run.ends.section (location_block s run (attribute_at attrs k)))
 
 -- a location that is no address was refused by the scan
-unfoldable pub as_address : Said ℕ → Word
-as_address (gives x) = word.Is x
-as_address (refuses number place counts) = word.Nothing
+unfoldable pub as_address : Said ℕ → Option ℕ
+as_address (gives x) = Some x
+as_address (refuses number place counts) = None
 
 -- the address that an attribute of the table says
-unfoldable pub address_by : List ℕ → List ℕ → Run → Found → Word
-address_by s attrs run (found.At k) = as_address (process_address run.ends.section (location_block s run (attribute_at attrs k)))
-address_by s attrs run found.Nothing = word.Nothing
+unfoldable pub address_by : List ℕ → List ℕ → Run → Option ℕ → Option ℕ
+address_by s attrs run (Some k) = as_address (process_address run.ends.section (location_block s run (attribute_at attrs k)))
+address_by s attrs run None = None
 
 -- a variable's address, if it has one
-unfoldable pub address_field : List ℕ → List ℕ → Run → Word
+unfoldable pub address_field : List ℕ → List ℕ → Run → Option ℕ
 address_field s attrs run = address_by s attrs run (last_of (sought.Number attribute.location) attrs run)
 
 -- ---- numbers
 
--- a number that is there, or none
-unfoldable pub as_word : Maybe ℕ → Word
-as_word (some x) = word.Is x
-as_word none = word.Nothing
-
 -- what an attribute says by its form; in a table that was tested the bytes are there
-unfoldable pub word_in : List ℕ → Run → Attribute → Word
-word_in s run a = as_word (word_at (form_of a.number) s (record { at = a.value; ends = run.ends }))
+unfoldable pub word_in : List ℕ → Run → Attribute → Option ℕ
+word_in s run a = word_at (form_of a.number) s (record { at = a.value; ends = run.ends })
 
 -- the number of an attribute of the table
-unfoldable pub word_by : List ℕ → List ℕ → Run → Found → Word
-word_by s attrs run (found.At k) = word_in s run (attribute_at attrs k)
-word_by s attrs run found.Nothing = word.Nothing
+unfoldable pub word_by : List ℕ → List ℕ → Run → Option ℕ → Option ℕ
+word_by s attrs run (Some k) = word_in s run (attribute_at attrs k)
+word_by s attrs run None = None
 
 -- the number that the last attribute of this number says
-unfoldable pub word_of : List ℕ → List ℕ → Run → ℕ → Word
+unfoldable pub word_of : List ℕ → List ℕ → Run → ℕ → Option ℕ
 word_of s attrs run number = word_by s attrs run (last_of (sought.Number number) attrs run)
 
 -- the text of the attribute that plays a role, or the number it says; a role that is absent is played by none
-unfoldable pub role_name : List ℕ → List ℕ → Run → ℕ → Name
-role_name s attrs run role = cond (eqb role 0) name.Nothing (name_of s attrs run role)
+unfoldable pub role_name : List ℕ → List ℕ → Run → ℕ → Option Text
+role_name s attrs run role = cond (eqb role 0) None (name_of s attrs run role)
 
 -- the same of a number
-unfoldable pub role_word : List ℕ → List ℕ → Run → ℕ → Word
-role_word s attrs run role = cond (eqb role 0) word.Nothing (word_of s attrs run role)
+unfoldable pub role_word : List ℕ → List ℕ → Run → ℕ → Option ℕ
+role_word s attrs run role = cond (eqb role 0) None (word_of s attrs run role)
 
 -- ---- visibility
 
@@ -147,9 +125,9 @@ visibility_by number =
     cond (eqb number attribute.private) visibility.Private (cond (eqb number attribute.protected) visibility.Protected visibility.Public)
 
 -- public where nothing is said
-unfoldable pub visibility_in : List ℕ → Found → Visibility
-visibility_in attrs (found.At k) = visibility_by (attribute_at attrs k).number
-visibility_in attrs found.Nothing = visibility.Public
+unfoldable pub visibility_in : List ℕ → Option ℕ → Visibility
+visibility_in attrs (Some k) = visibility_by (attribute_at attrs k).number
+visibility_in attrs None = visibility.Public
 
 -- the row's: the last of the three counts
 unfoldable pub visibility_of : List ℕ → Run → Visibility

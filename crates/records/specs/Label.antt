@@ -2,28 +2,21 @@
 use Rattle.std.specs.Prelude.{ℕ, List}
 use Rattle.tables.specs.Table.{Table, Rows, table_rows}
 use Rattle.format.specs.AttributeKind as attribute
-use Rattle.format.specs.Said.{Said, gives, refusal, ◌>>=◌, ◌>>◌}
+use Rattle.format.specs.Said.{Said, gives, ◌>>=◌, ◌>>◌}
 use Rattle.format.specs.declared.settings.Settings.{Settings}
 use Rattle.tables.specs.Keyed.{row_of}
 use Rattle.records.specs.Scan.{run_of}
-use Rattle.records.specs.Fields.{name_of, word_of, name_needed, word_needed}
+use Rattle.records.specs.Fields.{name_of, word_of, needed}
 use Rattle.records.specs.Front.{front_of}
 use Rattle.records.specs.declared.taken.Record.TheVariants as record'
 use Rattle.records.specs.declared.scan.Run.{Run}
 use Rattle.records.specs.declared.label.Label.{Label}
-use Rattle.records.specs.declared.label.LabelRead.{LabelRead}
-use Rattle.records.specs.declared.label.LabelRead.TheVariants.{Is, Refused}
-
--- what an answer says
-unfoldable pub said_label_read : LabelRead → Said Label
-said_label_read (Is label) = gives label
-said_label_read (Refused why) = refusal why
 
 -- what the row's attributes say of a label: a name, then an address
 unfoldable pub label_fields : List ℕ → List ℕ → Run → Said Label
 label_fields s attrs run = do
-  text ← name_needed run.key (name_of s attrs run attribute.name)
-  address ← word_needed run.key (word_of s attrs run attribute.low_pc)
+  text ← needed run.key (name_of s attrs run attribute.name)
+  address ← needed run.key (word_of s attrs run attribute.low_pc)
   gives (record { name = text; address = address })
 
 -- the label at row i

@@ -1,8 +1,8 @@
 -- Members (the Rust's `process_structure_member_tag`): a type and an offset are needed, and both bit attributes or neither.
-use Rattle.std.specs.Prelude.{ℕ, List}
+use Rattle.std.specs.Prelude.{Option, Some, None, ℕ, List}
 use Rattle.tables.specs.Table.{Table, Rows, table_rows}
 use Rattle.format.specs.AttributeKind as attribute
-use Rattle.format.specs.Said.{Said, gives, refuse, refusal, ◌>>=◌, ◌>>◌}
+use Rattle.format.specs.Said.{Said, gives, refuse, ◌>>=◌, ◌>>◌}
 use Rattle.format.specs.declared.settings.Settings.{Settings}
 use Rattle.format.specs.declared.refusal.Reason.TheVariants as reason
 use Rattle.tables.specs.Keyed.{row_of}
@@ -11,25 +11,15 @@ use Rattle.records.specs.Fields.{name_of, type_of, offset_field, word_of, visibi
 use Rattle.records.specs.Front.{front_of}
 use Rattle.records.specs.declared.taken.Record.TheVariants as record'
 use Rattle.records.specs.declared.scan.Run.{Run}
-use Rattle.records.specs.declared.fields.Word.{Word}
-use Rattle.records.specs.declared.fields.Word.TheVariants as word
 use Rattle.records.specs.declared.member.Bits.{Bits}
-use Rattle.records.specs.declared.member.Bits.TheVariants as bits
 use Rattle.records.specs.declared.member.Member.{Member}
-use Rattle.records.specs.declared.member.MemberRead.{MemberRead}
-use Rattle.records.specs.declared.member.MemberRead.TheVariants.{Is, Refused}
-
--- what an answer says
-unfoldable pub said_member_read : MemberRead → Said Member
-said_member_read (Is member) = gives member
-said_member_read (Refused why) = refusal why
 
 -- BitSize and BitOffset: one without the other is 15
-unfoldable pub bits_by : ℕ → Word → Word → Said Bits
-bits_by key (word.Is size) (word.Is offset) = gives (bits.Are size offset)
-bits_by key (word.Is size) word.Nothing = refuse reason.Missing key
-bits_by key word.Nothing (word.Is offset) = refuse reason.Missing key
-bits_by key word.Nothing word.Nothing = gives bits.Nothing
+unfoldable pub bits_by : ℕ → Option ℕ → Option ℕ → Said (Option Bits)
+bits_by key (Some size) (Some offset) = gives (Some (record { size = size; offset = offset }))
+bits_by key (Some size) None = refuse reason.Missing key
+bits_by key None (Some offset) = refuse reason.Missing key
+bits_by key None None = gives None
 
 -- what the row's attributes say of a member: type, offset, bits, then what may be missing
 unfoldable pub member_fields : List ℕ → List ℕ → Run → Said Member

@@ -3,31 +3,24 @@
 use Rattle.std.specs.Prelude.{ℕ, List}
 use Rattle.tables.specs.Table.{Table}
 use Rattle.format.specs.AttributeKind as attribute
-use Rattle.format.specs.Said.{Said, gives, refusal, ◌>>=◌, ◌>>◌}
+use Rattle.format.specs.Said.{Said, gives, ◌>>=◌, ◌>>◌}
 use Rattle.format.specs.declared.settings.Roles.{Roles}
 use Rattle.format.specs.declared.settings.Settings.{Settings}
 use Rattle.tables.specs.Keyed.{row_of}
 use Rattle.records.specs.Scan.{run_of}
-use Rattle.records.specs.Fields.{role_name, role_word, word_of, name_needed, word_needed}
+use Rattle.records.specs.Fields.{role_name, role_word, word_of, needed}
 use Rattle.records.specs.Front.{head_of}
 use Rattle.records.specs.declared.taken.Record.TheVariants as record'
 use Rattle.records.specs.declared.scan.Run.{Run}
 use Rattle.records.specs.declared.overlay_branch.OverlayBranch.{OverlayBranch}
-use Rattle.records.specs.declared.overlay_branch.OverlayBranchRead.{OverlayBranchRead}
-use Rattle.records.specs.declared.overlay_branch.OverlayBranchRead.TheVariants.{Is, Refused}
-
--- what an answer says
-unfoldable pub said_overlay_branch_read : OverlayBranchRead → Said OverlayBranch
-said_overlay_branch_read (Is branch) = gives branch
-said_overlay_branch_read (Refused why) = refusal why
 
 -- what the row's attributes say of an overlay branch: name, number, first address, last address
 unfoldable pub overlay_fields : List ℕ → List ℕ → Run → Roles → Said OverlayBranch
 overlay_fields s attrs run roles = do
-  text ← name_needed run.key (role_name s attrs run roles.overlay_name)
-  id ← word_needed run.key (role_word s attrs run roles.overlay_id)
-  start ← word_needed run.key (word_of s attrs run attribute.low_pc)
-  end ← word_needed run.key (word_of s attrs run attribute.high_pc)
+  text ← needed run.key (role_name s attrs run roles.overlay_name)
+  id ← needed run.key (role_word s attrs run roles.overlay_id)
+  start ← needed run.key (word_of s attrs run attribute.low_pc)
+  end ← needed run.key (word_of s attrs run attribute.high_pc)
   gives (record {
     name = text;
     id = id;

@@ -2,28 +2,21 @@
 use Rattle.std.specs.Prelude.{ℕ, List}
 use Rattle.tables.specs.Table.{Table, Rows, table_rows}
 use Rattle.format.specs.AttributeKind as attribute
-use Rattle.format.specs.Said.{Said, gives, refusal, ◌>>=◌, ◌>>◌}
+use Rattle.format.specs.Said.{Said, gives, ◌>>=◌, ◌>>◌}
 use Rattle.format.specs.declared.settings.Settings.{Settings}
 use Rattle.tables.specs.Keyed.{row_of}
 use Rattle.records.specs.Scan.{run_of}
-use Rattle.records.specs.Fields.{type_of, word_of, word_needed}
+use Rattle.records.specs.Fields.{type_of, word_of, needed}
 use Rattle.records.specs.Front.{front_of}
 use Rattle.records.specs.declared.taken.Record.TheVariants as record'
 use Rattle.records.specs.declared.scan.Run.{Run}
 use Rattle.records.specs.declared.ptr_to_member.PtrToMember.{PtrToMember}
-use Rattle.records.specs.declared.ptr_to_member.PtrToMemberRead.{PtrToMemberRead}
-use Rattle.records.specs.declared.ptr_to_member.PtrToMemberRead.TheVariants.{Is, Refused}
-
--- what an answer says
-unfoldable pub said_ptr_to_member_read : PtrToMemberRead → Said PtrToMember
-said_ptr_to_member_read (Is pointer) = gives pointer
-said_ptr_to_member_read (Refused why) = refusal why
 
 -- what the row's attributes say of a pointer to member: type, containing type
 unfoldable pub ptr_fields : List ℕ → List ℕ → Run → Said PtrToMember
 ptr_fields s attrs run = do
   of ← type_of s attrs run
-  containing ← word_needed run.key (word_of s attrs run attribute.containing_type)
+  containing ← needed run.key (word_of s attrs run attribute.containing_type)
   gives (record { of = of; containing = containing })
 
 -- the pointer to member at row i

@@ -1,5 +1,5 @@
 -- What the theorems against the standard say of the records. What is written, and how, the crate `standard` says.
-use Rattle.std.specs.Prelude.{ℕ, ◌+◌, ◌%◌, ◌^◌, ◌<◌, ◌≡◌, List, [], ◌∷◌, ◌++◌, length}
+use Rattle.std.specs.Prelude.{ℕ, Option, Some, None, ◌+◌, ◌%◌, ◌^◌, ◌<◌, ◌≡◌, List, [], ◌∷◌, ◌++◌, length}
 use Rattle.numbers.specs.Value.{signed_of}
 use Rattle.numbers.specs.declared.Endian.{Endian}
 use Rattle.standard.specs.Numbers.{Form, form_number}
@@ -10,7 +10,6 @@ use Rattle.standard.specs.Elements.{Element, written_elements}
 use Rattle.standard.specs.Members as standard
 use Rattle.attributes.specs.Parts.{part_at}
 use Rattle.blocks.specs.Standard.{type_at, said_from, alike}
-use Rattle.tables.specs.declared.find.Found.TheVariants as found
 use Rattle.records.specs.Scan.{attribute_at}
 use Rattle.records.specs.Fields.{last_of, visibility_of}
 use Rattle.records.specs.Elements.{Listed}
@@ -18,12 +17,8 @@ use Rattle.records.specs.Enumeration.{size_before}
 use Rattle.records.specs.declared.scan.Run.{Run}
 use Rattle.records.specs.declared.fields.Sought.{Sought}
 use Rattle.records.specs.declared.fields.Sought.TheVariants as sought
-use Rattle.records.specs.declared.fields.Name.{Name}
-use Rattle.records.specs.declared.fields.Name.TheVariants as name
-use Rattle.records.specs.declared.fields.Word.{Word}
-use Rattle.records.specs.declared.fields.Word.TheVariants as word
+use Rattle.records.specs.declared.fields.Text.{Text}
 use Rattle.records.specs.declared.member.Bits.{Bits}
-use Rattle.records.specs.declared.member.Bits.TheVariants as bits
 use Rattle.records.specs.declared.member.Member.{Member}
 
 -- ---- enumerations
@@ -68,7 +63,7 @@ pub record ListWritten (w : ℕ) (e : Endian) (s attrs : List ℕ) (run : Run) (
   pub place : length before ≡ (attribute_at attrs (run.first + j)).value
   pub short : length (written_elements w e xs) < 256 ^ 4
   pub one_endian : run.ends ≡ alike e
-  pub sized : size_before s attrs run j ≡ word.Is w
+  pub sized : size_before s attrs run j ≡ Some w
 
 -- ---- members
 
@@ -79,7 +74,7 @@ pub record LastSays (e : Endian) (s attrs : List ℕ) (run : Run) (what : Sought
   pub before : List ℕ
   pub body : List ℕ
   pub behind : List ℕ
-  pub last : last_of what attrs run ≡ found.At index
+  pub last : last_of what attrs run ≡ Some index
   pub numbered : (attribute_at attrs index).number ≡ kind
   pub has_form : kind % 16 ≡ form_number form
   pub written : Written e form value body
@@ -87,22 +82,22 @@ pub record LastSays (e : Endian) (s attrs : List ℕ) (run : Run) (what : Sought
   pub place : length before ≡ (attribute_at attrs index).value
 
 -- the number that the row's last attribute of this kind says; or it has none
-pub data SaysWord (e : Endian) (s attrs : List ℕ) (run : Run) (kind : ℕ) : Word → Type 0 where
-  says : (n : ℕ) → LastSays e s attrs run (sought.Number kind) kind (number n) → SaysWord e s attrs run kind (word.Is n)
-  silent : last_of (sought.Number kind) attrs run ≡ found.Nothing → SaysWord e s attrs run kind word.Nothing
+pub data SaysWord (e : Endian) (s attrs : List ℕ) (run : Run) (kind : ℕ) : Option ℕ → Type 0 where
+  says : (n : ℕ) → LastSays e s attrs run (sought.Number kind) kind (number n) → SaysWord e s attrs run kind (Some n)
+  silent : last_of (sought.Number kind) attrs run ≡ None → SaysWord e s attrs run kind None
 
 -- both attributes of a bit field, or neither
-pub data SaysBits (e : Endian) (s attrs : List ℕ) (run : Run) : Bits → Type 0 where
-  field : {size offset : ℕ} → SaysWord e s attrs run standard.bit_size (word.Is size) → SaysWord e s attrs run standard.bit_offset (word.Is offset)
-      → SaysBits e s attrs run (bits.Are size offset)
-  whole : SaysWord e s attrs run standard.bit_size word.Nothing → SaysWord e s attrs run standard.bit_offset word.Nothing
-      → SaysBits e s attrs run bits.Nothing
+pub data SaysBits (e : Endian) (s attrs : List ℕ) (run : Run) : Option Bits → Type 0 where
+  field : {size offset : ℕ} → SaysWord e s attrs run standard.bit_size (Some size) → SaysWord e s attrs run standard.bit_offset (Some offset)
+      → SaysBits e s attrs run (Some (record { size = size; offset = offset }))
+  whole : SaysWord e s attrs run standard.bit_size None → SaysWord e s attrs run standard.bit_offset None
+      → SaysBits e s attrs run None
 
 -- the name that the row says, in the text behind its last AT_name; or it has none
-pub data SaysName (e : Endian) (s attrs : List ℕ) (run : Run) : Name → Type 0 where
+pub data SaysName (e : Endian) (s attrs : List ℕ) (run : Run) : Option Text → Type 0 where
   named : (xs : List ℕ) (l : LastSays e s attrs run (sought.Number standard.name) standard.name (bytes xs))
-      → SaysName e s attrs run (name.Is (record { place = (attribute_at attrs l.index).value; length = length xs }))
-  nameless : last_of (sought.Number standard.name) attrs run ≡ found.Nothing → SaysName e s attrs run name.Nothing
+      → SaysName e s attrs run (Some (record { place = (attribute_at attrs l.index).value; length = length xs }))
+  nameless : last_of (sought.Number standard.name) attrs run ≡ None → SaysName e s attrs run None
 
 -- a row says a member in the standard's words: its type and its place in the structure, and of the rest what it has
 pub record SaysMember (e : Endian) (s attrs : List ℕ) (run : Run) : Type 0 where
@@ -115,11 +110,11 @@ pub record SaysMember (e : Endian) (s attrs : List ℕ) (run : Run) : Type 0 whe
   pub offset : ℕ
   pub small : offset < 256 ^ 4
   pub located : LastSays e s attrs run (sought.Number standard.location) standard.location (bytes (written_location e (plus offset)))
-  pub bits : Bits
+  pub bits : Option Bits
   pub says_bits : SaysBits e s attrs run bits
-  pub size : Word
+  pub size : Option ℕ
   pub says_size : SaysWord e s attrs run standard.byte_size size
-  pub name : Name
+  pub name : Option Text
   pub says_name : SaysName e s attrs run name
 
 -- the record that it comes to; of a visibility nothing is said here

@@ -1,12 +1,12 @@
 -- Typedefs (document 01, 'Types, records, sizes'; the Rust's `process_typedef_tag`): attributes in their order; a specification fills what is
 -- missing at that point, later attributes overwrite. Each specification is read whole. So many may be followed one after the other: 10 at the row
 -- past the limit, cycles too.
-use Rattle.std.specs.Prelude.{ℕ, zero, suc, ◌+◌, true, false, not, cond, List, eqb}
+use Rattle.std.specs.Prelude.{Option, Some, None, ℕ, zero, suc, ◌+◌, true, false, not, cond, List, eqb}
 use Rattle.tables.specs.Table.{Table, Rows, table_rows}
 use Rattle.numbers.specs.Value.{read_at}
 use Rattle.format.specs.AttributeKind as attribute
 use Rattle.format.specs.Limits.{specification_limit}
-use Rattle.format.specs.Said.{Said, gives, refuse, refusal, must, ◌>>=◌, ◌>>◌, placed}
+use Rattle.format.specs.Said.{Said, gives, refuse, must, ◌>>=◌, ◌>>◌, placed}
 use Rattle.format.specs.declared.settings.Settings.{Settings}
 use Rattle.format.specs.declared.refusal.Reason.TheVariants as reason
 use Rattle.blocks.specs.Types.{process_type}
@@ -17,22 +17,13 @@ use Rattle.tables.specs.Keyed.{found_row, row_of}
 use Rattle.links.specs.Links.{child_walk}
 use Rattle.records.specs.Taken.{special}
 use Rattle.records.specs.Scan.{run_of, attribute_at, number_at, fault_at, is_type}
-use Rattle.records.specs.Fields.{text_of, name_needed}
+use Rattle.records.specs.Fields.{text_of, needed}
 use Rattle.records.specs.Front.{kind_fault, childless_fault}
 use Rattle.records.specs.declared.taken.Record.TheVariants as record'
 use Rattle.records.specs.declared.scan.Run.{Run}
 use Rattle.records.specs.declared.scan.Attribute.{Attribute}
 use Rattle.records.specs.declared.fields.Text.{Text}
-use Rattle.records.specs.declared.fields.Name.{Name}
-use Rattle.records.specs.declared.fields.Name.TheVariants as name
 use Rattle.records.specs.declared.typedef.Typedef.{Typedef}
-use Rattle.records.specs.declared.typedef.TypedefRead.{TypedefRead}
-use Rattle.records.specs.declared.typedef.TypedefRead.TheVariants.{Is, Refused}
-
--- what an answer says
-unfoldable pub said_typedef_read : TypedefRead → Said Typedef
-said_typedef_read (Is typedef) = gives typedef
-said_typedef_read (Refused why) = refusal why
 
 -- ---- what is known at some point
 
@@ -43,17 +34,17 @@ pub data Held : Type 0 where
 
 -- a name and a type, if there are any yet
 pub record SoFar : Type 0 where
-  pub name : Name
+  pub name : Option Text
   pub of : Held
 
 -- nothing is known yet
 unfoldable pub nothing_yet : SoFar
-nothing_yet = record { name = name.Nothing; of = nothing }
+nothing_yet = record { name = None; of = nothing }
 
 -- a specification fills a name that is missing
-unfoldable pub name_filled : Name → Text → Name
-name_filled (name.Is text) other = name.Is text
-name_filled name.Nothing other = name.Is other
+unfoldable pub name_filled : Option Text → Text → Option Text
+name_filled (Some text) other = Some text
+name_filled None other = Some other
 
 -- and a type
 unfoldable pub type_filled : Held → «Type» → Held
@@ -68,7 +59,7 @@ filled_in known t = record { name = name_filled known.name t.name; of = type_fil
 unfoldable pub overwritten : List ℕ → Run → Attribute → SoFar → SoFar
 overwritten s run a known =
     record {
-      name = cond (eqb a.number attribute.name) (name.Is (text_of s a.value)) known.name;
+      name = cond (eqb a.number attribute.name) (Some (text_of s a.value)) known.name;
       of = cond (is_type a.number) (holds (placed run.key (process_type run.ends s a.number a.value))) known.of;
     }
 
@@ -76,6 +67,13 @@ overwritten s run a known =
 unfoldable pub type_needed : ℕ → Held → Said «Type»
 type_needed key (holds t) = t
 type_needed key nothing = refuse reason.Missing key
+
+-- name first, then type
+unfoldable pub typedef_fields : ℕ → SoFar → Said Typedef
+typedef_fields key known = do
+  text ← needed key known.name
+  of ← type_needed key known.of
+  gives (record { name = text; of = of })
 
 -- ---- specifications
 
@@ -102,9 +100,7 @@ module _ (settings : Settings) (t : Rows) where
   unfoldable pub typedef_end : ℕ → SoFar → Said Typedef
   typedef_end i known = do
     childless_fault t.rows i (child_walk t i)
-    text ← name_needed (row_at t.rows i).key known.name
-    of ← type_needed (row_at t.rows i).key known.of
-    gives (record { name = text; of = of })
+    typedef_fields (row_at t.rows i).key known
 
   -- m attributes of row i's run from number j on; `below` reads the typedef that a specification names
   unfoldable pub attributes_from : (ℕ → Said Typedef) → ℕ → ℕ → Run → ℕ → ℕ → SoFar → Said Typedef

@@ -6,7 +6,7 @@ use Rattle.lent.specs.Outcome.{Outcome}
 use Rattle.format.specs.Lookup.{is_on}
 use Rattle.format.specs.TagKind as tag
 use Rattle.format.specs.AttributeKind as attribute
-use Rattle.format.specs.Said.{Said, gives, refuse, refusal, wanting, ◌>>=◌, ◌>>◌, in_room, fills_room}
+use Rattle.format.specs.Said.{Said, gives, refuse, ◌>>=◌, ◌>>◌, in_room, fills_room}
 use Rattle.format.specs.declared.settings.Settings.{Settings}
 use Rattle.format.specs.declared.refusal.Reason.TheVariants as reason
 use Rattle.tables.specs.Row.{row_at}
@@ -14,7 +14,7 @@ use Rattle.links.specs.Walk.{Walk, ends, endless}
 use Rattle.links.specs.Links.{child_walk, non_null}
 use Rattle.tables.specs.Keyed.{row_of}
 use Rattle.records.specs.Scan.{run_of}
-use Rattle.records.specs.Fields.{name_of, word_of, word_needed}
+use Rattle.records.specs.Fields.{name_of, word_of, needed}
 use Rattle.records.specs.Front.{head_of}
 use Rattle.records.specs.Member.{member_at}
 use Rattle.records.specs.MemberWords.{member_words, member_width}
@@ -22,14 +22,6 @@ use Rattle.records.specs.declared.taken.Record.TheVariants as record'
 use Rattle.records.specs.declared.scan.Run.{Run}
 use Rattle.records.specs.declared.member.Member.{Member}
 use Rattle.records.specs.declared.unions.Union.{Union}
-use Rattle.records.specs.declared.unions.UnionRead.{UnionRead}
-use Rattle.records.specs.declared.unions.UnionRead.TheVariants.{Is, Refused, Room}
-
--- what an answer says
-unfoldable pub said_union_read : UnionRead → Said Union
-said_union_read (Is union) = gives union
-said_union_read (Refused why) = refusal why
-said_union_read (Room many) = wanting (many ∷ [])
 
 -- children that only define types
 unfoldable pub ignored_kinds : List ℕ
@@ -77,7 +69,7 @@ module _ (settings : Settings) (t : Rows) where
 -- with so many members: a ByteSize is needed, the name may be missing
 unfoldable pub union_sized : List ℕ → List ℕ → Run → ℕ → Said Union
 union_sized s attrs run many = do
-  size ← word_needed run.key (word_of s attrs run attribute.byte_size)
+  size ← needed run.key (word_of s attrs run attribute.byte_size)
   gives (record { name = name_of s attrs run attribute.name; byte_size = size; members = many })
 
 -- the union at row i: name, size and how many members

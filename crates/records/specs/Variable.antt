@@ -3,7 +3,7 @@ use Rattle.std.specs.Prelude.{ℕ, Bool, List, eqb}
 use Rattle.tables.specs.Table.{Table, Rows, table_rows}
 use Rattle.format.specs.AttributeKind as attribute
 use Rattle.format.specs.TagKind as tag
-use Rattle.format.specs.Said.{Said, gives, refusal, ◌>>=◌, ◌>>◌}
+use Rattle.format.specs.Said.{Said, gives, ◌>>=◌, ◌>>◌}
 use Rattle.format.specs.declared.settings.Settings.{Settings}
 use Rattle.tables.specs.Row.{row_at}
 use Rattle.tables.specs.Keyed.{row_of}
@@ -13,13 +13,6 @@ use Rattle.records.specs.Front.{front_of}
 use Rattle.records.specs.declared.taken.Record.TheVariants as record'
 use Rattle.records.specs.declared.scan.Run.{Run}
 use Rattle.records.specs.declared.variable.Variable.{Variable}
-use Rattle.records.specs.declared.variable.VariableRead.{VariableRead}
-use Rattle.records.specs.declared.variable.VariableRead.TheVariants.{Is, Refused}
-
--- what an answer says
-unfoldable pub said_variable_read : VariableRead → Said Variable
-said_variable_read (Is variable) = gives variable
-said_variable_read (Refused why) = refusal why
 
 -- what the row's attributes say of a variable: once its type is known, all else may be missing
 unfoldable pub variable_fields : List ℕ → List ℕ → Run → ℕ → Bool → Said Variable

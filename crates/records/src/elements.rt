@@ -4,15 +4,12 @@ ghost use Rattle.format.specs.Said.{placed};
 ghost use Rattle.records.specs.Elements.{list_width, value_at, name_from, named_from, element_at, elements_in};
 ghost use Rattle.records.specs.Inside.Elements.{slot_of, listed_as, ElementsStored, Addable, StoredFrom};
 
-use crate::fields::Word;
 use crate::scan::refused;
-use crate::tally::Tally;
 use attributes::text::zero_from;
-use format::refusal::Reason;
-use lent::values::put_value;
-use lent::words::put_word;
+use format::refusal::{Reason, Refusal};
+use lent::cells::put;
 use numbers::Endian;
-use numbers::signed::{ReadSigned, i8_at, i16_at, i32_at};
+use numbers::number::number_at;
 
 // A value and the name at `place`, of `length` bytes; where the next element begins.
 #[derive(Clone, Copy)]
@@ -25,8 +22,6 @@ pub enum Element {
     },
     // Only a name.
     Name(usize),
-    // No zero, or fewer bytes than a value has.
-    Missing,
 }
 
 // Where the elements of a list go: number k of `total` to slot k, or from the back.
@@ -37,79 +32,75 @@ pub struct Slots {
 }
 
 // A ByteSize of 1, 2 or 4 is the width of the values; with any other, or none yet, there are none.
-pub(crate) fn list_width(size: Word) -> usize
+#[tactic(auto, unfolding(crate::specs::Elements::list_width))]
+pub(crate) fn list_width(size: Option<u32>) -> usize
     ensures { result ≡ list_width size }
 {
     match size {
-        Word::Is(n) => {
-            if n == 1 {
-                1
-            } else if n == 2 {
-                2
-            } else if n == 4 {
-                4
-            } else {
-                0
-            }
-        }
-        Word::Nothing => 0,
+        Some(1) => 1,
+        Some(2) => 2,
+        Some(4) => 4,
+        _ => 0,
     }
 }
 
-fn value_at(block: &[u8], at: usize, e: Endian, width: usize) -> ReadSigned
+#[tactic(auto, unfolding(crate::specs::Elements::value_at))]
+fn value_at(block: &[u8], at: usize, e: Endian, width: usize) -> Option<i32>
     ensures { result ≡ value_at width e block.now at }
 {
     if width == 1 {
-        i8_at(block, at)
+        number_at::<i8>(block, at, e).map(i32::from)
     } else if width == 2 {
-        i16_at(block, at, e)
+        number_at::<i16>(block, at, e).map(i32::from)
     } else {
-        i32_at(block, at, e)
+        number_at::<i32>(block, at, e)
     }
 }
 
 // An element with this value, whose name begins at a place of the block.
-fn named_from(block: &[u8], at: usize, value: i32) -> Element
+#[tactic(auto, unfolding(crate::specs::Elements::named_from))]
+fn named_from(block: &[u8], at: usize, value: i32) -> Option<Element>
     ensures { result ≡ named_from block.now at value }
 {
     let zero = zero_from(block, at);
     if zero < block.len() {
-        Element::Is {
+        Some(Element::Is {
             value,
             place: at,
             length: zero - at,
             next: zero + 1,
-        }
+        })
     } else {
-        Element::Missing
+        None
     }
 }
 
-fn name_from(block: &[u8], at: usize) -> Element
+#[tactic(auto, unfolding(crate::specs::Elements::name_from))]
+fn name_from(block: &[u8], at: usize) -> Option<Element>
     ensures { result ≡ name_from block.now at }
 {
     let zero = zero_from(block, at);
     if zero < block.len() {
-        Element::Name(zero + 1)
+        Some(Element::Name(zero + 1))
     } else {
-        Element::Missing
+        None
     }
 }
 
 // The element at a place of the block.
-fn element_at(block: &[u8], at: usize, e: Endian, width: usize) -> Element
+#[tactic(auto, unfolding(crate::specs::Elements::element_at, crate::specs::Elements::valued))]
+fn element_at(block: &[u8], at: usize, e: Endian, width: usize) -> Option<Element>
     requires { at + width < 2 ^ 64 }
     ensures { result ≡ element_at width e block.now at }
 {
     if width == 0 {
         return name_from(block, at);
     }
-    match value_at(block, at, e, width) {
-        ReadSigned::Value(value) => named_from(block, at + width, value),
-        ReadSigned::Short => Element::Missing,
-    }
+    let value = value_at(block, at, e, width)?;
+    named_from(block, at + width, value)
 }
 
+#[tactic(auto, unfolding(crate::specs::Inside::Elements::slot_of))]
 fn slot_of(slots: Slots, k: usize) -> usize
     ensures { result ≡ slot_of slots k }
 {
@@ -135,10 +126,10 @@ fn put_element(
 )
     ensures { ElementsStored slot (listed_as value place length) values.old values.new names.old names.new }
 {
-    put_value(values, slot, value);
+    put(values, slot, value);
     if slot < names.len() {
-        put_word(names, slot * 2, place as u64);
-        put_word(names, slot * 2 + 1, length as u64);
+        put(names, slot * 2, place as u64);
+        put(names, slot * 2 + 1, length as u64);
     }
 }
 
@@ -153,7 +144,7 @@ pub(crate) fn read_list(
     k: usize,
     values: &mut [i32],
     names: &mut [u64],
-) -> Tally
+) -> Result<usize, Refusal>
     requires { Addable base width block.now k }
     ensures { StoredFrom (placed key (elements_in width e base block.now)) slots k result values.old values.new
         names.old names.new }
@@ -161,7 +152,7 @@ pub(crate) fn read_list(
     let mut at: usize = 0;
     let mut count = k;
     while at < block.len() {
-        match element_at(block, at, e, width) {
+        match element_at(block, at, e, width).ok_or(refused(Reason::Block, key))? {
             Element::Is {
                 value,
                 place,
@@ -173,11 +164,8 @@ pub(crate) fn read_list(
                 count += 1;
                 at = next;
             }
-            Element::Name(next) => {
-                at = next;
-            }
-            Element::Missing => return Tally::Refused(refused(Reason::Block, key)),
+            Element::Name(next) => at = next,
         }
     }
-    Tally::Count(count)
+    Ok(count)
 }

@@ -1,69 +1,45 @@
 // Enumerations: the Rust's `process_enumeration_tag`.
 ghost use Rattle.std.specs.Prelude.{◌≡◌, ◌<◌, length};
-ghost use Rattle.tables.specs.Table.{table, lent_rows};
 ghost use Rattle.lent.specs.Outcome.{BothGiven};
-ghost use Rattle.links.specs.Inside.Children.{Asked};
 ghost use Rattle.format.specs.Limits.{section_limit};
-ghost use Rattle.records.specs.Enumeration.{said_enumeration_read, size_before, is_gcc, enumeration_sized, row_lists};
-ghost use Rattle.records.specs.Inside.Enumeration.{said_enumeration_whole};
+ghost use Rattle.format.specs.Said.{said, said_counted};
+ghost use Rattle.tables.specs.Table.{table_of, table_rows};
+ghost use Rattle.links.specs.Inside.Children.{Asked};
+ghost use Rattle.records.specs.Enumeration.{size_before, is_gcc, enumeration_sized, row_lists};
 ghost use Rattle.records.specs.Enumeration.{enumeration_at, lists_from, enumeration_into, process_enumeration_tag};
 ghost use Rattle.records.specs.Inside.Elements.{StoredFrom};
-ghost use Rattle.records.specs.Inside.Enumeration.{Countable, one_list, Stepping, Steps, AskedShort, enumeration_end, EnumerationStored};
+ghost use Rattle.records.specs.Inside.Enumeration.{Countable, one_list, AskedShort, enumeration_end, EnumerationStored};
 
 use crate::elements::{Slots, list_width, read_list};
-use crate::fields::{Name, Needed, Sought, Word, last_from, last_name, last_word, needs, word_by};
+use crate::fields::{Sought, Text, last_from, last_name, needed_word, word_by};
 use crate::front::{childless_fault, kind_fault};
-use crate::scan::{Fault, Run, Scan, attribute_at, attribute_fault, run_of, scan_from};
+use crate::scan::{Run, attribute_at, attribute_fault, run_of, scan_from};
 use crate::taken::Record;
-use crate::tally::Tally;
 use attributes::decode::block4;
 use format::attribute_kind::{BYTE_SIZE, NAME};
-use format::refusal::Refusal;
+use format::refusal::{Refusal, Unfilled};
 use format::settings::{Producer, Settings};
-use tables::keyed::{Keyed, row_of};
-use tables::row::{Counts, attr_at};
+use tables::keyed::row_of;
+use tables::row::attr_at;
+use tables::table::Table;
 
 #[derive(Clone, Copy)]
 pub struct Enumeration {
-    pub name: Name,
+    pub name: Option<Text>,
     pub byte_size: u32,
     pub members: usize,
 }
 
-// What a row says, with no room.
-#[derive(Clone, Copy)]
-pub enum EnumerationWhole {
-    Is(Enumeration),
-    Refused(Refusal),
-}
-
-#[derive(Clone, Copy)]
-pub enum EnumerationRead {
-    Is(Enumeration),
-    Refused(Refusal),
-    // Refusal 8, at 0: how many members there are.
-    Room(usize),
-}
-
-// Where the attributes come to next, and how many elements there are by then.
-#[derive(Clone, Copy)]
-pub enum Step {
-    Next { at: usize, count: usize },
-    Refused(Refusal),
-}
-
+#[tactic(auto, unfolding(crate::specs::Enumeration::is_gcc))]
 fn is_gcc(producer: Producer) -> bool
     ensures { result ≡ is_gcc producer }
 {
-    match producer {
-        Producer::Mwcc => false,
-        Producer::Gcc => true,
-        Producer::Other => false,
-    }
+    matches!(producer, Producer::Gcc)
 }
 
 // The ByteSize last seen before attribute j.
-fn size_before(s: &[u8], attrs: &[u32], run: Run, j: u32) -> Word
+#[tactic(auto, unfolding(crate::specs::Enumeration::size_before))]
+fn size_before(s: &[u8], attrs: &[u32], run: Run, j: u32) -> Option<u32>
     ensures { result ≡ size_before s.now attrs.now run j }
 {
     let found = last_from(attrs, run.first, j, Sought::Number(BYTE_SIZE));
@@ -81,62 +57,27 @@ fn list_at(
     count: usize,
     values: &mut [i32],
     names: &mut [u64],
-) -> Tally
+) -> Result<usize, Refusal>
     requires { Countable s.now j count }
-    ensures { StoredFrom (one_list settings s.now attrs.now run j) slots count result values.old values.new
-        names.old names.new }
+    ensures { StoredFrom (one_list settings s.now attrs.now run j) slots count result values.old values.new names.old names.new }
 {
     let k = run.first as usize + j as usize;
     let attribute = attribute_at(attrs, k);
-    let roles = settings.roles;
-    match attribute_fault(s, roles, Record::Enumeration, run, attribute) {
-        Fault::Clear => {
-            let ends = run.ends;
-            let e = ends.section;
-            let width = list_width(size_before(s, attrs, run, j));
-            let attr = attr_at(attrs, k);
-            let block = block4(s, attr.value as usize, ends);
-            let base = attr.value as usize + 4;
-            read_list(block, e, width, base, run.key, slots, count, values, names)
-        }
-        Fault::Refused(why) => Tally::Refused(why),
-    }
-}
-
-// The attributes from j on, up to and with the next list.
-fn list_step(
-    s: &[u8],
-    settings: Settings,
-    attrs: &[u32],
-    run: Run,
-    slots: Slots,
-    j: usize,
-    count: usize,
-    values: &mut [i32],
-    names: &mut [u64],
-) -> Step
-    requires { Stepping s.now run j count }
-    ensures { Steps settings s.now attrs.now run slots j count result values.old values.new names.old
-        names.new }
-{
-    let roles = settings.roles;
-    match scan_from(s, roles, attrs, Record::Enumeration, run, j) {
-        Scan::Stop(at) => {
-            if at >= run.count as usize {
-                return Step::Next { at, count };
-            }
-            match list_at(
-                s, settings, attrs, run, slots, at as u32, count, values, names,
-            ) {
-                Tally::Count(more) => Step::Next {
-                    at: at + 1,
-                    count: more,
-                },
-                Tally::Refused(why) => Step::Refused(why),
-            }
-        }
-        Scan::Refused(why) => Step::Refused(why),
-    }
+    attribute_fault(s, settings.roles, Record::Enumeration, run, attribute)?;
+    let width = list_width(size_before(s, attrs, run, j));
+    let at = attr_at(attrs, k).value as usize;
+    let block = block4(s, at, run.ends);
+    read_list(
+        block,
+        run.ends.section,
+        width,
+        at + 4,
+        run.key,
+        slots,
+        count,
+        values,
+        names,
+    )
 }
 
 // All attributes, the elements of the lists into the rooms as far as they fit.
@@ -148,106 +89,74 @@ fn read_lists(
     slots: Slots,
     values: &mut [i32],
     names: &mut [u64],
-) -> Tally
+) -> Result<usize, Refusal>
     requires { length s.now < section_limit }
-    ensures { StoredFrom (lists_from settings s.now attrs.now run 0 run.count) slots 0 result values.old values.new
-        names.old names.new }
+    ensures { StoredFrom (lists_from settings s.now attrs.now run 0 run.count) slots 0 result values.old values.new names.old names.new }
 {
-    let count = run.count as usize;
-    let mut j: usize = 0;
-    let mut listed: usize = 0;
-    while j < count {
-        match list_step(s, settings, attrs, run, slots, j, listed, values, names) {
-            Step::Next { at, count } => {
-                j = at;
-                listed = count;
-            }
-            Step::Refused(why) => return Tally::Refused(why),
+    let mut from = 0;
+    let mut count = 0;
+    loop {
+        let at = scan_from(s, settings.roles, attrs, Record::Enumeration, run, from)?;
+        if at >= run.count as usize {
+            return Ok(count);
         }
+        count = list_at(
+            s, settings, attrs, run, slots, at as u32, count, values, names,
+        )?;
+        from = at + 1;
     }
-    Tally::Count(listed)
 }
 
-fn enumeration_sized(s: &[u8], attrs: &[u32], run: Run, members: usize) -> EnumerationWhole
-    ensures { said_enumeration_whole result ≡ enumeration_sized s.now attrs.now run members }
+#[tactic(auto, using(crate::proofs::Laws::Steps::steps), unfolding(crate::specs::Enumeration::enumeration_sized))]
+fn enumeration_sized(
+    s: &[u8],
+    attrs: &[u32],
+    run: Run,
+    members: usize,
+) -> Result<Enumeration, Refusal>
+    ensures { said result ≡ enumeration_sized s.now attrs.now run members }
 {
-    match needs(last_word(s, attrs, run, BYTE_SIZE), run.key) {
-        Needed::Is(size) => EnumerationWhole::Is(Enumeration {
-            name: last_name(s, attrs, run, NAME),
-            byte_size: size,
-            members,
-        }),
-        Needed::Refused(why) => EnumerationWhole::Refused(why),
-    }
+    let byte_size = needed_word(s, attrs, run, BYTE_SIZE)?;
+    Ok(Enumeration {
+        name: last_name(s, attrs, run, NAME),
+        byte_size,
+        members,
+    })
 }
 
 // After the attributes: no children, then a ByteSize.
-fn enumeration_end(
-    s: &[u8],
-    settings: Settings,
-    rows: &[u32],
-    attrs: &[u32],
-    n: usize,
-    i: usize,
-    members: usize,
-) -> EnumerationWhole
-    requires { Asked rows.now n i }
-    ensures { said_enumeration_whole result ≡ enumeration_end settings s.now rows.now attrs.now n i members }
+#[tactic(auto, using(crate::proofs::Laws::Steps::steps), unfolding(crate::specs::Inside::Enumeration::enumeration_end))]
+fn enumeration_end(t: &Table<'_>, i: usize, members: usize) -> Result<Enumeration, Refusal>
+    requires { Asked t.now.rows.now t.now.counts.rows i }
+    ensures { said result ≡ enumeration_end t.now.settings t.now.section.now t.now.rows.now t.now.attrs.now t.now.counts.rows i members }
 {
-    let e = settings.endian;
-    match childless_fault(s, e, rows, attrs, n, i) {
-        Fault::Clear => {
-            let run = run_of(e, rows, i);
-            enumeration_sized(s, attrs, run, members)
-        }
-        Fault::Refused(why) => EnumerationWhole::Refused(why),
-    }
+    childless_fault(t, i)?;
+    let run = run_of(t.settings.endian, t.rows, i);
+    enumeration_sized(t.section, t.attrs, run, members)
 }
 
 // The enumeration at row i, its members into the rooms as far as they fit.
 fn read_enumeration(
-    s: &[u8],
-    settings: Settings,
-    rows: &[u32],
-    attrs: &[u32],
-    n: usize,
+    t: &Table<'_>,
     i: usize,
     slots: Slots,
     values: &mut [i32],
     names: &mut [u64],
-) -> EnumerationWhole
-    requires { AskedShort s.now rows.now n i }
-    ensures { EnumerationStored (enumeration_at settings (lent_rows settings.endian s.now rows.now attrs.now n) i)
-        (row_lists settings (lent_rows settings.endian s.now rows.now attrs.now n) i) slots result values.old
-        values.new
-        names.old names.new }
+) -> Result<Enumeration, Refusal>
+    requires { AskedShort t.now.section.now t.now.rows.now t.now.counts.rows i }
+    ensures { EnumerationStored (enumeration_at t.now.settings (table_rows (table_of t.now)) i)
+        (row_lists t.now.settings (table_rows (table_of t.now)) i) slots result values.old values.new names.old names.new }
 {
-    match kind_fault(settings, rows, i, Record::Enumeration) {
-        Fault::Clear => {
-            let e = settings.endian;
-            let run = run_of(e, rows, i);
-            match read_lists(s, settings, attrs, run, slots, values, names) {
-                Tally::Count(members) => {
-                    enumeration_end(s, settings, rows, attrs, n, i, members)
-                }
-                Tally::Refused(why) => EnumerationWhole::Refused(why),
-            }
-        }
-        Fault::Refused(why) => EnumerationWhole::Refused(why),
-    }
+    kind_fault(t, i, Record::Enumeration)?;
+    let run = run_of(t.settings.endian, t.rows, i);
+    let members = read_lists(t.section, t.settings, t.attrs, run, slots, values, names)?;
+    enumeration_end(t, i, members)
 }
 
 // The enumeration at row i of a tested table, with no room: all of it is read.
-pub fn enumeration_at(
-    s: &[u8],
-    settings: Settings,
-    rows: &[u32],
-    attrs: &[u32],
-    n: usize,
-    i: usize,
-) -> EnumerationWhole
-    requires { AskedShort s.now rows.now n i }
-    ensures { said_enumeration_whole result ≡ enumeration_at settings (lent_rows settings.endian s.now rows.now attrs.now n) i }
+pub fn enumeration_at(t: &Table<'_>, i: usize) -> Result<Enumeration, Refusal>
+    requires { AskedShort t.now.section.now t.now.rows.now t.now.counts.rows i }
+    ensures { said result ≡ enumeration_at t.now.settings (table_rows (table_of t.now)) i }
 {
     let mut values = [0i32; 0];
     let mut names = [0u64; 0];
@@ -255,73 +164,43 @@ pub fn enumeration_at(
         reversed: false,
         total: 0,
     };
-    read_enumeration(
-        s,
-        settings,
-        rows,
-        attrs,
-        n,
-        i,
-        slots,
-        &mut values,
-        &mut names,
-    )
+    read_enumeration(t, i, slots, &mut values, &mut names)
 }
 
 // Counted first, so that a refusal has written nothing.
+#[tactic(auto, using(crate::proofs::Laws::Steps::steps), unfolding(crate::specs::Enumeration::enumeration_into))]
 fn give_enumeration(
-    s: &[u8],
-    settings: Settings,
-    rows: &[u32],
-    attrs: &[u32],
-    n: usize,
+    t: &Table<'_>,
     i: usize,
     values: &mut [i32],
     names: &mut [u64],
-) -> EnumerationRead
-    requires { AskedShort s.now rows.now n i }
-    ensures { BothGiven (enumeration_into settings (lent_rows settings.endian s.now rows.now attrs.now n)
-        values.old names.old i)
-        (said_enumeration_read result) values.new names.new }
+) -> Result<Enumeration, Unfilled<usize>>
+    requires { AskedShort t.now.section.now t.now.rows.now t.now.counts.rows i }
+    ensures { BothGiven (enumeration_into t.now.settings (table_rows (table_of t.now)) values.old names.old i)
+        (said_counted result) values.new names.new }
 {
-    match enumeration_at(s, settings, rows, attrs, n, i) {
-        EnumerationWhole::Is(found) => {
-            if (found.members <= values.len()) & (found.members <= names.len() / 2) {
-                let producer = settings.producer;
-                let slots = Slots {
-                    reversed: is_gcc(producer),
-                    total: found.members,
-                };
-                read_enumeration(s, settings, rows, attrs, n, i, slots, values, names);
-                EnumerationRead::Is(found)
-            } else {
-                EnumerationRead::Room(found.members)
-            }
-        }
-        EnumerationWhole::Refused(why) => EnumerationRead::Refused(why),
+    let found = enumeration_at(t, i)?;
+    if found.members > values.len() || found.members > names.len() / 2 {
+        return Err(Unfilled::Room(found.members));
     }
+    let slots = Slots {
+        reversed: is_gcc(t.settings.producer),
+        total: found.members,
+    };
+    let _ = read_enumeration(t, i, slots, values, names);
+    Ok(found)
 }
 
 // The enumeration of a key: its values into one room, place and length of its names into another; or a refusal, and the rooms stay as they were.
+#[tactic(auto, using(crate::proofs::Laws::Steps::steps), unfolding(crate::specs::Enumeration::process_enumeration_tag))]
 pub fn process_enumeration_tag(
-    s: &[u8],
-    settings: Settings,
-    vendors: &[u16],
-    sizes: &[u32],
-    rows: &[u32],
-    attrs: &[u32],
-    counts: Counts,
+    t: &Table<'_>,
     key: u32,
     values: &mut [i32],
     names: &mut [u64],
-) -> EnumerationRead
-    ensures { BothGiven (process_enumeration_tag (table s.now settings vendors.now sizes.now rows.now
-        attrs.now counts) key values.old names.old) (said_enumeration_read result) values.new names.new }
+) -> Result<Enumeration, Unfilled<usize>>
+    ensures { BothGiven (process_enumeration_tag (table_of t.now) key values.old names.old) (said_counted result) values.new names.new }
 {
-    match row_of(s, settings, vendors, sizes, rows, attrs, counts, key) {
-        Keyed::Row(i) => {
-            give_enumeration(s, settings, rows, attrs, counts.rows, i, values, names)
-        }
-        Keyed::Refused(why) => EnumerationRead::Refused(why),
-    }
+    let i = row_of(t, key)?;
+    give_enumeration(t, i, values, names)
 }

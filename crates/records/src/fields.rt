@@ -1,27 +1,19 @@
 // What a record picks out of a row's attributes: the last of a kind counts.
 ghost use Rattle.std.specs.Prelude.{◌≡◌};
+ghost use Rattle.format.specs.Said.{said};
 ghost use Rattle.attributes.specs.Parts.{part_at};
-ghost use Rattle.records.specs.Scan.{attribute_at};
-ghost use Rattle.format.specs.Said.{placed};
-ghost use Rattle.links.specs.Typed.{said_value};
-ghost use Rattle.records.specs.Inside.Fields.{word_said};
-ghost use Rattle.blocks.specs.Location.{process_offset, process_address};
-ghost use Rattle.blocks.specs.Types.{said_typed};
-ghost use Rattle.records.specs.Fields.{is_sought, last_from, last_of, text_of, name_of, type_by, type_of, offset_field, as_address};
-ghost use Rattle.records.specs.Fields.{address_field, word_in, word_by, word_of, role_name, role_word, word_needed, visibility_by};
-ghost use Rattle.records.specs.Inside.Fields.{said_needed};
-ghost use Rattle.records.specs.Fields.{visibility_of};
+ghost use Rattle.records.specs.Fields.{is_sought, last_from, last_of, text_of, name_of, needed, type_by, type_of, offset_field, address_field};
+ghost use Rattle.records.specs.Fields.{word_by, word_of, role_name, role_word, visibility_by, visibility_of};
 
 use crate::scan::{Run, attribute_at, is_type, placed, refused};
 use attributes::decode::{block2, part};
 use attributes::text::zero_from;
-use blocks::location::{Located, process_address, process_offset};
-use blocks::types::{Typed, process_type};
-use format::attribute_kind::LOCATION;
+use blocks::location::{process_address, process_offset};
+use blocks::types::{Type, process_type};
+use format::attribute_kind::{LOCATION, PRIVATE, PROTECTED, PUBLIC};
 use format::form_kind::form_of;
 use format::refusal::{Reason, Refusal};
-use links::typed::{Spot, Value, word_at};
-use tables::find::Found;
+use links::typed::{Spot, word_at};
 
 // The kinds of attributes of which the last counts.
 #[derive(Clone, Copy)]
@@ -38,26 +30,6 @@ pub struct Text {
     pub length: usize,
 }
 
-// What may be absent.
-#[derive(Clone, Copy)]
-pub enum Name {
-    Is(Text),
-    Nothing,
-}
-
-#[derive(Clone, Copy)]
-pub enum Word {
-    Is(u32),
-    Nothing,
-}
-
-// What may not be.
-#[derive(Clone, Copy)]
-pub enum Needed {
-    Is(u32),
-    Refused(Refusal),
-}
-
 #[derive(Clone, Copy)]
 pub enum Visibility {
     Private,
@@ -65,39 +37,41 @@ pub enum Visibility {
     Public,
 }
 
+#[tactic(auto, unfolding(crate::specs::Fields::is_sought))]
 fn is_sought(sought: Sought, number: u16) -> bool
     ensures { result ≡ is_sought sought number }
 {
     match sought {
         Sought::Number(n) => number == n,
         Sought::Type => is_type(number),
-        Sought::Visibility => (number == 0x248) | ((number == 0x268) | (number == 0x288)),
+        Sought::Visibility => matches!(number, PRIVATE | PROTECTED | PUBLIC),
     }
 }
 
 // The last of `count` attributes from `first` on that is sought.
-pub(crate) fn last_from(attrs: &[u32], first: u32, count: u32, sought: Sought) -> Found
+#[tactic(auto, using(crate::proofs::Laws::Fields::lasts))]
+pub(crate) fn last_from(attrs: &[u32], first: u32, count: u32, sought: Sought) -> Option<usize>
     ensures { result ≡ last_from sought attrs.now first count }
 {
     let from = first as usize;
-    let mut k = count as usize;
-    while k > 0 {
-        k -= 1;
+    for k in (0..count as usize).rev() {
         let attribute = attribute_at(attrs, from + k);
         if is_sought(sought, attribute.number) {
-            return Found::At(from + k);
+            return Some(from + k);
         }
     }
-    Found::Nothing
+    None
 }
 
-fn last_of(attrs: &[u32], run: Run, sought: Sought) -> Found
+#[tactic(auto, unfolding(crate::specs::Fields::last_of))]
+fn last_of(attrs: &[u32], run: Run, sought: Sought) -> Option<usize>
     ensures { result ≡ last_of sought attrs.now run }
 {
     last_from(attrs, run.first, run.count, sought)
 }
 
 // The text at a place: up to its zero.
+#[tactic(auto, unfolding(crate::specs::Fields::text_of))]
 fn text_of(s: &[u8], at: usize) -> Text
     ensures { result ≡ text_of s.now at }
 {
@@ -108,201 +82,140 @@ fn text_of(s: &[u8], at: usize) -> Text
 }
 
 // The text of the last attribute of this number.
-pub fn last_name(s: &[u8], attrs: &[u32], run: Run, number: u16) -> Name
+#[tactic(auto, unfolding(crate::specs::Fields::name_of, crate::specs::Fields::name_by))]
+pub fn last_name(s: &[u8], attrs: &[u32], run: Run, number: u16) -> Option<Text>
     ensures { result ≡ name_of s.now attrs.now run number }
 {
-    match last_of(attrs, run, Sought::Number(number)) {
-        Found::At(k) => {
-            let attribute = attribute_at(attrs, k);
-            Name::Is(text_of(s, attribute.value))
-        }
-        Found::Nothing => Name::Nothing,
-    }
+    let k = last_of(attrs, run, Sought::Number(number))?;
+    Some(text_of(s, attribute_at(attrs, k).value))
 }
 
 // The bytes of a text, as that part of the section.
 pub fn text_part(s: &[u8], text: Text) -> &[u8]
     ensures { result.now ≡ part_at s.now text.place text.length }
 {
-    let place = text.place;
-    let length = text.length;
-    part(s, place, length)
+    part(s, text.place, text.length)
 }
 
-// A type with the row's key as the place of its refusal.
-fn replaced(key: u32, typed: Typed) -> Typed
-    ensures { said_typed result ≡ placed key (said_typed typed) }
+// What a record cannot do without: 15.
+#[tactic(auto, using(crate::proofs::Laws::Steps::steps))]
+pub(crate) fn needed<T: Copy>(value: Option<T>, key: u32) -> Result<T, Refusal>
+    ensures { said result ≡ needed key value }
 {
-    match typed {
-        Typed::Is(of) => Typed::Is(of),
-        Typed::Refused(why) => Typed::Refused(placed(why, key)),
-    }
+    value.ok_or(refused(Reason::Missing, key))
 }
 
 // A record needs its type.
-pub(crate) fn type_by(s: &[u8], attrs: &[u32], run: Run, found: Found) -> Typed
-    ensures { said_typed result ≡ type_by s.now attrs.now run found }
+#[tactic(auto, using(crate::proofs::Laws::Steps::steps), unfolding(crate::specs::Fields::type_by))]
+pub(crate) fn type_by(
+    s: &[u8],
+    attrs: &[u32],
+    run: Run,
+    found: Option<usize>,
+) -> Result<Type, Refusal>
+    ensures { said result ≡ type_by s.now attrs.now run found }
 {
-    match found {
-        Found::At(k) => {
-            let attribute = attribute_at(attrs, k);
-            let ends = run.ends;
-            replaced(
-                run.key,
-                process_type(s, attribute.number, attribute.value, ends),
-            )
-        }
-        Found::Nothing => Typed::Refused(refused(Reason::Missing, run.key)),
-    }
+    let attribute = attribute_at(attrs, needed(found, run.key)?);
+    process_type(s, attribute.number, attribute.value, run.ends).map_err(|why| placed(why, run.key))
 }
 
-pub(crate) fn last_type(s: &[u8], attrs: &[u32], run: Run) -> Typed
-    ensures { said_typed result ≡ type_of s.now attrs.now run }
+#[tactic(auto, unfolding(crate::specs::Fields::type_of))]
+pub(crate) fn last_type(s: &[u8], attrs: &[u32], run: Run) -> Result<Type, Refusal>
+    ensures { said result ≡ type_of s.now attrs.now run }
 {
     type_by(s, attrs, run, last_of(attrs, run, Sought::Type))
 }
 
-fn offset_in(block: &[u8], run: Run) -> Needed
-    ensures { said_needed result ≡ placed run.key (process_offset run.ends.section block.now) }
-{
-    let ends = run.ends;
-    let e = ends.section;
-    match process_offset(block, e) {
-        Located::Is(offset) => Needed::Is(offset),
-        Located::Refused(why) => Needed::Refused(placed(why, run.key)),
-    }
-}
-
 // A member needs its offset.
-pub(crate) fn last_offset(s: &[u8], attrs: &[u32], run: Run) -> Needed
-    ensures { said_needed result ≡ offset_field s.now attrs.now run }
+#[tactic(auto, using(crate::proofs::Laws::Steps::steps), unfolding(crate::specs::Fields::offset_field, crate::specs::Fields::location_block))]
+pub(crate) fn last_offset(s: &[u8], attrs: &[u32], run: Run) -> Result<u32, Refusal>
+    ensures { said result ≡ offset_field s.now attrs.now run }
 {
-    match last_of(attrs, run, Sought::Number(LOCATION)) {
-        Found::At(k) => {
-            let attribute = attribute_at(attrs, k);
-            let ends = run.ends;
-            offset_in(block2(s, attribute.value, ends), run)
-        }
-        Found::Nothing => Needed::Refused(refused(Reason::Missing, run.key)),
-    }
+    let found = last_of(attrs, run, Sought::Number(LOCATION));
+    let attribute = attribute_at(attrs, needed(found, run.key)?);
+    let block = block2(s, attribute.value, run.ends);
+    process_offset(block, run.ends.section).map_err(|why| placed(why, run.key))
 }
 
-fn address_in(block: &[u8], run: Run) -> Word
-    ensures { result ≡ as_address (process_address run.ends.section block.now) }
-{
-    let ends = run.ends;
-    let e = ends.section;
-    match process_address(block, e) {
-        Located::Is(address) => Word::Is(address),
-        Located::Refused(_) => Word::Nothing,
-    }
-}
-
-pub(crate) fn last_address(s: &[u8], attrs: &[u32], run: Run) -> Word
+#[tactic(auto, using(crate::proofs::Laws::Steps::steps, crate::proofs::Laws::Fields::addresses), unfolding(crate::specs::Fields::address_field))]
+pub(crate) fn last_address(s: &[u8], attrs: &[u32], run: Run) -> Option<u32>
     ensures { result ≡ address_field s.now attrs.now run }
 {
-    match last_of(attrs, run, Sought::Number(LOCATION)) {
-        Found::At(k) => {
-            let attribute = attribute_at(attrs, k);
-            let ends = run.ends;
-            address_in(block2(s, attribute.value, ends), run)
-        }
-        Found::Nothing => Word::Nothing,
-    }
-}
-
-fn as_word(value: Value) -> Word
-    ensures { result ≡ word_said (said_value value) }
-{
-    match value {
-        Value::Is(x) => Word::Is(x),
-        Value::Nothing => Word::Nothing,
-        Value::Refused(_) => Word::Nothing,
-    }
-}
-
-fn word_in(s: &[u8], attrs: &[u32], run: Run, k: usize) -> Word
-    ensures { result ≡ word_in s.now run (attribute_at attrs.now k) }
-{
-    let attribute = attribute_at(attrs, k);
-    let number = attribute.number;
-    let ends = run.ends;
-    let spot = Spot {
-        at: attribute.value,
-        ends,
-    };
-    as_word(word_at(s, spot, form_of(number)))
+    let k = last_of(attrs, run, Sought::Number(LOCATION))?;
+    let block = block2(s, attribute_at(attrs, k).value, run.ends);
+    process_address(block, run.ends.section).ok()
 }
 
 // The number that an attribute says.
-pub(crate) fn word_by(s: &[u8], attrs: &[u32], run: Run, found: Found) -> Word
+#[tactic(auto, unfolding(crate::specs::Fields::word_by, crate::specs::Fields::word_in))]
+pub(crate) fn word_by(s: &[u8], attrs: &[u32], run: Run, found: Option<usize>) -> Option<u32>
     ensures { result ≡ word_by s.now attrs.now run found }
 {
-    match found {
-        Found::At(k) => word_in(s, attrs, run, k),
-        Found::Nothing => Word::Nothing,
-    }
+    let attribute = attribute_at(attrs, found?);
+    let spot = Spot {
+        at: attribute.value,
+        ends: run.ends,
+    };
+    word_at(s, spot, form_of(attribute.number))
 }
 
 // The number that the last attribute of this number says.
-pub fn last_word(s: &[u8], attrs: &[u32], run: Run, number: u16) -> Word
+#[tactic(auto, unfolding(crate::specs::Fields::word_of))]
+pub fn last_word(s: &[u8], attrs: &[u32], run: Run, number: u16) -> Option<u32>
     ensures { result ≡ word_of s.now attrs.now run number }
 {
     word_by(s, attrs, run, last_of(attrs, run, Sought::Number(number)))
 }
 
-pub(crate) fn needs(word: Word, key: u32) -> Needed
-    ensures { said_needed result ≡ word_needed key word }
+// The same, which a record cannot do without.
+pub(crate) fn needed_word(s: &[u8], attrs: &[u32], run: Run, number: u16) -> Result<u32, Refusal>
+    ensures { said result ≡ needed run.key (word_of s.now attrs.now run number) }
 {
-    match word {
-        Word::Is(x) => Needed::Is(x),
-        Word::Nothing => Needed::Refused(refused(Reason::Missing, key)),
-    }
+    needed(last_word(s, attrs, run, number), run.key)
 }
 
 // The text of the attribute that plays a role; a role that is absent is played by none.
-pub(crate) fn role_name(s: &[u8], attrs: &[u32], run: Run, role: u16) -> Name
+#[tactic(auto, unfolding(crate::specs::Fields::role_name))]
+pub(crate) fn role_name(s: &[u8], attrs: &[u32], run: Run, role: u16) -> Option<Text>
     ensures { result ≡ role_name s.now attrs.now run role }
 {
     if role == 0 {
-        Name::Nothing
+        None
     } else {
         last_name(s, attrs, run, role)
     }
 }
 
 // The number that it says.
-pub(crate) fn role_word(s: &[u8], attrs: &[u32], run: Run, role: u16) -> Word
+#[tactic(auto, unfolding(crate::specs::Fields::role_word))]
+pub(crate) fn role_word(s: &[u8], attrs: &[u32], run: Run, role: u16) -> Option<u32>
     ensures { result ≡ role_word s.now attrs.now run role }
 {
     if role == 0 {
-        Word::Nothing
+        None
     } else {
         last_word(s, attrs, run, role)
     }
 }
 
+#[tactic(auto, unfolding(crate::specs::Fields::visibility_by))]
 fn visibility_by(number: u16) -> Visibility
     ensures { result ≡ visibility_by number }
 {
-    if number == 0x248 {
-        Visibility::Private
-    } else if number == 0x268 {
-        Visibility::Protected
-    } else {
-        Visibility::Public
+    match number {
+        PRIVATE => Visibility::Private,
+        PROTECTED => Visibility::Protected,
+        _ => Visibility::Public,
     }
 }
 
 // Public where nothing else is said.
+#[tactic(auto, unfolding(crate::specs::Fields::visibility_of, crate::specs::Fields::visibility_in))]
 pub(crate) fn last_visibility(attrs: &[u32], run: Run) -> Visibility
     ensures { result ≡ visibility_of attrs.now run }
 {
     match last_of(attrs, run, Sought::Visibility) {
-        Found::At(k) => {
-            let attribute = attribute_at(attrs, k);
-            visibility_by(attribute.number)
-        }
-        Found::Nothing => Visibility::Public,
+        Some(k) => visibility_by(attribute_at(attrs, k).number),
+        None => Visibility::Public,
     }
 }

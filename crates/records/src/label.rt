@@ -1,19 +1,18 @@
 // Labels: the Rust's `process_subroutine_label_tag`.
 ghost use Rattle.std.specs.Prelude.{◌≡◌};
-ghost use Rattle.tables.specs.Table.{table, lent_rows};
+ghost use Rattle.format.specs.Said.{said};
+ghost use Rattle.tables.specs.Table.{table_of, table_rows};
 ghost use Rattle.links.specs.Inside.Children.{Asked};
-ghost use Rattle.records.specs.Label.{said_label_read, label_fields, label_at, process_subroutine_label_tag};
-ghost use Rattle.records.specs.Inside.Label.{label_named};
+ghost use Rattle.records.specs.Label.{label_fields, label_at, process_subroutine_label_tag};
 
-use crate::fields::{Name, Needed, Text, last_name, last_word, needs};
+use crate::fields::{Text, last_name, needed, needed_word};
 use crate::front::front_fault;
-use crate::scan::{Fault, Run, refused, run_of};
+use crate::scan::{Run, run_of};
 use crate::taken::Record;
 use format::attribute_kind::{LOW_PC, NAME};
-use format::refusal::{Reason, Refusal};
-use format::settings::Settings;
-use tables::keyed::{Keyed, row_of};
-use tables::row::Counts;
+use format::refusal::Refusal;
+use tables::keyed::row_of;
+use tables::table::Table;
 
 #[derive(Clone, Copy)]
 pub struct Label {
@@ -21,68 +20,31 @@ pub struct Label {
     pub address: u32,
 }
 
-#[derive(Clone, Copy)]
-pub enum LabelRead {
-    Is(Label),
-    Refused(Refusal),
-}
-
-fn label_named(s: &[u8], attrs: &[u32], run: Run, name: Text) -> LabelRead
-    ensures { said_label_read result ≡ label_named s.now attrs.now run name }
+#[tactic(auto, using(crate::proofs::Laws::Steps::steps), unfolding(crate::specs::Label::label_fields))]
+fn label_fields(s: &[u8], attrs: &[u32], run: Run) -> Result<Label, Refusal>
+    ensures { said result ≡ label_fields s.now attrs.now run }
 {
-    match needs(last_word(s, attrs, run, LOW_PC), run.key) {
-        Needed::Is(address) => LabelRead::Is(Label { name, address }),
-        Needed::Refused(why) => LabelRead::Refused(why),
-    }
-}
-
-fn label_fields(s: &[u8], attrs: &[u32], run: Run) -> LabelRead
-    ensures { said_label_read result ≡ label_fields s.now attrs.now run }
-{
-    match last_name(s, attrs, run, NAME) {
-        Name::Is(name) => label_named(s, attrs, run, name),
-        Name::Nothing => LabelRead::Refused(refused(Reason::Missing, run.key)),
-    }
+    let name = needed(last_name(s, attrs, run, NAME), run.key)?;
+    let address = needed_word(s, attrs, run, LOW_PC)?;
+    Ok(Label { name, address })
 }
 
 // The label at row i of a tested table.
-fn label_at(
-    s: &[u8],
-    settings: Settings,
-    rows: &[u32],
-    attrs: &[u32],
-    n: usize,
-    i: usize,
-) -> LabelRead
-    requires { Asked rows.now n i }
-    ensures { said_label_read result ≡ label_at settings (lent_rows settings.endian s.now rows.now attrs.now n) i }
+#[tactic(auto, using(crate::proofs::Laws::Steps::steps), unfolding(crate::specs::Label::label_at, crate::specs::Taken::special))]
+fn label_at(t: &Table<'_>, i: usize) -> Result<Label, Refusal>
+    requires { Asked t.now.rows.now t.now.counts.rows i }
+    ensures { said result ≡ label_at t.now.settings (table_rows (table_of t.now)) i }
 {
-    match front_fault(s, settings, rows, attrs, n, i, Record::Label) {
-        Fault::Clear => {
-            let e = settings.endian;
-            let run = run_of(e, rows, i);
-            label_fields(s, attrs, run)
-        }
-        Fault::Refused(why) => LabelRead::Refused(why),
-    }
+    front_fault(t, i, Record::Label)?;
+    let run = run_of(t.settings.endian, t.rows, i);
+    label_fields(t.section, t.attrs, run)
 }
 
 // The label of a key.
-pub fn process_subroutine_label_tag(
-    s: &[u8],
-    settings: Settings,
-    vendors: &[u16],
-    sizes: &[u32],
-    rows: &[u32],
-    attrs: &[u32],
-    counts: Counts,
-    key: u32,
-) -> LabelRead
-    ensures { said_label_read result ≡ process_subroutine_label_tag (table s.now settings vendors.now sizes.now rows.now
-        attrs.now counts) key }
+#[tactic(auto, using(crate::proofs::Laws::Steps::steps), unfolding(crate::specs::Label::process_subroutine_label_tag))]
+pub fn process_subroutine_label_tag(t: &Table<'_>, key: u32) -> Result<Label, Refusal>
+    ensures { said result ≡ process_subroutine_label_tag (table_of t.now) key }
 {
-    match row_of(s, settings, vendors, sizes, rows, attrs, counts, key) {
-        Keyed::Row(i) => label_at(s, settings, rows, attrs, counts.rows, i),
-        Keyed::Refused(why) => LabelRead::Refused(why),
-    }
+    let i = row_of(t, key)?;
+    label_at(t, i)
 }

@@ -16,7 +16,6 @@ pub mod overlay_branch;
 pub mod ptr_to_member;
 pub mod scan;
 pub mod taken;
-pub mod tally;
 pub mod typedef;
 pub mod unions;
 pub mod variable;

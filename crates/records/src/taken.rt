@@ -75,25 +75,26 @@ const OVERLAY_BRANCH_TAKES: [u16; 5] = [SIBLING, MEMBER, LOW_PC, HIGH_PC, NAME];
 fn member_takes(number: u16) -> bool
     ensures { result ≡ is_on number (taken_by Record.Member) }
 {
-    match number {
-        SIBLING => true,
-        NAME => true,
-        FUND_TYPE => true,
-        MOD_FUND_TYPE => true,
-        USER_DEF_TYPE => true,
-        MOD_UD_TYPE => true,
-        LOCATION => true,
-        BYTE_SIZE => true,
-        BIT_SIZE => true,
-        BIT_OFFSET => true,
-        PRIVATE => true,
-        PROTECTED => true,
-        PUBLIC => true,
-        MEMBER => true,
-        _ => false,
-    }
+    matches!(
+        number,
+        SIBLING
+            | NAME
+            | FUND_TYPE
+            | MOD_FUND_TYPE
+            | USER_DEF_TYPE
+            | MOD_UD_TYPE
+            | LOCATION
+            | BYTE_SIZE
+            | BIT_SIZE
+            | BIT_OFFSET
+            | PRIVATE
+            | PROTECTED
+            | PUBLIC
+            | MEMBER
+    )
 }
 
+#[tactic(auto, unfolding(crate::specs::Taken::taken_by))]
 fn is_taken(which: Record, number: u16) -> bool
     ensures { result ≡ is_on number (taken_by which) }
 {
@@ -110,10 +111,11 @@ fn is_taken(which: Record, number: u16) -> bool
 }
 
 // Does an attribute of this number play a role? A role that is absent is played by none.
+#[tactic(auto, unfolding(format::specs::Settings::plays))]
 fn plays(role: u16, number: u16) -> bool
     ensures { result ≡ plays role number }
 {
-    (role != 0) & (number == role)
+    role != 0 && number == role
 }
 
 // The vendor attributes that a record takes.
@@ -122,23 +124,19 @@ fn role_taken(roles: Roles, which: Record, number: u16) -> bool
     ensures { result ≡ role_taken roles which number }
 {
     match which {
-        Record::Member => false,
-        Record::Union => false,
-        Record::Enumeration => false,
-        Record::Typedef => false,
         Record::Variable => plays(roles.mangled, number),
-        Record::Label => false,
-        Record::PtrToMember => false,
         Record::OverlayBranch => {
-            plays(roles.overlay_name, number) | plays(roles.overlay_id, number)
+            plays(roles.overlay_name, number) || plays(roles.overlay_id, number)
         }
+        _ => false,
     }
 }
 
+#[tactic(auto, unfolding(crate::specs::Taken::takes))]
 pub(crate) fn takes(roles: Roles, which: Record, number: u16) -> bool
     ensures { result ≡ takes roles which number }
 {
-    is_taken(which, number) | role_taken(roles, which, number)
+    is_taken(which, number) || role_taken(roles, which, number)
 }
 
 // Attributes that the record reads itself: the scan stops at them.
@@ -147,13 +145,8 @@ pub(crate) fn is_special(which: Record, number: u16) -> bool
     ensures { result ≡ special which number }
 {
     match which {
-        Record::Member => false,
-        Record::Union => false,
         Record::Enumeration => number == ELEMENT_LIST,
         Record::Typedef => number == SPECIFICATION,
-        Record::Variable => false,
-        Record::Label => false,
-        Record::PtrToMember => false,
-        Record::OverlayBranch => false,
+        _ => false,
     }
 }

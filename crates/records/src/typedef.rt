@@ -1,30 +1,26 @@
 // Typedefs: the Rust's `process_typedef_tag`. A specification fills what is missing at that point, and later attributes overwrite; so the last name of the row
 // itself counts, and without one that of its first specification.
 ghost use Rattle.std.specs.Prelude.{◌≡◌};
-ghost use Rattle.tables.specs.Table.{table, lent_rows};
+ghost use Rattle.format.specs.Said.{said};
+ghost use Rattle.tables.specs.Table.{table_of, table_rows};
 ghost use Rattle.links.specs.Inside.Links.{RowsHold};
 ghost use Rattle.links.specs.Inside.Children.{Asked};
-ghost use Rattle.blocks.specs.Types.{said_typed};
 ghost use Rattle.records.specs.Scan.{run_of};
-ghost use Rattle.records.specs.Typedef.{said_typedef_read, type_needed, specified_by, specified, typedef_end, typedef_run, typedef_at};
-ghost use Rattle.records.specs.Typedef.{process_typedef_tag};
-ghost use Rattle.records.specs.Inside.Typedef.{said_specified, said_pause, first_filling, typedef_name, typedef_type, known_of, typedef_with};
-ghost use Rattle.records.specs.Inside.Typedef.{typedef_fields, pause_from};
+ghost use Rattle.records.specs.Typedef.{type_needed, specified_by, specified, typedef_fields, typedef_end, typedef_run, typedef_at, process_typedef_tag};
+ghost use Rattle.records.specs.Inside.Typedef.{said_pause, first_filling, typedef_name, typedef_type, known_of, pause_from};
 
-use crate::fields::{Name, Sought, Text, last_from, last_name, type_by};
+use crate::fields::{Sought, Text, last_from, last_name, needed, type_by};
 use crate::front::{childless_fault, kind_fault};
-use crate::scan::{Fault, Run, Scan, attribute_at, attribute_fault, refused, run_of, scan_from};
+use crate::scan::{Run, attribute_at, attribute_fault, refused, run_of, scan_from};
 use crate::taken::Record;
 use attributes::decode::reference;
-use blocks::types::{Type, Typed};
+use blocks::types::Type;
 use format::attribute_kind::NAME;
 use format::limits::SPECIFICATION_LIMIT;
 use format::refusal::{Reason, Refusal};
-use format::settings::Settings;
-use numbers::unsigned::Read32;
-use tables::find::{Found, find_row};
-use tables::keyed::{Keyed, row_of};
-use tables::row::Counts;
+use tables::find::find_row;
+use tables::keyed::row_of;
+use tables::table::Table;
 
 #[derive(Clone, Copy)]
 pub struct Typedef {
@@ -32,263 +28,153 @@ pub struct Typedef {
     pub of: Type,
 }
 
-#[derive(Clone, Copy)]
-pub enum TypedefRead {
-    Is(Typedef),
-    Refused(Refusal),
-}
-
-// What specifications have filled in so far.
-#[derive(Clone, Copy)]
-pub enum Filling {
-    Is(Typedef),
-    Nothing,
-}
-
-// The row that a specification names.
-#[derive(Clone, Copy)]
-pub enum Specified {
-    Row(usize),
-    Refused(Refusal),
-}
-
 // Where the attributes of a typedef come to next: a specification at `at`, which names a typedef's row; or the end.
 #[derive(Clone, Copy)]
-pub enum Pause {
-    At { at: usize, row: usize },
-    End,
-    Refused(Refusal),
+pub struct Pause {
+    pub at: usize,
+    pub row: usize,
 }
 
 // The first specification fills; later ones find nothing missing.
-fn first_filling(filling: Filling, next: Typedef) -> Filling
+#[tactic(auto, unfolding(crate::specs::Inside::Typedef::first_filling))]
+fn first_filling(filling: Option<Typedef>, next: Typedef) -> Option<Typedef>
     ensures { result ≡ first_filling filling next }
 {
-    match filling {
-        Filling::Is(first) => Filling::Is(first),
-        Filling::Nothing => Filling::Is(next),
-    }
+    filling.or(Some(next))
 }
 
-fn typedef_name(own: Name, filling: Filling) -> Name
+#[tactic(auto, unfolding(crate::specs::Inside::Typedef::typedef_name))]
+fn typedef_name(own: Option<Text>, filling: Option<Typedef>) -> Option<Text>
     ensures { result ≡ typedef_name own filling }
 {
-    match own {
-        Name::Is(text) => Name::Is(text),
-        Name::Nothing => match filling {
-            Filling::Is(first) => {
-                let text = first.name;
-                Name::Is(text)
-            }
-            Filling::Nothing => Name::Nothing,
-        },
-    }
+    own.or(filling.map(|first| first.name))
 }
 
-fn typedef_type(s: &[u8], attrs: &[u32], run: Run, own: Found, filling: Filling) -> Typed
-    ensures { said_typed result ≡ type_needed run.key (typedef_type s.now attrs.now run own filling) }
+#[tactic(auto, using(crate::proofs::Laws::Steps::steps), unfolding(crate::specs::Typedef::type_needed, crate::specs::Inside::Typedef::typedef_type))]
+fn typedef_type(
+    s: &[u8],
+    attrs: &[u32],
+    run: Run,
+    own: Option<usize>,
+    filling: Option<Typedef>,
+) -> Result<Type, Refusal>
+    ensures { said result ≡ type_needed run.key (typedef_type s.now attrs.now run own filling) }
 {
-    match own {
-        Found::At(k) => type_by(s, attrs, run, Found::At(k)),
-        Found::Nothing => match filling {
-            Filling::Is(first) => {
-                let of = first.of;
-                Typed::Is(of)
-            }
-            Filling::Nothing => Typed::Refused(refused(Reason::Missing, run.key)),
-        },
+    if own.is_some() {
+        return type_by(s, attrs, run, own);
     }
+    Ok(needed(filling, run.key)?.of)
 }
 
-fn typedef_with(s: &[u8], attrs: &[u32], run: Run, name: Text, filling: Filling) -> TypedefRead
-    ensures { said_typedef_read result ≡ typedef_with run.key (known_of s.now attrs.now run filling) name }
+#[tactic(auto, using(crate::proofs::Laws::Steps::steps, crate::proofs::Laws::Typedef::known), unfolding(crate::specs::Typedef::typedef_fields))]
+fn typedef_fields(
+    s: &[u8],
+    attrs: &[u32],
+    run: Run,
+    filling: Option<Typedef>,
+) -> Result<Typedef, Refusal>
+    ensures { said result ≡ typedef_fields run.key (known_of s.now attrs.now run filling) }
 {
+    let own = last_name(s, attrs, run, NAME);
+    let name = needed(typedef_name(own, filling), run.key)?;
     let own = last_from(attrs, run.first, run.count, Sought::Type);
-    match typedef_type(s, attrs, run, own, filling) {
-        Typed::Is(of) => TypedefRead::Is(Typedef { name, of }),
-        Typed::Refused(why) => TypedefRead::Refused(why),
-    }
-}
-
-fn typedef_fields(s: &[u8], attrs: &[u32], run: Run, filling: Filling) -> TypedefRead
-    ensures { said_typedef_read result ≡ typedef_fields run.key (known_of s.now attrs.now run filling) }
-{
-    match typedef_name(last_name(s, attrs, run, NAME), filling) {
-        Name::Is(name) => typedef_with(s, attrs, run, name, filling),
-        Name::Nothing => TypedefRead::Refused(refused(Reason::Missing, run.key)),
-    }
+    let of = typedef_type(s, attrs, run, own, filling)?;
+    Ok(Typedef { name, of })
 }
 
 // After the attributes: no children, then name and type.
-fn typedef_end(
-    s: &[u8],
-    settings: Settings,
-    rows: &[u32],
-    attrs: &[u32],
-    n: usize,
-    i: usize,
-    filling: Filling,
-) -> TypedefRead
-    requires { Asked rows.now n i }
-    ensures { said_typedef_read result ≡ typedef_end settings (lent_rows settings.endian s.now rows.now attrs.now n) i
-        (known_of s.now attrs.now (run_of settings.endian rows.now i) filling) }
+#[tactic(auto, using(crate::proofs::Laws::Steps::steps), unfolding(crate::specs::Typedef::typedef_end, crate::specs::Scan::run_of))]
+fn typedef_end(t: &Table<'_>, i: usize, filling: Option<Typedef>) -> Result<Typedef, Refusal>
+    requires { Asked t.now.rows.now t.now.counts.rows i }
+    ensures { said result ≡ typedef_end t.now.settings (table_rows (table_of t.now)) i
+        (known_of t.now.section.now t.now.attrs.now (run_of t.now.settings.endian t.now.rows.now i) filling) }
 {
-    let e = settings.endian;
-    match childless_fault(s, e, rows, attrs, n, i) {
-        Fault::Clear => {
-            let run = run_of(e, rows, i);
-            typedef_fields(s, attrs, run, filling)
-        }
-        Fault::Refused(why) => TypedefRead::Refused(why),
-    }
+    childless_fault(t, i)?;
+    let run = run_of(t.settings.endian, t.rows, i);
+    typedef_fields(t.section, t.attrs, run, filling)
 }
 
 // A specification must name a typedef's row: 11, 10 past the limit, 12.
-fn specified_by(settings: Settings, rows: &[u32], n: usize, levels: usize, key: u32) -> Specified
-    requires { RowsHold rows.now n }
-    ensures { said_specified result ≡ specified_by settings rows.now n levels key }
+#[tactic(auto, using(crate::proofs::Laws::Steps::steps), unfolding(crate::specs::Typedef::specified_by, tables::specs::Keyed::found_row))]
+fn specified_by(t: &Table<'_>, levels: usize, key: u32) -> Result<usize, Refusal>
+    requires { RowsHold t.now.rows.now t.now.counts.rows }
+    ensures { said result ≡ specified_by t.now.settings t.now.rows.now t.now.counts.rows levels key }
 {
-    match find_row(rows, n, key) {
-        Found::At(row) => {
-            if levels == 0 {
-                return Specified::Refused(refused(Reason::Depth, key));
-            }
-            match kind_fault(settings, rows, row, Record::Typedef) {
-                Fault::Clear => Specified::Row(row),
-                Fault::Refused(why) => Specified::Refused(why),
-            }
-        }
-        Found::Nothing => Specified::Refused(refused(Reason::Entry, key)),
+    let row = find_row(t.rows, t.counts.rows, key).ok_or(refused(Reason::Entry, key))?;
+    if levels == 0 {
+        return Err(refused(Reason::Depth, key));
     }
+    kind_fault(t, row, Record::Typedef)?;
+    Ok(row)
 }
 
 // The specification that is attribute k of the run.
-fn specification_at(
-    s: &[u8],
-    settings: Settings,
-    rows: &[u32],
-    attrs: &[u32],
-    n: usize,
-    run: Run,
-    levels: usize,
-    k: u32,
-) -> Specified
-    requires { RowsHold rows.now n }
-    ensures { said_specified result ≡ specified settings (lent_rows settings.endian s.now rows.now attrs.now n) run levels k }
+#[tactic(auto, using(crate::proofs::Laws::Steps::steps, crate::proofs::Laws::Typedef::references), unfolding(crate::specs::Typedef::specified, crate::specs::Scan::fault_at))]
+fn specification_at(t: &Table<'_>, run: Run, levels: usize, k: u32) -> Result<usize, Refusal>
+    requires { RowsHold t.now.rows.now t.now.counts.rows }
+    ensures { said result ≡ specified t.now.settings (table_rows (table_of t.now)) run levels k }
 {
-    let attribute = attribute_at(attrs, run.first as usize + k as usize);
-    let roles = settings.roles;
-    let ends = run.ends;
-    match attribute_fault(s, roles, Record::Typedef, run, attribute) {
-        Fault::Clear => match reference(s, attribute.value, ends) {
-            Read32::Value(key) => specified_by(settings, rows, n, levels, key),
-            Read32::Short => Specified::Refused(refused(Reason::Block, run.key)),
-        },
-        Fault::Refused(why) => Specified::Refused(why),
-    }
+    let attribute = attribute_at(t.attrs, run.first as usize + k as usize);
+    attribute_fault(t.section, t.settings.roles, Record::Typedef, run, attribute)?;
+    let key = reference(t.section, attribute.value, run.ends).ok_or(refused(
+        Reason::Block,
+        run.key,
+    ))?;
+    specified_by(t, levels, key)
 }
 
 // The attributes from `from` on, up to the next specification.
-fn pause_from(
-    s: &[u8],
-    settings: Settings,
-    rows: &[u32],
-    attrs: &[u32],
-    n: usize,
-    run: Run,
-    levels: usize,
-    from: usize,
-) -> Pause
-    requires { RowsHold rows.now n }
-    ensures { said_pause result ≡ pause_from settings s.now rows.now attrs.now n run levels from }
+#[tactic(auto, using(crate::proofs::Laws::Steps::steps, crate::proofs::Laws::Typedef::pauses), unfolding(crate::specs::Inside::Typedef::pause_from))]
+fn pause_from(t: &Table<'_>, run: Run, levels: usize, from: usize) -> Result<Option<Pause>, Refusal>
+    requires { RowsHold t.now.rows.now t.now.counts.rows }
+    ensures { said_pause result ≡ pause_from t.now.settings t.now.section.now t.now.rows.now t.now.attrs.now t.now.counts.rows run levels from }
 {
-    let roles = settings.roles;
-    match scan_from(s, roles, attrs, Record::Typedef, run, from) {
-        Scan::Stop(at) => {
-            if at >= run.count as usize {
-                return Pause::End;
-            }
-            match specification_at(s, settings, rows, attrs, n, run, levels, at as u32) {
-                Specified::Row(row) => Pause::At { at, row },
-                Specified::Refused(why) => Pause::Refused(why),
-            }
-        }
-        Scan::Refused(why) => Pause::Refused(why),
+    let at = scan_from(
+        t.section,
+        t.settings.roles,
+        t.attrs,
+        Record::Typedef,
+        run,
+        from,
+    )?;
+    if at >= run.count as usize {
+        return Ok(None);
     }
+    let row = specification_at(t, run, levels, at as u32)?;
+    Ok(Some(Pause { at, row }))
 }
 
 // The typedef at row i, a Typedef row of a tested table, from where so many specifications may still be followed. Each is read whole.
-fn typedef_run(
-    s: &[u8],
-    settings: Settings,
-    rows: &[u32],
-    attrs: &[u32],
-    n: usize,
-    levels: usize,
-    i: usize,
-) -> TypedefRead
-    requires { Asked rows.now n i }
-    ensures { said_typedef_read result ≡ typedef_run settings (lent_rows settings.endian s.now rows.now attrs.now n) levels i }
+fn typedef_run(t: &Table<'_>, levels: usize, i: usize) -> Result<Typedef, Refusal>
+    requires { Asked t.now.rows.now t.now.counts.rows i }
+    ensures { said result ≡ typedef_run t.now.settings (table_rows (table_of t.now)) levels i }
 {
-    let e = settings.endian;
-    let run = run_of(e, rows, i);
-    let count = run.count as usize;
-    let mut filling = Filling::Nothing;
+    let run = run_of(t.settings.endian, t.rows, i);
+    let mut filling = None;
     let mut j: usize = 0;
-    while j < count {
-        match pause_from(s, settings, rows, attrs, n, run, levels, j) {
-            Pause::At { at, row } => {
-                match typedef_run(s, settings, rows, attrs, n, levels - 1, row) {
-                    TypedefRead::Is(next) => {
-                        filling = first_filling(filling, next);
-                        j = at + 1;
-                    }
-                    TypedefRead::Refused(why) => return TypedefRead::Refused(why),
-                }
-            }
-            Pause::End => {
-                j = count;
-            }
-            Pause::Refused(why) => return TypedefRead::Refused(why),
-        }
+    while let Some(Pause { at, row }) = pause_from(t, run, levels, j)? {
+        let next = typedef_run(t, levels - 1, row)?;
+        filling = first_filling(filling, next);
+        j = at + 1;
     }
-    typedef_end(s, settings, rows, attrs, n, i, filling)
+    typedef_end(t, i, filling)
 }
 
 // The typedef at row i of a tested table.
-fn typedef_at(
-    s: &[u8],
-    settings: Settings,
-    rows: &[u32],
-    attrs: &[u32],
-    n: usize,
-    i: usize,
-) -> TypedefRead
-    requires { Asked rows.now n i }
-    ensures { said_typedef_read result ≡ typedef_at settings (lent_rows settings.endian s.now rows.now attrs.now n) i }
+#[tactic(auto, using(crate::proofs::Laws::Steps::steps), unfolding(crate::specs::Typedef::typedef_at))]
+fn typedef_at(t: &Table<'_>, i: usize) -> Result<Typedef, Refusal>
+    requires { Asked t.now.rows.now t.now.counts.rows i }
+    ensures { said result ≡ typedef_at t.now.settings (table_rows (table_of t.now)) i }
 {
-    match kind_fault(settings, rows, i, Record::Typedef) {
-        Fault::Clear => typedef_run(s, settings, rows, attrs, n, SPECIFICATION_LIMIT, i),
-        Fault::Refused(why) => TypedefRead::Refused(why),
-    }
+    kind_fault(t, i, Record::Typedef)?;
+    typedef_run(t, SPECIFICATION_LIMIT, i)
 }
 
 // The typedef of a key.
-pub fn process_typedef_tag(
-    s: &[u8],
-    settings: Settings,
-    vendors: &[u16],
-    sizes: &[u32],
-    rows: &[u32],
-    attrs: &[u32],
-    counts: Counts,
-    key: u32,
-) -> TypedefRead
-    ensures { said_typedef_read result ≡ process_typedef_tag (table s.now settings vendors.now sizes.now rows.now
-        attrs.now counts) key }
+#[tactic(auto, using(crate::proofs::Laws::Steps::steps), unfolding(crate::specs::Typedef::process_typedef_tag))]
+pub fn process_typedef_tag(t: &Table<'_>, key: u32) -> Result<Typedef, Refusal>
+    ensures { said result ≡ process_typedef_tag (table_of t.now) key }
 {
-    match row_of(s, settings, vendors, sizes, rows, attrs, counts, key) {
-        Keyed::Row(i) => typedef_at(s, settings, rows, attrs, counts.rows, i),
-        Keyed::Refused(why) => TypedefRead::Refused(why),
-    }
+    let i = row_of(t, key)?;
+    typedef_at(t, i)
 }

@@ -1,90 +1,73 @@
 // Variables: the Rust's `process_variable_tag`.
 ghost use Rattle.std.specs.Prelude.{◌≡◌};
-ghost use Rattle.tables.specs.Table.{table, lent_rows};
+ghost use Rattle.format.specs.Said.{said};
+ghost use Rattle.tables.specs.Table.{table_of, table_rows};
 ghost use Rattle.links.specs.Inside.Children.{Asked};
-ghost use Rattle.records.specs.Variable.{said_variable_read, variable_fields, variable_at, process_variable_tag};
+ghost use Rattle.records.specs.Variable.{variable_fields, variable_at, process_variable_tag};
 
-use crate::fields::{Name, Word, last_address, last_name, last_type, role_name};
+use crate::fields::{Text, last_address, last_name, last_type, role_name};
 use crate::front::front_fault;
-use crate::scan::{Fault, Run, run_of};
+use crate::scan::{Run, run_of};
 use crate::taken::Record;
-use blocks::types::{Type, Typed};
+use blocks::types::Type;
 use format::attribute_kind::NAME;
 use format::refusal::Refusal;
-use format::settings::Settings;
-use tables::keyed::{Keyed, row_of};
-use tables::row::{Counts, row_at};
+use tables::keyed::row_of;
+use tables::row::row_at;
+use tables::table::Table;
 
 #[derive(Clone, Copy)]
 pub struct Variable {
-    pub name: Name,
-    pub mangled_name: Name,
+    pub name: Option<Text>,
+    pub mangled_name: Option<Text>,
     pub of: Type,
-    pub address: Word,
+    pub address: Option<u32>,
     pub local: bool,
 }
 
-#[derive(Clone, Copy)]
-pub enum VariableRead {
-    Is(Variable),
-    Refused(Refusal),
-}
-
-fn variable_fields(s: &[u8], attrs: &[u32], run: Run, role: u16, local: bool) -> VariableRead
-    ensures { said_variable_read result ≡ variable_fields s.now attrs.now run role local }
+#[tactic(auto, using(crate::proofs::Laws::Steps::steps), unfolding(crate::specs::Variable::variable_fields))]
+fn variable_fields(
+    s: &[u8],
+    attrs: &[u32],
+    run: Run,
+    role: u16,
+    local: bool,
+) -> Result<Variable, Refusal>
+    ensures { said result ≡ variable_fields s.now attrs.now run role local }
 {
-    match last_type(s, attrs, run) {
-        Typed::Is(of) => VariableRead::Is(Variable {
-            name: last_name(s, attrs, run, NAME),
-            mangled_name: role_name(s, attrs, run, role),
-            of,
-            address: last_address(s, attrs, run),
-            local,
-        }),
-        Typed::Refused(why) => VariableRead::Refused(why),
-    }
+    let of = last_type(s, attrs, run)?;
+    Ok(Variable {
+        name: last_name(s, attrs, run, NAME),
+        mangled_name: role_name(s, attrs, run, role),
+        of,
+        address: last_address(s, attrs, run),
+        local,
+    })
 }
 
 // The variable at row i of a tested table.
-fn variable_at(
-    s: &[u8],
-    settings: Settings,
-    rows: &[u32],
-    attrs: &[u32],
-    n: usize,
-    i: usize,
-) -> VariableRead
-    requires { Asked rows.now n i }
-    ensures { said_variable_read result ≡ variable_at settings (lent_rows settings.endian s.now rows.now attrs.now n) i }
+#[tactic(auto, using(crate::proofs::Laws::Steps::steps), unfolding(crate::specs::Variable::variable_at, crate::specs::Taken::special))]
+fn variable_at(t: &Table<'_>, i: usize) -> Result<Variable, Refusal>
+    requires { Asked t.now.rows.now t.now.counts.rows i }
+    ensures { said result ≡ variable_at t.now.settings (table_rows (table_of t.now)) i }
 {
-    match front_fault(s, settings, rows, attrs, n, i, Record::Variable) {
-        Fault::Clear => {
-            let e = settings.endian;
-            let run = run_of(e, rows, i);
-            let row = row_at(rows, i);
-            let roles = settings.roles;
-            variable_fields(s, attrs, run, roles.mangled, row.kind == 0x0c)
-        }
-        Fault::Refused(why) => VariableRead::Refused(why),
-    }
+    front_fault(t, i, Record::Variable)?;
+    let run = run_of(t.settings.endian, t.rows, i);
+    let row = row_at(t.rows, i);
+    variable_fields(
+        t.section,
+        t.attrs,
+        run,
+        t.settings.roles.mangled,
+        row.kind == 0x0c,
+    )
 }
 
 // The variable of a key.
-pub fn process_variable_tag(
-    s: &[u8],
-    settings: Settings,
-    vendors: &[u16],
-    sizes: &[u32],
-    rows: &[u32],
-    attrs: &[u32],
-    counts: Counts,
-    key: u32,
-) -> VariableRead
-    ensures { said_variable_read result ≡ process_variable_tag (table s.now settings vendors.now sizes.now rows.now
-        attrs.now counts) key }
+#[tactic(auto, using(crate::proofs::Laws::Steps::steps), unfolding(crate::specs::Variable::process_variable_tag))]
+pub fn process_variable_tag(t: &Table<'_>, key: u32) -> Result<Variable, Refusal>
+    ensures { said result ≡ process_variable_tag (table_of t.now) key }
 {
-    match row_of(s, settings, vendors, sizes, rows, attrs, counts, key) {
-        Keyed::Row(i) => variable_at(s, settings, rows, attrs, counts.rows, i),
-        Keyed::Refused(why) => VariableRead::Refused(why),
-    }
+    let i = row_of(t, key)?;
+    variable_at(t, i)
 }

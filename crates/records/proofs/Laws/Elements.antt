@@ -1,8 +1,9 @@
 -- What follows from `Elements`, for each way that the code comes to an answer; and what a list in its slots comes to.
+use Rattle.std.specs.Prelude.{Option, Some, None, Result, Ok}
+use Rattle.format.specs.Said.{said}
 use Rattle.format.proofs.Laws.Said.{Of, given_is, given-refused}
 use Prim.Native.Nat.{ℕ, zero, suc, ◌+◌, ◌-◌, ◌*◌, ◌≤◌, ◌<◌}
-use native.Mathlib.Nat.{add-zero, mul-one, suc-mul, zero-mul, ne_of_lt, lt_of_not-le}
-use native.Mathlib.Numerals.{add-one}
+use native.Mathlib.Nat.{add-zero, suc-mul, zero-mul, ne_of_lt, lt_of_not-le}
 use native.Mathlib.Decide.{dec_le}
 use native.Mathlib.Omega.{arith}
 use mathlib.Core.Path.{◌≡◌, refl, sym, ap, ◌∙◌, subst}
@@ -12,100 +13,37 @@ use lib.ListN.{length, set, length-append}
 use lib.Seq.{set_comm, sets, length-sets}
 use lib.Dec.{eqb, ltb}
 use lib.IntN.{ℤ}
-use borrow.Author.Tests.{eq-eqb, ne_eqb, lt-ltb, le-ltb, ltb-true}
+use borrow.Author.Tests.{lt-ltb, le-ltb, ltb-true}
 use Rattle.numbers.proofs.Laws.Tests.{cond-all}
-use Rattle.numbers.specs.Value.{there, read_at, signed_of}
-use Rattle.numbers.proofs.Laws.Value.{one_byte}
 use Rattle.numbers.specs.declared.Endian.{Endian}
-use Rattle.numbers.specs.declared.Endian.TheVariants.{Big}
-use Rattle.numbers.specs.declared.signed.ReadSigned.{ReadSigned}
-use Rattle.numbers.specs.declared.signed.ReadSigned.TheVariants as signed
 use Rattle.format.specs.Said.{Said, gives, refuses, refuse, refusal, ◌>>=◌, placed}
 use Rattle.format.specs.declared.refusal.Refusal.{Refusal}
 use Rattle.format.specs.declared.refusal.Reason.TheVariants as reason
 use Rattle.attributes.specs.Text.{zero_from}
 use Rattle.attributes.proofs.Laws.Text.{zero-after}
 use Rattle.tables.specs.Inside.Keyed.{refused_at}
-use Rattle.lent.proofs.Laws.Stores.{sets-append, sets-out}
-use Rattle.records.proofs.Laws.Fields.{by-told}
+use Rattle.lent.proofs.Laws.Stores.{sets-append}
 use Rattle.records.specs.Elements.{list_width, value_at, named_from, name_from, valued, element_at, Listed, element_then, elements_from, elements_in, values_of, names_of}
 use Rattle.records.specs.Inside.Elements.{slot_of, value_words, name_words, listed_as, ElementsStored, store_all, store_values, store_names, elements_before, count_from, StoredFrom}
-use Rattle.records.specs.Inside.Tally.{said_tally}
 use Rattle.records.specs.Enumeration.{reversed}
-use Rattle.records.specs.declared.fields.Word.{Word}
-use Rattle.records.specs.declared.fields.Word.TheVariants as word
-use Rattle.records.specs.declared.tally.Tally.TheVariants as counted
 use Rattle.records.specs.declared.elements.Element.{Element}
 use Rattle.records.specs.declared.elements.Element.TheVariants as element
 use Rattle.records.specs.declared.elements.Slots.{Slots}
 
 -- ---- one element
 
-pub width-other : (n : ℕ) → (n ≡ 1 → ⊥) → (n ≡ 2 → ⊥) → (n ≡ 4 → ⊥) → 0 ≡ list_width (word.Is n)
+pub width_few : (size : Option ℕ) → list_width size ≤ 4
 unfolding list_width
-width-other n a b d = rw (ne_eqb n 1 a, ne_eqb n 2 b, ne_eqb n 4 d)
-
-pub width_few : (size : Word) → list_width size ≤ 4
-unfolding list_width
-width_few (word.Is n) =
+width_few (Some n) =
     cond-all (λ w. w ≤ 4) (eqb n 1) (λ t. omega arith)
     (λ t. cond-all (λ w. w ≤ 4) (eqb n 2) (λ t'. omega arith) (λ t'. cond-all (λ w. w ≤ 4) (eqb n 4) (λ t''. omega arith) (λ t''. omega arith)))
-width_few word.Nothing = omega arith
-
-module _ (width : ℕ) (e : Endian) (block : List ℕ) (at : ℕ) {r : ReadSigned} where
-  -- a byte has no endianness
-  pub value-one : width ≡ 1 → r ≡ read_at (λ n. signed.Value (signed_of 1 n)) signed.Short Big 1 block at → r ≡ value_at width e block at
-  unfolding value_at read_at
-  value-one h p =
-      p ∙ ap (λ (n : ℕ). cond (there block at 1) (signed.Value (signed_of 1 n)) signed.Short) (one_byte Big block at ∙ sym (one_byte e block at)) ∙ rw (eq-eqb width 1 h)
-
-  module _ (big : width ≡ 1 → ⊥) where
-    pub value-two : width ≡ 2 → r ≡ read_at (λ n. signed.Value (signed_of 2 n)) signed.Short e 2 block at → r ≡ value_at width e block at
-    unfolding value_at
-    value-two h p = p ∙ rw (ne_eqb width 1 big, eq-eqb width 2 h)
-
-    pub value-four : (width ≡ 2 → ⊥) → r ≡ read_at (λ n. signed.Value (signed_of 4 n)) signed.Short e 4 block at → r ≡ value_at width e block at
-    unfolding value_at
-    value-four h p = p ∙ rw (ne_eqb width 1 big, ne_eqb width 2 h)
-
-module _ (block : List ℕ) (at : ℕ) {z : ℕ} (is : z ≡ zero_from block at) where
-  module _ (h : z < length block) where
-    pub named-there : {v : ℤ} (value : ℤ) → v ≡ value → element.Is v at (z - at) (z + 1) ≡ named_from block at value
-    unfolding named_from
-    named-there value q = ap (λ (x : ℤ). element.Is x at (z - at) (z + 1)) q ∙ rw (← is, lt-ltb z (length block) h)
-
-    pub name-there : element.Name (z + 1) ≡ name_from block at
-    unfolding name_from
-    name-there = rw (← is, lt-ltb z (length block) h)
-
-  module _ (h : length block ≤ z) where
-    pub named-missing : (value : ℤ) → element.Missing ≡ named_from block at value
-    unfolding named_from
-    named-missing value = rw (← is, le-ltb z (length block) h)
-
-    pub name-missing : element.Missing ≡ name_from block at
-    unfolding name_from
-    name-missing = rw (← is, le-ltb z (length block) h)
-
-module _ (width : ℕ) (e : Endian) (block : List ℕ) (at : ℕ) where
-  pub element-name : {r : Element} → width ≡ 0 → r ≡ name_from block at → r ≡ element_at width e block at
-  unfolding element_at
-  element-name h p = p ∙ rw (eq-eqb width 0 h)
-
-  module _ {told : ReadSigned} (is : told ≡ value_at width e block at) (h : width ≡ 0 → ⊥) where
-    pub element-value : {v v' : ℤ} {r : Element} → told ≡ signed.Value v → v' ≡ v → r ≡ named_from block (at + width) v' → r ≡ element_at width e block at
-    unfolding element_at valued
-    element-value p s q = by-told (valued width block at) is p (q ∙ ap (named_from block (at + width)) s) ∙ rw (ne_eqb width 0 h)
-
-    pub element-short : told ≡ signed.Short → element.Missing ≡ element_at width e block at
-    unfolding element_at valued
-    element-short p = by-told (valued width block at) is p refl ∙ rw (ne_eqb width 0 h)
+width_few None = omega arith
 
 -- an element that was read lies inside, and the next begins behind it
-abbrev Ahead : List ℕ → ℕ → Element → Type 0
-Ahead block at (element.Is value place len next) = (place < length block) × (at < next) × (next ≤ length block)
-Ahead block at (element.Name next) = (at < next) × (next ≤ length block)
-Ahead block at element.Missing = Unit
+abbrev Ahead : List ℕ → ℕ → Option Element → Type 0
+Ahead block at (Some (element.Is value place len next)) = (place < length block) × (at < next) × (next ≤ length block)
+Ahead block at (Some (element.Name next)) = (at < next) × (next ≤ length block)
+Ahead block at None = Unit
 
 named-ahead : (block : List ℕ) (from at : ℕ) (value : ℤ) → from ≤ at → Ahead block from (named_from block at value)
 unfolding named_from
@@ -121,10 +59,10 @@ name-ahead block at =
     cond-all (Ahead block at) (ltb (zero_from block at) (length block))
     (λ t. let z : zero_from block at < length block = ltb-true (zero_from block at) (length block) t in (omega arith, omega arith)) (λ t. tt)
 
-valued-ahead : (width : ℕ) (block : List ℕ) (at : ℕ) (r : ReadSigned) → Ahead block at (valued width block at r)
+valued-ahead : (width : ℕ) (block : List ℕ) (at : ℕ) (r : Option ℤ) → Ahead block at (valued width block at r)
 unfolding valued
-valued-ahead width block at (signed.Value v) = named-ahead block at (at + width) v (omega arith)
-valued-ahead width block at signed.Short = tt
+valued-ahead width block at (Some v) = named-ahead block at (at + width) v (omega arith)
+valued-ahead width block at None = tt
 
 element-ahead : (width : ℕ) (e : Endian) (block : List ℕ) (at : ℕ) → Ahead block at (element_at width e block at)
 unfolding element_at
@@ -134,34 +72,9 @@ element-ahead width e block at =
 -- ---- an element in its slot
 
 module _ (slots : Slots) (k : ℕ) where
-  pub slot-back : slots.reversed ≡ true → k < slots.total → slots.total - 1 - k ≡ slot_of slots k
-  unfolding slot_of
-  slot-back t h = let same : slots.total - 1 - k ≡ slots.total - suc k = omega arith in rw t same
-
-  pub slot-none : slots.reversed ≡ true → slots.total ≤ k → 0 ≡ slot_of slots k
-  unfolding slot_of
-  slot-none t h = let same : 0 ≡ slots.total - suc k = omega arith in rw t same
-
   pub slot_same : slots.reversed ≡ false → k ≡ slot_of slots k
   unfolding slot_of
   slot_same t = rw t
-
-module _ (slot : ℕ) (x : Listed) (values : List ℤ) {v : ℤ} {values' : List ℤ} (same : v ≡ x.value) (stored : values' ≡ set values slot v) (names : List ℕ) where
-  one-slot : values' ≡ set values (slot * 1) x.value
-  one-slot = stored ∙ ap (set values slot) same ∙ ap (λ (k : ℕ). set values k x.value) (sym (mul-one slot))
-
-  pub put_both : {names' names'' : List ℕ} → names' ≡ set names (slot * 2) x.place → names'' ≡ set names' (slot * 2 + 1) x.length
-      → ElementsStored slot x values values' names names''
-  put_both p q =
-      record {
-        values_are = one-slot;
-        names_are =
-            q ∙ ap (λ (t : List ℕ). set t (slot * 2 + 1) x.length) p
-            ∙ ap (λ (k : ℕ). set (set names (slot * 2) x.place) k x.length) (add-one (slot * 2));
-      }
-
-  pub put-value-alone : length names ≤ slot → ElementsStored slot x values values' names names
-  put-value-alone h = record { values_are = one-slot; names_are = sym (sets-out names (slot * 2) (name_words x) (omega arith)) }
 
 -- ---- lists in their slots
 
@@ -323,11 +236,11 @@ module _ (width : ℕ) (e : Endian) (base : ℕ) (block : List ℕ) where
   more-few n (gives xs) h = omega arith
   more-few n (refuses number place counts) h = tt
 
-  element-few : (n : ℕ) (next : ℕ → Said (List Listed)) (x : Element) → ((k : ℕ) → Few n (next k)) → Few (suc n) (element_then base next x)
+  element-few : (n : ℕ) (next : ℕ → Said (List Listed)) (x : Option Element) → ((k : ℕ) → Few n (next k)) → Few (suc n) (element_then base next x)
   unfolding element_then elements_before
-  element-few n next (element.Is v place len k) h = then-few n (listed_as v (base + place) len) (next k) (h k)
-  element-few n next (element.Name k) h = more-few n (next k) (h k)
-  element-few n next element.Missing h = tt
+  element-few n next (Some (element.Is v place len k)) h = then-few n (listed_as v (base + place) len) (next k) (h k)
+  element-few n next (Some (element.Name k)) h = more-few n (next k) (h k)
+  element-few n next None h = tt
 
   from-few : (turns at : ℕ) → Few turns (from turns at)
   unfolding elements_from
@@ -373,14 +286,8 @@ module _ (width : ℕ) (e : Endian) (base : ℕ) (block : List ℕ) where
         }
 
     module _ {values₀ values : List ℤ} {names₀ names : List ℕ} {at count : ℕ} (w : Loop values₀ values names₀ names at count) where
-      pub loop-values : length values ≡ length values₀
-      loop-values = ap length w.values_are ∙ store_length value_words 1 slots k w.xs values₀
-
-      pub loop-names : length names ≡ length names₀
-      loop-names = ap length w.names_are ∙ store_length name_words 2 slots k w.xs names₀
-
-      pub loop-done : (key : ℕ) → length block ≤ at → StoredFrom (placed key (elements_in width e base block)) slots k (counted.Count count) values₀ values names₀ names
-      unfolding said_tally count_from elements_before placed ◌>>=◌
+      pub loop-done : (key : ℕ) → length block ≤ at → StoredFrom (placed key (elements_in width e base block)) slots k (Ok count) values₀ values names₀ names
+      unfolding said count_from elements_before placed ◌>>=◌
       loop-done key h =
           let all : elements_in width e base block ≡ gives w.xs =
           sym w.rest ∙ ap (elements_before w.xs) (from_end w.turns at h) ∙ ap gives (append-nil w.xs)
@@ -391,7 +298,7 @@ module _ (width : ℕ) (e : Endian) (base : ℕ) (block : List ℕ) where
             names_are = λ ys p. w.names_are ∙ ap (λ (zs : List Listed). store_names slots k zs names₀) (given_is (sym all ∙ placed-given key (elements_in width e base block) p));
           }
 
-      module _ (inside : at < length block) {told : Element} (is : told ≡ element_at width e block at) where
+      module _ (inside : at < length block) {told : Option Element} (is : told ≡ element_at width e block at) where
         ahead : Ahead block at told
         ahead = subst (Ahead block at) (sym is) (element-ahead width e block at)
 
@@ -399,23 +306,23 @@ module _ (width : ℕ) (e : Endian) (base : ℕ) (block : List ℕ) where
         turn =
             let fuel : length block ≤ at + w.turns = w.fuel in
             let one : suc (w.turns - 1) ≡ w.turns = omega arith in
-            ap (λ (x : Element). elements_before w.xs (element_then base (λ n. from (w.turns - 1) n) x)) is
+            ap (λ (x : Option Element). elements_before w.xs (element_then base (λ n. from (w.turns - 1) n) x)) is
             ∙ ap (elements_before w.xs) (sym (from-turn (w.turns - 1) at inside) ∙ ap (λ (n : ℕ). from n at) one) ∙ w.rest
 
-        pub loop-missing : (key : ℕ) → told ≡ element.Missing → {why : Refusal} → why ≡ refused_at key reason.Block
-            → StoredFrom (placed key (elements_in width e base block)) slots k (counted.Refused why) values₀ values names₀ names
-        unfolding said_tally count_from elements_before element_then placed ◌>>=◌
-        loop-missing key p q =
+        pub loop-missing : (key : ℕ) → told ≡ None → {z : Result ℕ Refusal} {why : Refusal} → said z ≡ refusal why → why ≡ refused_at key reason.Block
+            → StoredFrom (placed key (elements_in width e base block)) slots k z values₀ values names₀ names
+        unfolding said count_from elements_before element_then placed ◌>>=◌
+        loop-missing key p {z} {why} out q =
             let all : refuse reason.Block 0 ≡ elements_in width e base block =
-            ap (λ (x : Element). elements_before w.xs (element_then base (λ n. from (w.turns - 1) n) x)) (sym p) ∙ turn
+            ap (λ (x : Option Element). elements_before w.xs (element_then base (λ n. from (w.turns - 1) n) x)) (sym p) ∙ turn
             in
             record {
-              answer_is = ap refusal q ∙ ap (λ (l : Said (List Listed)). count_from k (placed key l)) all;
+              answer_is = out ∙ ap refusal q ∙ ap (λ (l : Said (List Listed)). count_from k (placed key l)) all;
               values_are = λ ys r. absurd (given-refused (sym (all ∙ placed-given key (elements_in width e base block) r)));
               names_are = λ ys r. absurd (given-refused (sym (all ∙ placed-given key (elements_in width e base block) r)));
             }
 
-        module _ {next : ℕ} (p : told ≡ element.Name next) where
+        module _ {next : ℕ} (p : told ≡ Some (element.Name next)) where
           pub name-less : length block - next < length block - at
           name-less = let facts : (at < next) × (next ≤ length block) = subst (Ahead block at) p ahead in omega (arith, facts.0, facts.1)
 
@@ -435,10 +342,10 @@ module _ (width : ℕ) (e : Endian) (base : ℕ) (block : List ℕ) where
                 few = omega arith;
                 values_are = w.values_are;
                 names_are = w.names_are;
-                rest = ap (λ (x : Element). elements_before w.xs (element_then base (λ n. from (w.turns - 1) n) x)) (sym p) ∙ turn;
+                rest = ap (λ (x : Option Element). elements_before w.xs (element_then base (λ n. from (w.turns - 1) n) x)) (sym p) ∙ turn;
               }
 
-        module _ {value : ℤ} {place len next : ℕ} (p : told ≡ element.Is value place len next) where
+        module _ {value : ℤ} {place len next : ℕ} (p : told ≡ Some (element.Is value place len next)) where
           facts : (place < length block) × (at < next) × (next ≤ length block)
           facts = subst (Ahead block at) p ahead
 
@@ -447,10 +354,6 @@ module _ (width : ℕ) (e : Endian) (base : ℕ) (block : List ℕ) where
 
           pub element_place : place < length block
           element_place = facts.0
-
-          -- so many are listed that one more can be counted
-          pub element-count : count < k + length block
-          element-count = omega (arith, w.total, w.few)
 
           pub element-again : {slot : ℕ} {values' : List ℤ} {names' : List ℕ} {v : ℤ} → slot ≡ slot_of slots count → v ≡ value
               → ElementsStored slot (listed_as v (base + place) len) values values' names names' → Loop values₀ values' names₀ names' next (count + 1)
@@ -482,5 +385,5 @@ module _ (width : ℕ) (e : Endian) (base : ℕ) (block : List ℕ) where
                     ∙ sym (store-append name_words 2 slots k w.xs (x ∷ []) names₀);
                 rest =
                     before-before w.xs (x ∷ []) (from (w.turns - 1) next)
-                    ∙ ap (λ (y : Element). elements_before w.xs (element_then base (λ n. from (w.turns - 1) n) y)) (sym p) ∙ turn;
+                    ∙ ap (λ (y : Option Element). elements_before w.xs (element_then base (λ n. from (w.turns - 1) n) y)) (sym p) ∙ turn;
               }

@@ -1,4 +1,6 @@
 -- What follows from `Enumeration`, for each way that the code comes to an answer.
+use Rattle.std.specs.Prelude.{Option, Result, Ok, Err}
+use Rattle.format.specs.Said.{said, said_counted}
 use Prim.Native.Nat.{ℕ, zero, suc, ◌+◌, ◌-◌, ◌*◌, ◌^◌, ◌/◌, ◌≤◌, ◌<◌}
 use native.Mathlib.Nat.{sub-zero}
 use native.Mathlib.Omega.{arith}
@@ -8,6 +10,7 @@ use mathlib.Core.List.{List, [], ◌∷◌, ◌++◌, append-nil}
 use lib.ListN.{length, take, drop, length-drop, length-append}
 use lib.Seq.{length-take-le, sets}
 use lib.Dec.{leb}
+use borrow.Author.Tests.{le-leb, lt-leb}
 use lib.IntN.{ℤ}
 use Rattle.tables.specs.Table.{table, lent_rows}
 use Rattle.lent.specs.Outcome.{Outcomes, BothGiven}
@@ -23,57 +26,34 @@ use Rattle.format.proofs.Laws.Said.{case-said, goes-past, goes-in-both, Of, give
 use Rattle.format.specs.declared.settings.Settings.{Settings}
 use Rattle.format.specs.declared.settings.Producer.{Producer}
 use Rattle.format.specs.declared.refusal.Refusal.{Refusal}
+use Rattle.format.specs.declared.refusal.Unfilled.TheVariants.{Room}
 use Rattle.attributes.specs.Parts.{part_at, block_at}
 use Rattle.tables.specs.Row.{attr_at}
 use Rattle.tables.specs.declared.row.Attr.{Attr}
-use Rattle.tables.specs.declared.find.Found.{Found}
 use Rattle.tables.specs.declared.row.Counts.{Counts}
 use Rattle.links.specs.Links.{child_walk}
 use Rattle.tables.specs.Keyed.{row_of}
-use Rattle.tables.specs.Inside.Keyed.{said_keyed}
 use Rattle.tables.proofs.Laws.Keyed.{keyed-short}
 use Rattle.links.proofs.Laws.Typed.{keyed-asked}
-use Rattle.tables.specs.declared.keyed.Keyed.{Keyed}
-use Rattle.tables.specs.declared.keyed.Keyed.TheVariants as keyed
 use Rattle.records.specs.Taken.{special}
 use Rattle.records.specs.Scan.{run_of, attribute_at, attribute_fault, number_at, fault_at}
-use Rattle.records.specs.Inside.Scan.{said_fault, said_scan, scan_from}
+use Rattle.records.specs.Inside.Scan.{scan_from}
 use Rattle.records.proofs.Laws.Scan.{Before, Stopped, FaultMet, scan-stop, scan-refused}
-use Rattle.records.specs.Fields.{last_from, name_of, word_by, word_of, word_needed}
+use Rattle.records.specs.Fields.{name_of, word_of, needed}
 use Rattle.records.specs.Front.{kind_fault, childless_fault}
-use Rattle.records.proofs.Laws.Record.{fields-said}
 use Rattle.records.specs.Elements.{Listed, list_width, elements_in, values_of, names_of}
 use Rattle.records.specs.Inside.Elements.{value_words, name_words, store_all, Addable, elements_before, count_from, store_values, store_names, StoredFrom}
-use Rattle.records.specs.Inside.Tally.{said_tally}
-use Rattle.records.proofs.Laws.Elements.{width_few, before-none, before-before, placed-given, elements-few, store-append, store_length, values-forwards, names-forwards, values-backwards, names-backwards}
-use Rattle.records.specs.Enumeration.{said_enumeration_read, size_before, list_at, lists_from, enumeration_sized, row_lists, enumeration_at, is_gcc, reversed, in_order, enumeration_into}
-use Rattle.records.specs.Inside.Enumeration.{said_enumeration_whole, Countable, Stepping, AskedShort, one_list, rest_from, Advanced, Steps, enumeration_end, EnumerationStored}
+use Rattle.records.proofs.Laws.Elements.{width_few, before-none, before-before, placed-given, elements-few, store-append, values-forwards, names-forwards, values-backwards, names-backwards}
+use Rattle.records.specs.Enumeration.{size_before, list_at, lists_from, enumeration_sized, row_lists, enumeration_at, is_gcc, reversed, in_order, enumeration_into}
+use Rattle.records.specs.Inside.Enumeration.{Countable, AskedShort, one_list, enumeration_end, EnumerationStored}
 use Rattle.records.specs.declared.taken.Record.TheVariants as record'
 use Rattle.records.specs.declared.scan.Run.{Run}
 use Rattle.records.specs.declared.scan.Attribute.{Attribute}
-use Rattle.records.specs.declared.scan.Fault.{Fault}
-use Rattle.records.specs.declared.scan.Fault.TheVariants as fault
-use Rattle.records.specs.declared.scan.Scan.{Scan}
-use Rattle.records.specs.declared.scan.Scan.TheVariants as scan
-use Rattle.records.specs.declared.fields.Sought.TheVariants as sought
-use Rattle.records.specs.declared.fields.Name.{Name}
-use Rattle.records.specs.declared.fields.Word.{Word}
-use Rattle.records.specs.declared.tally.Tally.{Tally}
-use Rattle.records.specs.declared.tally.Tally.TheVariants as counted
+use Rattle.records.specs.declared.fields.Text.{Text}
 use Rattle.records.specs.declared.elements.Slots.{Slots}
 use Rattle.records.specs.declared.enumeration.Enumeration.{Enumeration}
-use Rattle.records.specs.declared.enumeration.EnumerationWhole.{EnumerationWhole}
-use Rattle.records.specs.declared.enumeration.EnumerationWhole.TheVariants as whole
-use Rattle.records.specs.declared.enumeration.EnumerationRead.TheVariants as read
-use Rattle.records.specs.declared.enumeration.Step.{Step}
-use Rattle.records.specs.declared.enumeration.Step.TheVariants as step
 
 -- ---- one list
-
-pub size-before : (s attrs : List ℕ) (run : Run) (j : ℕ) {told : Found} {w : Word} → told ≡ last_from (sought.Number attribute.byte_size) attrs run.first j
-    → w ≡ word_by s attrs run told → w ≡ size_before s attrs run j
-unfolding size_before
-size-before s attrs run j is h = h ∙ ap (word_by s attrs run) is
 
 part-short : (s : List ℕ) (from n : ℕ) → length (part_at s from n) ≤ length s
 unfolding part_at
@@ -106,31 +86,31 @@ counted-refused k (gives xs) p = absurd (given-refused (sym p))
 counted-refused k (refuses number' place' counts') {number} {place} {counts} p =
     let same : ◌≡◌ {A = Said ℕ} (refuses number place counts) (refuses number' place' counts') = p in cc
 
-module _ {lists : Said (List Listed)} {slots : Slots} {k : ℕ} {r : Tally} {values values' : List ℤ} {names names' : List ℕ}
+module _ {lists : Said (List Listed)} {slots : Slots} {k : ℕ} {r : Result ℕ Refusal} {values values' : List ℤ} {names names' : List ℕ}
     (stored : StoredFrom lists slots k r values values' names names') where
-  told-listed : {more : ℕ} → r ≡ counted.Count more → (xs : List Listed) × (lists ≡ gives xs) × (more ≡ k + length xs)
-  unfolding said_tally
-  told-listed p = counted-listed k lists (case-said said_tally stored.answer_is p)
+  told-listed : {more : ℕ} → r ≡ Ok more → (xs : List Listed) × (lists ≡ gives xs) × (more ≡ k + length xs)
+  unfolding said
+  told-listed p = counted-listed k lists (case-said said stored.answer_is p)
 
-  told-refused : {why : Refusal} → r ≡ counted.Refused why → lists ≡ refusal why
-  unfolding said_tally
-  told-refused p = counted-refused k lists (case-said said_tally stored.answer_is p)
+  told-refused : {why : Refusal} → r ≡ Err why → lists ≡ refusal why
+  unfolding said
+  told-refused p = counted-refused k lists (case-said said stored.answer_is p)
 
-stored-as : {lists lists' : Said (List Listed)} (slots : Slots) (k : ℕ) (r : Tally) {values values' : List ℤ} {names names' : List ℕ} → lists ≡ lists'
+stored-as : {lists lists' : Said (List Listed)} (slots : Slots) (k : ℕ) (r : Result ℕ Refusal) {values values' : List ℤ} {names names' : List ℕ} → lists ≡ lists'
     → StoredFrom lists slots k r values values' names names' → StoredFrom lists' slots k r values values' names names'
 stored-as slots k r {values} {values'} {names} {names'} p = subst (λ (l : Said (List Listed)). StoredFrom l slots k r values values' names names') p
 
-stored_refused : {lists : Said (List Listed)} (slots : Slots) (k : ℕ) {why : Refusal} (values values' : List ℤ) (names names' : List ℕ) → refusal why ≡ lists
-    → StoredFrom lists slots k (counted.Refused why) values values' names names'
-unfolding said_tally count_from ◌>>=◌
-stored_refused slots k values values' names names' p =
+stored_refused : {lists : Said (List Listed)} (slots : Slots) (k : ℕ) {number place : ℕ} {told : List ℕ} {z : Result ℕ Refusal} (values values' : List ℤ) (names names' : List ℕ)
+    → said z ≡ refuses number place told → refuses number place told ≡ lists → StoredFrom lists slots k z values values' names names'
+unfolding count_from ◌>>=◌
+stored_refused slots k values values' names names' out p =
     record {
-      answer_is = ap (count_from k) p;
+      answer_is = out ∙ ap (count_from k) p;
       values_are = λ xs q. absurd (given-refused (sym (p ∙ q)));
       names_are = λ xs q. absurd (given-refused (sym (p ∙ q)));
     }
 
-module _ (s attrs : List ℕ) (run : Run) (j : ℕ) {size : Word} {width : ℕ} {attr : Attr} {block : List ℕ} (q : size ≡ size_before s attrs run j)
+module _ (s attrs : List ℕ) (run : Run) (j : ℕ) {size : Option ℕ} {width : ℕ} {attr : Attr} {block : List ℕ} (q : size ≡ size_before s attrs run j)
     (w : width ≡ list_width size) (r : attr ≡ attr_at attrs (run.first + j)) (b : block ≡ block_at run.ends.«data» 4 s attr.value) where
   pub list-is : placed run.key (elements_in width run.ends.section (attr.value + 4) block) ≡ list_at s attrs run j
   unfolding list_at attribute_at
@@ -153,17 +133,17 @@ module _ (settings : Settings) (s attrs : List ℕ) (run : Run) (j : ℕ) {a : A
   unfolding fault_at
   judged is = is ∙ ap (attribute_fault settings.roles record'.Enumeration run s) at
 
-  module _ {told : Fault} (is : said_fault told ≡ attribute_fault settings.roles record'.Enumeration run s a) where
-    pub list-refused : (slots : Slots) (count : ℕ) {why : Refusal} (values : List ℤ) (names : List ℕ) → told ≡ fault.Refused why
-        → StoredFrom (one_list settings s attrs run j) slots count (counted.Refused why) values values names names
-    unfolding one_list said_fault ◌>>◌
-    list-refused slots count values names p = stored_refused slots count values values names names (goes-past said_fault (judged is) p _ refl)
+  module _ {told : Result Unit Refusal} (is : said told ≡ attribute_fault settings.roles record'.Enumeration run s a) where
+    pub list-refused : (slots : Slots) (count : ℕ) {why : Refusal} {z : Result ℕ Refusal} (values : List ℤ) (names : List ℕ) → told ≡ Err why
+        → said z ≡ refusal why → StoredFrom (one_list settings s attrs run j) slots count z values values names names
+    unfolding one_list said ◌>>◌
+    list-refused slots count values names p out = stored_refused slots count values values names names out (goes-past said (judged is) p _ refl)
 
-    pub list-clear : (slots : Slots) (count : ℕ) (c : Tally) {lists : Said (List Listed)} {values values' : List ℤ} {names names' : List ℕ} → told ≡ fault.Clear
+    pub list-clear : (slots : Slots) (count : ℕ) (c : Result ℕ Refusal) {lists : Said (List Listed)} {values values' : List ℤ} {names names' : List ℕ} → told ≡ Ok tt
         → lists ≡ list_at s attrs run j → StoredFrom lists slots count c values values' names names'
         → StoredFrom (one_list settings s attrs run j) slots count c values values' names names'
-    unfolding one_list said_fault ◌>>◌
-    list-clear slots count c p h = stored-as slots count c (goes-past said_fault (judged is) p _ h)
+    unfolding one_list said ◌>>◌
+    list-clear slots count c p h = stored-as slots count c (goes-past said (judged is) p _ h)
 
 -- ---- up to and with the next list
 
@@ -177,8 +157,9 @@ test-rest (gives x) l rest = refl
 test-rest (refuses number place counts) l rest = refl
 
 module _ (settings : Settings) (s attrs : List ℕ) (run : Run) where
-  abbrev rest : ℕ → Said (List Listed)
-  rest j = rest_from settings s attrs run j
+  -- the attributes from j on
+  unfoldable pub rest : ℕ → Said (List Listed)
+  rest j = lists_from settings s attrs run j (run.count - j)
 
   abbrev own : ℕ → Bool
   own j = special record'.Enumeration (number_at settings.roles record'.Enumeration run s attrs j)
@@ -187,7 +168,7 @@ module _ (settings : Settings) (s attrs : List ℕ) (run : Run) where
   faulty j = fault_at settings.roles record'.Enumeration run s attrs j
 
   rest_end : (j : ℕ) → run.count ≤ j → rest j ≡ gives []
-  unfolding rest_from lists_from
+  unfolding rest lists_from
   rest_end j h = let none : run.count - j ≡ 0 = omega arith in ap (lists_from settings s attrs run j) none
 
   turn : (j m : ℕ) → own j ≡ false → faulty j ≡ gives tt → lists_from settings s attrs run j (suc m) ≡ lists_from settings s attrs run (suc j) m
@@ -211,7 +192,7 @@ module _ (settings : Settings) (s attrs : List ℕ) (run : Run) where
 
   -- attributes that are no lists and have no fault are passed by
   rest-past : (j k : ℕ) → j ≤ k → k ≤ run.count → Before settings.roles record'.Enumeration run s attrs j k → rest j ≡ rest k
-  unfolding rest_from
+  unfolding rest
   rest-past j k from upto w =
       let many : run.count - j ≡ k - j + (run.count - k) = omega arith in
       let place : j + (k - j) ≡ k = omega arith in
@@ -226,7 +207,7 @@ module _ (settings : Settings) (s attrs : List ℕ) (run : Run) where
       here ∙ test-rest (faulty j) (list_at s attrs run j) (lists_from settings s attrs run (suc j) m)
 
   rest-own : (j : ℕ) → j < run.count → own j ≡ true → rest j ≡ with_rest (one_list settings s attrs run j) (rest (j + 1))
-  unfolding rest_from
+  unfolding rest
   rest-own j h t =
       let many : run.count - j ≡ suc (run.count - (j + 1)) = omega arith in
       let place : suc j ≡ j + 1 = omega arith in
@@ -239,7 +220,7 @@ module _ (settings : Settings) (s attrs : List ℕ) (run : Run) where
   fault-turn j m p = rw (p, lists_from)
 
   rest-fault : (j : ℕ) {number place : ℕ} {counts : List ℕ} → j < run.count → faulty j ≡ refuses number place counts → rest j ≡ refuses number place counts
-  unfolding rest_from
+  unfolding rest
   rest-fault j h p =
       let many : run.count - j ≡ suc (run.count - (j + 1)) = omega arith in
       ap (lists_from settings s attrs run j) many ∙ fault-turn j (run.count - (j + 1)) p
@@ -260,83 +241,10 @@ module _ (settings : Settings) (s attrs : List ℕ) (run : Run) where
       in
       omega arith
 
-  module _ {j count : ℕ} (w : Stepping s run j count) {told : Scan}
-      (is : said_scan told ≡ scan_from settings.roles record'.Enumeration run s attrs j (run.count - j)) where
-    module _ {at : ℕ} (p : told ≡ scan.Stop at) where
-      stop : Stopped settings.roles record'.Enumeration run s attrs j (run.count - j) at
-      unfolding said_scan
-      stop = scan-stop settings.roles record'.Enumeration run s attrs (sym (case-said said_scan is p))
-
-      past : rest j ≡ rest at
-      past =
-          let inside : j < run.count = w.inside in
-          let upto : at ≤ j + (run.count - j) = stop.upto in
-          rest-past j at stop.from (omega arith) stop.before
-
-      -- no list is left
-      pub step-last : (slots : Slots) (values : List ℤ) (names : List ℕ) → run.count ≤ at → Advanced settings s attrs run slots j count at count values values names names
-      unfolding store_all
-      step-last slots values names h =
-          let inside : j < run.count = w.inside in
-          let upto : at ≤ j + (run.count - j) = stop.upto in
-          let few : count ≤ j * section_limit = w.countable.few in
-          record {
-            added = [];
-            forward = omega arith;
-            inside = omega arith;
-            left = past ∙ sym (before-none (rest at));
-            counted = omega arith;
-            few = omega arith;
-            values_are = refl;
-            names_are = refl;
-          }
-
-      pub step-countable : at < run.count → Countable s at count
-      step-countable h =
-          let from : j ≤ at = stop.from in
-          let few : count ≤ j * section_limit = w.countable.few in
-          record { short = w.countable.short; few = omega arith }
-
-      module _ (h : at < run.count) {slots : Slots} {r : Tally} {values values' : List ℤ} {names names' : List ℕ}
-          (stored : StoredFrom (one_list settings s attrs run at) slots count r values values' names names') where
-        here : rest j ≡ with_rest (one_list settings s attrs run at) (rest (at + 1))
-        here = let inside : j < run.count = w.inside in past ∙ rest-own at h (stop.own (omega arith))
-
-        pub step-list : {more : ℕ} → r ≡ counted.Count more → Advanced settings s attrs run slots j count (at + 1) more values values' names names'
-        unfolding ◌>>=◌
-        step-list {more} q =
-            let found : (xs : List Listed) × (one_list settings s attrs run at ≡ gives xs) × (more ≡ count + length xs) = told-listed stored q in
-            let from : j ≤ at = stop.from in
-            let few : count ≤ j * section_limit = w.countable.few in
-            let short : length s < section_limit = w.countable.short in
-            let one : length found.0 ≤ length s = list-few at found.1 in
-            let total : more ≡ count + length found.0 = found.2 in
-            record {
-              added = found.0;
-              forward = omega arith;
-              inside = omega arith;
-              left = here ∙ ap (λ (l : Said (List Listed)). with_rest l (rest (at + 1))) found.1;
-              counted = total;
-              few = omega arith;
-              values_are = stored.values_are found.0 found.1;
-              names_are = stored.names_are found.0 found.1;
-            }
-
-        pub step-list-refused : {why : Refusal} → r ≡ counted.Refused why → rest j ≡ refusal why
-        unfolding ◌>>=◌
-        step-list-refused q = here ∙ ap (λ (l : Said (List Listed)). with_rest l (rest (at + 1))) (told-refused stored q)
-
-    pub step-refused : {why : Refusal} → told ≡ scan.Refused why → rest j ≡ refusal why
-    unfolding said_scan
-    step-refused {why} p =
-        let met : (k : ℕ) × FaultMet settings.roles record'.Enumeration run s attrs j (run.count - j) k (number_of why.reason) why.place [] =
-        scan-refused settings.roles record'.Enumeration run s attrs (sym (case-said said_scan is p))
-        in
-        let inside : j < run.count = w.inside in
-        let within : met.0 < j + (run.count - j) = met.1.within in
-        rest-past j met.0 met.1.from (omega arith) met.1.before ∙ rest-fault met.0 (omega arith) met.1.fault
-
   -- ---- the loop over the attributes: what is left comes to the whole
+
+  abbrev all_lists : Said (List Listed)
+  all_lists = lists_from settings s attrs run 0 run.count
 
   -- xs were read and stored
   pub record ListsLoop (slots : Slots) (values₀ values : List ℤ) (names₀ names : List ℕ) (j count : ℕ) : Type 0 where
@@ -346,11 +254,11 @@ module _ (settings : Settings) (s attrs : List ℕ) (run : Run) where
     pub total : count ≡ length xs
     pub values_are : values ≡ store_values slots 0 xs values₀
     pub names_are : names ≡ store_names slots 0 xs names₀
-    pub left : elements_before xs (rest_from settings s attrs run j) ≡ lists_from settings s attrs run 0 run.count
+    pub left : elements_before xs (rest j) ≡ lists_from settings s attrs run 0 run.count
 
   module _ (slots : Slots) where
     pub lists-begin : (values : List ℤ) (names : List ℕ) → ListsLoop slots values values names names 0 0
-    unfolding rest_from store_all
+    unfolding rest store_all
     lists-begin values names =
         record {
           xs = [];
@@ -362,67 +270,106 @@ module _ (settings : Settings) (s attrs : List ℕ) (run : Run) where
           left = before-none (lists_from settings s attrs run 0 (run.count - 0)) ∙ ap (lists_from settings s attrs run 0) (sub-zero run.count);
         }
 
-    module _ {values₀ values : List ℤ} {names₀ names : List ℕ} {j count : ℕ} (w : ListsLoop slots values₀ values names₀ names j count) where
-      pub lists-values : length values ≡ length values₀
-      lists-values = ap length w.values_are ∙ store_length value_words 1 slots 0 w.xs values₀
+    module _ {values₀ values : List ℤ} {names₀ names : List ℕ} {j count : ℕ} (w : ListsLoop slots values₀ values names₀ names j count) {told : Result ℕ Refusal}
+        (is : said told ≡ scan_from settings.roles record'.Enumeration run s attrs j (run.count - j)) where
+      module _ {at : ℕ} (p : told ≡ Ok at) where
+        stop : Stopped settings.roles record'.Enumeration run s attrs j (run.count - j) at
+        unfolding said
+        stop = scan-stop settings.roles record'.Enumeration run s attrs (sym (case-said said is p))
 
-      pub lists-names : length names ≡ length names₀
-      lists-names = ap length w.names_are ∙ store_length name_words 2 slots 0 w.xs names₀
+        past : elements_before w.xs (rest at) ≡ all_lists
+        past =
+            let inside : j ≤ run.count = w.inside in
+            let upto : at ≤ j + (run.count - j) = stop.upto in
+            ap (elements_before w.xs) (sym (rest-past j at stop.from (omega arith) stop.before)) ∙ w.left
 
-      pub lists-stepping : length s < section_limit → j < run.count → Stepping s run j count
-      lists-stepping short h = record { countable = record { short = short; few = w.few }; inside = h }
+        -- no list is left
+        pub lists-done : run.count ≤ at → StoredFrom (lists_from settings s attrs run 0 run.count) slots 0 (Ok count) values₀ values names₀ names
+        unfolding said count_from elements_before ◌>>=◌
+        lists-done h =
+            let all : all_lists ≡ gives w.xs = sym past ∙ ap (elements_before w.xs) (rest_end at h) ∙ ap gives (append-nil w.xs) in
+            let total : count ≡ 0 + length w.xs = omega (arith, w.total) in
+            record {
+              answer_is = ap gives total ∙ ap (count_from 0) (sym all);
+              values_are = λ ys p. w.values_are ∙ ap (λ (zs : List Listed). store_values slots 0 zs values₀) (given_is (sym all ∙ p));
+              names_are = λ ys p. w.names_are ∙ ap (λ (zs : List Listed). store_names slots 0 zs names₀) (given_is (sym all ∙ p));
+            }
 
-      pub lists-done : run.count ≤ j → StoredFrom (lists_from settings s attrs run 0 run.count) slots 0 (counted.Count count) values₀ values names₀ names
-      unfolding said_tally count_from elements_before ◌>>=◌
-      lists-done h =
-          let all : lists_from settings s attrs run 0 run.count ≡ gives w.xs =
-          sym w.left ∙ ap (elements_before w.xs) (rest_end j h) ∙ ap gives (append-nil w.xs)
-          in
-          let total : count ≡ 0 + length w.xs = omega (arith, w.total) in
-          record {
-            answer_is = ap gives total ∙ ap (count_from 0) (sym all);
-            values_are = λ ys p. w.values_are ∙ ap (λ (zs : List Listed). store_values slots 0 zs values₀) (given_is (sym all ∙ p));
-            names_are = λ ys p. w.names_are ∙ ap (λ (zs : List Listed). store_names slots 0 zs names₀) (given_is (sym all ∙ p));
-          }
+        pub lists-countable : length s < section_limit → at < run.count → Countable s at count
+        lists-countable short h =
+            let from : j ≤ at = stop.from in
+            let few : count ≤ j * section_limit = w.few in
+            record { short = short; few = omega arith }
 
-      module _ (told : Step) (values' : List ℤ) (names' : List ℕ) (steps : Steps settings s attrs run slots j count told values values' names names') where
-        pub lists-refused : {why : Refusal} → told ≡ step.Refused why
-            → StoredFrom (lists_from settings s attrs run 0 run.count) slots 0 (counted.Refused why) values₀ values' names₀ names'
-        unfolding elements_before ◌>>=◌
-        lists-refused {why} p =
-            let here : rest j ≡ refusal why = subst (λ (x : Step). Steps settings s attrs run slots j count x values values' names names') p steps in
-            stored_refused slots 0 values₀ values' names₀ names' (ap (elements_before w.xs) (sym here) ∙ w.left)
+        pub lists-less : at < run.count → run.count - (at + 1) < run.count - j
+        lists-less h = let from : j ≤ at = stop.from in omega arith
 
-        module _ {at more : ℕ} (p : told ≡ step.Next at more) where
-          advanced : Advanced settings s attrs run slots j count at more values values' names names'
-          advanced = subst (λ (x : Step). Steps settings s attrs run slots j count x values values' names names') p steps
+        module _ (h : at < run.count) {r : Result ℕ Refusal} {values' : List ℤ} {names' : List ℕ}
+            (stored : StoredFrom (one_list settings s attrs run at) slots count r values values' names names') where
+          here : elements_before w.xs (with_rest (one_list settings s attrs run at) (rest (at + 1))) ≡ all_lists
+          here =
+              let inside : j ≤ run.count = w.inside in
+              let from : j ≤ at = stop.from in
+              ap (elements_before w.xs) (sym (rest-own at h (stop.own (omega arith)))) ∙ past
 
-          pub lists-less : run.count - at < run.count - j
-          lists-less =
-              let forward : j < at = advanced.forward in
-              let inside : at ≤ run.count = advanced.inside in
-              omega arith
-
-          pub lists-again : ListsLoop slots values₀ values' names₀ names' at more
-          lists-again =
-              let ys : List Listed = advanced.added in
+          pub lists-again : {more : ℕ} → length s < section_limit → r ≡ Ok more → ListsLoop slots values₀ values' names₀ names' (at + 1) more
+          unfolding ◌>>=◌
+          lists-again {more} short q =
+              let found : (xs : List Listed) × (one_list settings s attrs run at ≡ gives xs) × (more ≡ count + length xs) = told-listed stored q in
+              let ys : List Listed = found.0 in
+              let from : j ≤ at = stop.from in
+              let few : count ≤ j * section_limit = w.few in
+              let one : length ys ≤ length s = list-few at found.1 in
               let total : count ≡ length w.xs = w.total in
-              let more' : more ≡ count + length ys = advanced.counted in
+              let more' : more ≡ count + length ys = found.2 in
               let long : length (w.xs ++ ys) ≡ length w.xs + length ys = length-append w.xs ys in
               let place : count ≡ 0 + length w.xs = omega arith in
               record {
                 xs = w.xs ++ ys;
-                inside = advanced.inside;
-                few = advanced.few;
+                inside = omega arith;
+                few = omega arith;
                 total = omega arith;
                 values_are =
-                    advanced.values_are ∙ ap (λ (t : List ℤ). store_values slots count ys t) w.values_are
+                    stored.values_are ys found.1 ∙ ap (λ (t : List ℤ). store_values slots count ys t) w.values_are
                     ∙ ap (λ (n : ℕ). store_values slots n ys (store_values slots 0 w.xs values₀)) place ∙ sym (store-append value_words 1 slots 0 w.xs ys values₀);
                 names_are =
-                    advanced.names_are ∙ ap (λ (t : List ℕ). store_names slots count ys t) w.names_are
+                    stored.names_are ys found.1 ∙ ap (λ (t : List ℕ). store_names slots count ys t) w.names_are
                     ∙ ap (λ (n : ℕ). store_names slots n ys (store_names slots 0 w.xs names₀)) place ∙ sym (store-append name_words 2 slots 0 w.xs ys names₀);
-                left = before-before w.xs ys (rest at) ∙ ap (elements_before w.xs) (sym advanced.left) ∙ w.left;
+                left =
+                    before-before w.xs ys (rest (at + 1))
+                    ∙ ap (elements_before w.xs) (ap (λ (l : Said (List Listed)). with_rest l (rest (at + 1))) (sym found.1)) ∙ here;
               }
+
+          pub list-unread : {why : Refusal} {z : Result ℕ Refusal} → r ≡ Err why → said z ≡ refusal why
+              → StoredFrom (lists_from settings s attrs run 0 run.count) slots 0 z values₀ values' names₀ names'
+          unfolding elements_before ◌>>=◌
+          list-unread q out =
+              stored_refused slots 0 values₀ values' names₀ names' out
+              (ap (λ (l : Said (List Listed)). elements_before w.xs (with_rest l (rest (at + 1)))) (sym (told-refused stored q)) ∙ here)
+
+      pub lists-refused : {why : Refusal} {z : Result ℕ Refusal} → told ≡ Err why → said z ≡ refusal why
+          → StoredFrom (lists_from settings s attrs run 0 run.count) slots 0 z values₀ values names₀ names
+      unfolding said elements_before ◌>>=◌
+      lists-refused {why} p out =
+          let met : (k : ℕ) × FaultMet settings.roles record'.Enumeration run s attrs j (run.count - j) k (number_of why.reason) why.place [] =
+          scan-refused settings.roles record'.Enumeration run s attrs (sym (case-said said is p))
+          in
+          let inside : j ≤ run.count = w.inside in
+          let within : met.0 < j + (run.count - j) = met.1.within in
+          let fault : rest j ≡ refusal why = rest-past j met.0 met.1.from (omega arith) met.1.before ∙ rest-fault met.0 (omega arith) met.1.fault in
+          stored_refused slots 0 values₀ values names₀ names out (ap (elements_before w.xs) (sym fault) ∙ w.left)
+
+-- ---- the rooms are long enough, or one of them is too short
+
+module _ (many n m : ℕ) where
+  both-fit : many ≤ n → many ≤ m → (leb many n && leb many m) ≡ true
+  both-fit h k = rw (le-leb many n h, le-leb many m k)
+
+  pub first-short : n < many → (leb many n && leb many m) ≡ false
+  first-short h = rw (lt-leb many n h)
+
+  pub second-short : many ≤ n → m < many → (leb many n && leb many m) ≡ false
+  second-short h k = rw (le-leb many n h, lt-leb many m k)
 
 -- ---- in order into the rooms
 
@@ -448,20 +395,9 @@ module _ (producer : Producer) (xs : List Listed) {gcc : Bool} (g : gcc ≡ is_g
 
 -- ---- no children, and a ByteSize
 
-pub sized-whole : (s attrs : List ℕ) (run : Run) (many size : ℕ) {name : Name} → name ≡ name_of s attrs run attribute.name
-    → said_enumeration_whole (whole.Is (record { name = name; byte_size = size; members = many }))
-    ≡ gives (record { name = name_of s attrs run attribute.name; byte_size = size; members = many })
-unfolding said_enumeration_whole
-sized-whole s attrs run many size p = ap (λ (x : Name). gives (record { name = x; byte_size = size; members = many })) p
-
 module _ (settings : Settings) (s rows attrs : List ℕ) (n i : ℕ) where
   abbrev childless : Said Unit
   childless = childless_fault rows i (child_walk (lent_rows settings.endian s rows attrs n) i)
-
-  pub end-clear : (many : ℕ) {told : Fault} {run : Run} {z : Said Enumeration} → said_fault told ≡ childless_fault rows i (child_walk (lent_rows settings.endian s rows attrs n) i)
-      → told ≡ fault.Clear → run ≡ run_of settings.endian rows i → z ≡ enumeration_sized s attrs run many → z ≡ enumeration_end settings s rows attrs n i many
-  unfolding enumeration_end
-  end-clear many is p q h = fields-said (λ (x : Run). enumeration_sized s attrs x many) is p q h
 
   -- ---- the whole
 
@@ -474,23 +410,23 @@ module _ (settings : Settings) (s rows attrs : List ℕ) (n i : ℕ) where
   abbrev by : Said (List Listed) → Said Enumeration
   by l = l >>= λ (xs : List Listed). enumeration_end settings s rows attrs n i (length xs)
 
-  whole-refused : (slots : Slots) {why : Refusal} (values values' : List ℤ) (names names' : List ℕ) → refusal why ≡ at
-      → EnumerationStored at lists slots (whole.Refused why) values values' names names'
-  unfolding said_enumeration_whole
-  whole-refused slots values values' names names' p =
+  whole-refused : (order : Slots) {number place : ℕ} {told : List ℕ} {z : Result Enumeration Refusal} (values values' : List ℤ) (names names' : List ℕ)
+      → said z ≡ refuses number place told → refuses number place told ≡ at → EnumerationStored at lists order z values values' names names'
+  whole-refused order values values' names names' out p =
       record {
-        answer_is = p;
+        answer_is = out ∙ p;
         values_are = λ e q xs r. absurd (given-refused (sym (p ∙ q)));
         names_are = λ e q xs r. absurd (given-refused (sym (p ∙ q)));
       }
 
-  module _ {told : Fault} (is : said_fault told ≡ kind_fault settings rows record'.Enumeration i) where
-    pub whole-kind : (slots : Slots) {why : Refusal} (values : List ℤ) (names : List ℕ) → told ≡ fault.Refused why
-        → EnumerationStored (enumeration_at settings (lent_rows settings.endian s rows attrs n) i) (row_lists settings (lent_rows settings.endian s rows attrs n) i) slots (whole.Refused why) values values names names
-    unfolding enumeration_at said_fault ◌>>◌
-    whole-kind slots values names p = whole-refused slots values values names names (goes-past said_fault is p _ refl)
+  module _ {told : Result Unit Refusal} (is : said told ≡ kind_fault settings rows record'.Enumeration i) where
+    pub whole-kind : (order : Slots) {why : Refusal} {z : Result Enumeration Refusal} (values : List ℤ) (names : List ℕ) → told ≡ Err why → said z ≡ refusal why
+        → EnumerationStored (enumeration_at settings (lent_rows settings.endian s rows attrs n) i) (row_lists settings (lent_rows settings.endian s rows attrs n) i)
+        order z values values names names
+    unfolding enumeration_at said ◌>>◌
+    whole-kind order values names p out = whole-refused order values values names names out (goes-past said is p _ refl)
 
-    module _ (p : told ≡ fault.Clear) {run : Run} (q : run ≡ run_of settings.endian rows i) (slots : Slots) {r : Tally}
+    module _ (p : told ≡ Ok tt) {run : Run} (q : run ≡ run_of settings.endian rows i) (slots : Slots) {r : Result ℕ Refusal}
         {values values' : List ℤ} {names names' : List ℕ}
         (stored : StoredFrom (lists_from settings s attrs run 0 run.count) slots 0 r values values' names names') where
       lists-are : lists_from settings s attrs run 0 run.count ≡ lists
@@ -498,10 +434,10 @@ module _ (settings : Settings) (s rows attrs : List ℕ) (n i : ℕ) where
       lists-are = ap (λ (x : Run). lists_from settings s attrs x 0 x.count) q
 
       by-lists : {l : Said (List Listed)} → lists_from settings s attrs run 0 run.count ≡ l → {z : Said Enumeration} → z ≡ by l → z ≡ at
-      unfolding enumeration_at enumeration_end said_fault ◌>>◌
-      by-lists h k = goes-past said_fault is p _ (k ∙ ap by (sym h ∙ lists-are))
+      unfolding enumeration_at enumeration_end said ◌>>◌
+      by-lists h k = goes-past said is p _ (k ∙ ap by (sym h ∙ lists-are))
 
-      pub whole-counted : {many : ℕ} {a : EnumerationWhole} → r ≡ counted.Count many → said_enumeration_whole a ≡ enumeration_end settings s rows attrs n i many
+      pub whole-counted : {many : ℕ} {a : Result Enumeration Refusal} → r ≡ Ok many → said a ≡ enumeration_end settings s rows attrs n i many
           → EnumerationStored (enumeration_at settings (lent_rows settings.endian s rows attrs n) i) (row_lists settings (lent_rows settings.endian s rows attrs n) i) slots a values values' names names'
       unfolding ◌>>=◌
       whole-counted {many} c h =
@@ -513,10 +449,11 @@ module _ (settings : Settings) (s rows attrs : List ℕ) (n i : ℕ) where
             names_are = λ e t xs l. stored.names_are xs (lists-are ∙ l);
           }
 
-      pub whole-unread : {why : Refusal} → r ≡ counted.Refused why
-          → EnumerationStored (enumeration_at settings (lent_rows settings.endian s rows attrs n) i) (row_lists settings (lent_rows settings.endian s rows attrs n) i) slots (whole.Refused why) values values' names names'
+      pub whole-unread : {why : Refusal} {z : Result Enumeration Refusal} → r ≡ Err why → said z ≡ refusal why
+          → EnumerationStored (enumeration_at settings (lent_rows settings.endian s rows attrs n) i)
+          (row_lists settings (lent_rows settings.endian s rows attrs n) i) slots z values values' names names'
       unfolding ◌>>=◌
-      whole-unread c = whole-refused slots values values' names names' (by-lists (told-refused stored c) refl)
+      whole-unread c out = whole-refused slots values values' names names' out (by-lists (told-refused stored c) refl)
 
   -- ---- into the rooms
 
@@ -529,7 +466,7 @@ module _ (settings : Settings) (s rows attrs : List ℕ) (n i : ℕ) where
   past-members (gives x) l a m = m
   past-members (refuses number place counts) l a m = tt
 
-  sized-members : (xs : List Listed) (size : Said ℕ) (name : Name)
+  sized-members : (xs : List Listed) (size : Said ℕ) (name : Option Text)
       → Members (gives xs) (size >>= λ (k : ℕ). gives (record { name = name; byte_size = k; members = length xs }))
   unfolding ◌>>=◌
   sized-members xs (gives k) name = (xs, refl, refl)
@@ -539,7 +476,7 @@ module _ (settings : Settings) (s rows attrs : List ℕ) (n i : ℕ) where
   unfolding enumeration_end enumeration_sized ◌>>=◌
   by_members (gives xs) =
       past-members childless (gives xs) (enumeration_sized s attrs (run_of settings.endian rows i) (length xs))
-      (sized-members xs (word_needed (run_of settings.endian rows i).key (word_of s attrs (run_of settings.endian rows i) attribute.byte_size))
+      (sized-members xs (needed (run_of settings.endian rows i).key (word_of s attrs (run_of settings.endian rows i) attribute.byte_size))
       (name_of s attrs (run_of settings.endian rows i) attribute.name))
   by_members (refuses number place counts) = tt
 
@@ -548,11 +485,12 @@ module _ (settings : Settings) (s rows attrs : List ℕ) (n i : ℕ) where
   unfolding enumeration_at enumeration_end
   members-listed p = subst (Members lists) p (past-members (kind_fault settings rows record'.Enumeration i) lists (by lists) (by_members lists))
 
-  module _ {told : EnumerationWhole} (is : said_enumeration_whole told ≡ enumeration_at settings (lent_rows settings.endian s rows attrs n) i) (values : List ℤ) (names : List ℕ) where
-    module _ {e : Enumeration} (p : told ≡ whole.Is e) where
+  module _ {told : Result Enumeration Refusal} (is : said told ≡ enumeration_at settings (lent_rows settings.endian s rows attrs n) i)
+      (values : List ℤ) (names : List ℕ) where
+    module _ {e : Enumeration} (p : told ≡ Ok e) where
       found : (xs : List Listed) × (row_lists settings (lent_rows settings.endian s rows attrs n) i ≡ gives xs) × (e.members ≡ length xs)
-      unfolding said_enumeration_whole
-      found = members-listed (sym (case-said said_enumeration_whole is p))
+      unfolding said
+      found = members-listed (sym (case-said said is p))
 
       abbrev filled : Bool → List Listed → Outcomes (Said Enumeration) ℤ ℕ
       filled fits xs =
@@ -561,25 +499,25 @@ module _ (settings : Settings) (s rows attrs : List ℕ) (n i : ℕ) where
       -- the room decides
       by-room : {fits : Bool} → leb e.members (length values) && leb e.members (length names / 2) ≡ fits → {z : Said Enumeration} {values' : List ℤ} {names' : List ℕ}
           → BothGiven (filled fits found.0) z values' names' → BothGiven (enumeration_into settings (lent_rows settings.endian s rows attrs n) values names i) z values' names'
-      unfolding enumeration_into said_enumeration_whole in_rooms
+      unfolding enumeration_into said in_rooms
       by-room t {z} {values'} {names'} h =
-          goes-in-both said_enumeration_whole is p values names _
+          goes-in-both said is p values names _
           (subst (λ (l : Said (List Listed)). BothGiven (in_rooms values names l (filled (leb e.members (length values) && leb e.members (length names / 2)))) z values' names')
           (sym found.1) (subst (λ (b : Bool). BothGiven (filled b found.0) z values' names') (sym t) h))
 
       pub given-room : leb e.members (length values) && leb e.members (length names / 2) ≡ false
-          → BothGiven (enumeration_into settings (lent_rows settings.endian s rows attrs n) values names i) (said_enumeration_read (read.Room e.members)) values names
-      unfolding said_enumeration_read fills_rooms
+          → BothGiven (enumeration_into settings (lent_rows settings.endian s rows attrs n) values names i) (said_counted (Err (Room e.members))) values names
+      unfolding said_counted fills_rooms
       given-room t = by-room t (record { answer_is = refl; first_is = refl; second_is = refl })
 
-      pub given-members : leb e.members (length values) && leb e.members (length names / 2) ≡ true → {gcc : Bool} → gcc ≡ is_gcc settings.producer
-          → {r : EnumerationWhole} {values' : List ℤ} {names' : List ℕ}
+      pub given-members : e.members ≤ length values → e.members ≤ length names / 2 → {gcc : Bool} → gcc ≡ is_gcc settings.producer
+          → {r : Result Enumeration Refusal} {values' : List ℤ} {names' : List ℕ}
           → EnumerationStored (enumeration_at settings (lent_rows settings.endian s rows attrs n) i) (row_lists settings (lent_rows settings.endian s rows attrs n) i) (record { reversed = gcc; total = e.members }) r values values' names names'
-          → BothGiven (enumeration_into settings (lent_rows settings.endian s rows attrs n) values names i) (said_enumeration_read (read.Is e)) values' names'
-      unfolding said_enumeration_whole said_enumeration_read fills_rooms
-      given-members t g stored =
-          let here : enumeration_at settings (lent_rows settings.endian s rows attrs n) i ≡ gives e = sym (case-said said_enumeration_whole is p) in
-          by-room t
+          → BothGiven (enumeration_into settings (lent_rows settings.endian s rows attrs n) values names i) (said_counted (Ok e)) values' names'
+      unfolding said said_counted fills_rooms
+      given-members h k g stored =
+          let here : enumeration_at settings (lent_rows settings.endian s rows attrs n) i ≡ gives e = sym (case-said said is p) in
+          by-room (both-fit e.members (length values) (length names / 2) h k)
           (record {
             answer_is = refl;
             first_is = stored.values_are e here found.0 found.1 ∙ values-ordered settings.producer found.0 g found.2 values;
@@ -588,8 +526,8 @@ module _ (settings : Settings) (s rows attrs : List ℕ) (n i : ℕ) where
 
 -- ---- the enumeration of a key
 
-pub tag-asked : (settings : Settings) (vendors sizes s rows attrs : List ℕ) (counts : Counts) (key : ℕ) {told : Keyed}
-    → said_keyed told ≡ row_of (table s settings vendors sizes rows attrs counts) key → {i : ℕ} → told ≡ keyed.Row i → AskedShort s rows counts.rows i
+pub tag-asked : (settings : Settings) (vendors sizes s rows attrs : List ℕ) (counts : Counts) (key : ℕ) {told : Result ℕ Refusal}
+    → said told ≡ row_of (table s settings vendors sizes rows attrs counts) key → {i : ℕ} → told ≡ Ok i → AskedShort s rows counts.rows i
 tag-asked settings vendors sizes s rows attrs counts key is p =
     record {
       asked = keyed-asked settings vendors sizes s rows attrs counts key is p;

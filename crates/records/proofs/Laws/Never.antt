@@ -1,4 +1,5 @@
 -- No record is refused by 14, on any section, table and settings.
+use Rattle.std.specs.Prelude.{Option, Some, None}
 use Prim.Native.Nat.{ℕ, zero, suc, ◌+◌}
 use mathlib.Core.Bool.{Bool, true, false}
 use mathlib.Core.List.{List, [], ◌∷◌}
@@ -21,19 +22,17 @@ use Rattle.blocks.proofs.Laws.Never.{shape-never, type-never}
 use Rattle.tables.specs.Table.{Table, Rows, table_rows}
 use Rattle.tables.specs.Row.{row_at}
 use Rattle.tables.proofs.Laws.Never.{found-never, row-never}
-use Rattle.tables.specs.declared.find.Found.{Found}
-use Rattle.tables.specs.declared.find.Found.TheVariants as found
 use Rattle.links.specs.Walk.{Walk, ends, endless}
 use Rattle.links.specs.Links.{child_walk, non_null}
 use Rattle.records.specs.Taken.{special}
 use Rattle.records.specs.Scan.{attribute_at, is_type, location_of, fault_of, content_fault, attribute_fault, faults_from, fault_at, number_at}
-use Rattle.records.specs.Fields.{attribute_needed, name_needed, word_needed, type_by, type_of, offset_field}
+use Rattle.records.specs.Fields.{needed, type_by, type_of, offset_field}
 use Rattle.records.specs.Front.{kind_fault, childless_fault, head_of, front_of}
 use Rattle.records.specs.Member.{bits_by, member_fields, member_at, process_structure_member_tag}
 use Rattle.records.specs.Unions.{RowMember, ignored, member_then, child_then, members_from, members_by, row_members, union_sized, union_at, union_into, process_union_tag}
 use Rattle.records.specs.Elements.{Listed, element_then, element_at, elements_from, elements_in}
 use Rattle.records.specs.Enumeration.{list_at, lists_from, enumeration_sized, row_lists, enumeration_at, enumeration_into, process_enumeration_tag}
-use Rattle.records.specs.Typedef.{Held, nothing, holds, SoFar, filled_in, overwritten, type_filled, type_needed, nothing_yet, specified_by, specified, typedef_end, attributes_from, typedef_run, typedef_at, process_typedef_tag}
+use Rattle.records.specs.Typedef.{Held, nothing, holds, SoFar, filled_in, overwritten, type_filled, type_needed, nothing_yet, specified_by, specified, typedef_fields, typedef_end, attributes_from, typedef_run, typedef_at, process_typedef_tag}
 use Rattle.records.specs.Variable.{variable_fields, variable_at, process_variable_tag}
 use Rattle.records.specs.Label.{label_fields, label_at, process_subroutine_label_tag}
 use Rattle.records.specs.PtrToMember.{ptr_fields, ptr_at, process_ptr_to_member_tag}
@@ -42,10 +41,6 @@ use Rattle.records.specs.declared.taken.Record.{Record}
 use Rattle.records.specs.declared.taken.Record.TheVariants as record'
 use Rattle.records.specs.declared.scan.Run.{Run}
 use Rattle.records.specs.declared.scan.Attribute.{Attribute}
-use Rattle.records.specs.declared.fields.Name.{Name}
-use Rattle.records.specs.declared.fields.Name.TheVariants as name
-use Rattle.records.specs.declared.fields.Word.{Word}
-use Rattle.records.specs.declared.fields.Word.TheVariants as word
 use Rattle.records.specs.declared.elements.Element.{Element}
 use Rattle.records.specs.declared.elements.Element.TheVariants as element
 use Rattle.records.specs.declared.typedef.Typedef.{Typedef}
@@ -86,32 +81,22 @@ HeldNever (holds d) = Never 14 d
 HeldNever nothing = Unit
 
 module _ (key : ℕ) where
-  attribute-never : (attrs : List ℕ) (f : Found) → Never 14 (attribute_needed attrs key f)
-  unfolding attribute_needed
-  attribute-never attrs (found.At k) = never-gives _
-  attribute-never attrs found.Nothing = never-refuse reason.Missing key
-
-  name-never : (n : Name) → Never 14 (name_needed key n)
-  unfolding name_needed
-  name-never (name.Is text) = never-gives text
-  name-never name.Nothing = never-refuse reason.Missing key
-
-  word-never : (w : Word) → Never 14 (word_needed key w)
-  unfolding word_needed
-  word-never (word.Is x) = never-gives x
-  word-never word.Nothing = never-refuse reason.Missing key
+  needed-never : {A : Type 0} (found : Option A) → Never 14 (needed key found)
+  unfolding needed
+  needed-never (Some x) = never-gives x
+  needed-never None = never-refuse reason.Missing key
 
   held-never : (h : Held) → HeldNever h → Never 14 (type_needed key h)
   unfolding type_needed
   held-never (holds d) h = h
   held-never nothing h = never-refuse reason.Missing key
 
-  bits-never : (size offset : Word) → Never 14 (bits_by key size offset)
+  bits-never : (size offset : Option ℕ) → Never 14 (bits_by key size offset)
   unfolding bits_by
-  bits-never (word.Is size) (word.Is offset) = never-gives _
-  bits-never (word.Is size) word.Nothing = never-refuse reason.Missing key
-  bits-never word.Nothing (word.Is offset) = never-refuse reason.Missing key
-  bits-never word.Nothing word.Nothing = never-gives _
+  bits-never (Some size) (Some offset) = never-gives _
+  bits-never (Some size) None = never-refuse reason.Missing key
+  bits-never None (Some offset) = never-refuse reason.Missing key
+  bits-never None None = never-gives _
 
 module _ (s attrs : List ℕ) (run : Run) where
   said-type-never : (a : Attribute) → Never 14 (placed run.key (process_type run.ends s a.number a.value))
@@ -119,11 +104,11 @@ module _ (s attrs : List ℕ) (run : Run) where
 
   type-of-never : Never 14 (type_of s attrs run)
   unfolding type_of type_by
-  type-of-never = never-then _ _ (attribute-never run.key attrs _) said-type-never
+  type-of-never = never-then _ _ (needed-never run.key _) (λ k. said-type-never (attribute_at attrs k))
 
   offset-never : Never 14 (offset_field s attrs run)
   unfolding offset_field
-  offset-never = never-then _ _ (attribute-never run.key attrs _) (λ a. never_placed run.key _ (shape-never _ run.ends.section _))
+  offset-never = never-then _ _ (needed-never run.key _) (λ a. never_placed run.key _ (shape-never _ run.ends.section _))
 
 -- ---- before the fields
 
@@ -138,11 +123,11 @@ childless-never rows i endless = never-refuse reason.Link _
 
 -- ---- an enumeration's list
 
-element-never : (base : ℕ) (next : ℕ → Said (List Listed)) → ((k : ℕ) → Never 14 (next k)) → (e : Element) → Never 14 (element_then base next e)
+element-never : (base : ℕ) (next : ℕ → Said (List Listed)) → ((k : ℕ) → Never 14 (next k)) → (e : Option Element) → Never 14 (element_then base next e)
 unfolding element_then
-element-never base next h (element.Is value place length next') = never-then _ _ (h next') (λ xs. never-gives _)
-element-never base next h (element.Name next') = h next'
-element-never base next h element.Missing = never-refuse reason.Block 0
+element-never base next h (Some (element.Is value place long next')) = never-then _ _ (h next') (λ xs. never-gives _)
+element-never base next h (Some (element.Name next')) = h next'
+element-never base next h None = never-refuse reason.Block 0
 
 elements-never : (width : ℕ) (e : Endian) (base : ℕ) (block : List ℕ) (turns at : ℕ) → Never 14 (elements_from width e base block turns at)
 unfolding elements_from
@@ -196,21 +181,21 @@ module _ (settings : Settings) where
     unfolding label_at label_fields
     label-at-never i =
         never-past _ _ (front-never record'.Label i)
-        (never-then _ _ (name-never _ _) (λ text. never-then _ _ (word-never _ _) (λ address. never-gives _)))
+        (never-then _ _ (needed-never _ _) (λ text. never-then _ _ (needed-never _ _) (λ address. never-gives _)))
 
     pub ptr-at-never : (i : ℕ) → Never 14 (ptr_at settings t i)
     unfolding ptr_at ptr_fields
     ptr-at-never i =
         never-past _ _ (front-never record'.PtrToMember i)
-        (never-then _ _ (type-of-never t.section t.attrs _) (λ of. never-then _ _ (word-never _ _) (λ containing. never-gives _)))
+        (never-then _ _ (type-of-never t.section t.attrs _) (λ of. never-then _ _ (needed-never _ _) (λ containing. never-gives _)))
 
     overlay-at-never : (i : ℕ) → Never 14 (overlay_at settings t.section t.rows t.attrs i)
     unfolding overlay_at overlay_fields
     overlay-at-never i =
         never-past _ _ (head_never record'.OverlayBranch i)
-        (never-then _ _ (name-never _ _)
-        (λ text. never-then _ _ (word-never _ _)
-        (λ id. never-then _ _ (word-never _ _) (λ start. never-then _ _ (word-never _ _) (λ end. never-gives _)))))
+        (never-then _ _ (needed-never _ _)
+        (λ text. never-then _ _ (needed-never _ _)
+        (λ id. never-then _ _ (needed-never _ _) (λ start. never-then _ _ (needed-never _ _) (λ end. never-gives _)))))
 
     -- ---- unions
 
@@ -238,7 +223,7 @@ module _ (settings : Settings) where
     unfolding union_at union_sized
     union-at-never i =
         never-past _ _ (head_never record'.Union i)
-        (never-then _ _ (row-members-never i) (λ ms. never-then _ _ (word-never _ _) (λ size. never-gives _)))
+        (never-then _ _ (row-members-never i) (λ ms. never-then _ _ (needed-never _ _) (λ size. never-gives _)))
 
     -- ---- enumerations
 
@@ -263,7 +248,7 @@ module _ (settings : Settings) where
     enumeration-at-never i =
         never-past _ _ (kind-never settings t.rows record'.Enumeration i)
         (never-then _ _ (row-lists-never i)
-        (λ xs. never-past _ _ (childless-never t.rows i (child_walk t i)) (never-then _ _ (word-never _ _) (λ size. never-gives _))))
+        (λ xs. never-past _ _ (childless-never t.rows i (child_walk t i)) (never-then _ _ (needed-never _ _) (λ size. never-gives _))))
 
     -- ---- typedefs
 
@@ -279,10 +264,10 @@ module _ (settings : Settings) where
         (λ q. never-refuse reason.Block run.key))
 
     typedef-end-never : (i : ℕ) (known : SoFar) → HeldNever known.of → Never 14 (typedef_end settings t i known)
-    unfolding typedef_end
+    unfolding typedef_end typedef_fields
     typedef-end-never i known h =
         never-past _ _ (childless-never t.rows i (child_walk t i))
-        (never-then _ _ (name-never _ known.name) (λ text. never-then _ _ (held-never _ known.of h) (λ of. never-gives _)))
+        (never-then _ _ (needed-never _ known.name) (λ text. never-then _ _ (held-never _ known.of h) (λ of. never-gives _)))
 
     filled-never : (known : SoFar) (typedef : Typedef) → HeldNever known.of → HeldNever (filled_in known typedef).of
     unfolding filled_in type_filled

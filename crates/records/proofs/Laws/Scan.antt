@@ -1,5 +1,7 @@
 -- What follows from `Scan`, for each way that the code comes to an answer; and what a scan that stopped says about the attributes before.
-use Prim.Native.Nat.{ℕ, zero, suc, ◌+◌, ◌-◌, ◌%◌, ◌≤◌, ◌<◌}
+use Rattle.std.specs.Prelude.{Result, Ok, Err}
+use Rattle.format.specs.Said.{said}
+use Prim.Native.Nat.{ℕ, zero, suc, ◌+◌, ◌-◌, ◌≤◌, ◌<◌}
 use native.Mathlib.Nat.{sub-zero, lt_of_not-le}
 use native.Mathlib.Decide.{dec_le}
 use native.Mathlib.Omega.{arith}
@@ -7,62 +9,27 @@ use mathlib.Core.Path.{◌≡◌, refl, sym, ap, ◌∙◌, subst}
 use mathlib.Core.Bool.{Bool, true, false, cond, true≢false}
 use mathlib.Core.List.{List}
 use Rattle.numbers.proofs.Laws.Tests.{cond-all}
-use Rattle.numbers.specs.declared.Endian.{Endian}
 use Rattle.format.specs.declared.settings.Roles.{Roles}
 use Rattle.format.specs.declared.refusal.Refusal.{Refusal}
 use Rattle.attributes.specs.declared.decode.Endians.{Endians}
-use Rattle.tables.specs.Row.{row_at, attr_at}
 use Rattle.tables.specs.declared.row.Row.{Row}
-use Rattle.tables.specs.declared.row.Attr.{Attr}
-use Rattle.tables.specs.Row.{ends_of}
 use Rattle.records.specs.Taken.{special}
-use Rattle.records.proofs.Laws.Taken.{by-case}
-use Rattle.format.specs.Said.{Said, gives, refuses, refusal, ◌>>◌, placed}
+use Rattle.format.specs.Said.{Said, gives, refuses, refusal, ◌>>◌}
 use Rattle.format.proofs.Laws.Said.{case-said}
-use Rattle.records.specs.Scan.{run_of, attribute_at, location_of, fault_of, attribute_fault, faults_from, fault_at, number_at}
-use Rattle.records.specs.Inside.Scan.{said_fault, said_scan, scan_from, Plain}
+use Rattle.records.specs.Scan.{attribute_at, attribute_fault, faults_from, fault_at, number_at}
+use Rattle.records.specs.Inside.Scan.{scan_from, Plain}
 use Rattle.records.specs.declared.taken.Record.{Record}
 use Rattle.records.specs.declared.taken.Record.TheVariants as record'
 use Rattle.records.specs.declared.scan.Run.{Run}
-use Rattle.records.specs.declared.scan.Attribute.{Attribute}
-use Rattle.records.specs.declared.scan.Fault.{Fault}
-use Rattle.records.specs.declared.scan.Fault.TheVariants.{Clear, Refused}
-use Rattle.records.specs.declared.scan.Scan.{Scan}
-use Rattle.records.specs.declared.scan.Scan.TheVariants as scan
 
 -- ---- a row's attributes, and one of them
 
 abbrev run : Row → Endians → Run
 run row ends = record { first = row.first; count = row.count; key = row.key; ends = ends }
 
-pub run-read : (e : Endian) (rows : List ℕ) (i : ℕ) {row : Row} {ends : Endians} → row ≡ row_at rows i → ends ≡ ends_of e rows i
-    → record { first = row.first; count = row.count; key = row.key; ends = ends } ≡ run_of e rows i
-unfolding run_of
-run-read e rows i {ends = ends} p q = ap (λ (x : Row). run x ends) p ∙ ap (run (row_at rows i)) q
-
-pub attribute-read : (attrs : List ℕ) (k : ℕ) {attr : Attr} → attr ≡ attr_at attrs k
-    → record { number = attr.number % 65536; value = attr.value } ≡ attribute_at attrs k
-unfolding attribute_at
-attribute-read attrs k p = ap (λ (x : Attr). record { number = x.number % 65536; value = x.value }) p
-
 -- ---- a location, by record
 
-pub location-as : {which r : Record} → which ≡ r → (key : ℕ) (e : Endian) (block : List ℕ) {z : Said Unit} → z ≡ fault_of key (location_of r e block)
-    → z ≡ fault_of key (location_of which e block)
-location-as is key e block h = by-case (λ (x : Record). fault_of key (location_of x e block)) is h
-
-pub location-in : (which : Record) (key : ℕ) (e : Endian) {block other : List ℕ} → block ≡ other → {z : Said Unit} → z ≡ fault_of key (location_of which e block)
-    → z ≡ fault_of key (location_of which e other)
-location-in which key e p h = h ∙ ap (λ (x : List ℕ). fault_of key (location_of which e x)) p
-
 -- what a type or a location says that the code has read, placed at the row; and what is wrong with it
-
-module _ {E A : Type 0} (said : E → Said A) (key : ℕ) {told x : E} (p : told ≡ x) where
-  pub placed-told : {z : Said A} → z ≡ placed key (said x) → z ≡ placed key (said told)
-  placed-told h = by-case (λ (y : E). placed key (said y)) p h
-
-  pub fault-told : {z : Said Unit} → z ≡ fault_of key (said x) → z ≡ fault_of key (said told)
-  fault-told h = by-case (λ (y : E). fault_of key (said y)) p h
 
 -- ---- records that read no attribute themselves
 
@@ -215,50 +182,30 @@ module _ (roles : Roles) (r : Record) (run : Run) (s attrs : List ℕ) where
         faults-past f j n k w.from (omega arith) (λ m a b. same m (w.before.plain m a b) ∙ w.before.clear m a b)
         ∙ faults-here f k (j + n - k) (same k w.plain ∙ w.fault) (omega arith)
 
-  -- ---- the loop: what is left of the scan comes to the whole
+  -- ---- the loop: an attribute decides, or those behind it do
 
-  module _ (j : ℕ) (h : j < run.count) {a : Attribute} {b : Bool} (at : a ≡ attribute_at attrs (run.first + j)) (is : b ≡ special r a.number) where
-    abbrev rest : Said ℕ
-    rest = scanned (j + 1) (run.count - (j + 1))
+  pub scan-step : (j : ℕ) → j < run.count
+      → scan_from roles r run s attrs j (run.count - j)
+      ≡ cond (special r (attribute_at attrs (run.first + j)).number) (gives j)
+      (attribute_fault roles r run s (attribute_at attrs (run.first + j)) >> scan_from roles r run s attrs (j + 1) (run.count - (j + 1)))
+  unfolding scan_from fault_at number_at
+  scan-step j h =
+      let one : run.count - j ≡ suc (run.count - (j + 1)) = omega arith in
+      let place : suc j ≡ j + 1 = omega arith in
+      rw (one, scan_from, place)
 
-    turn : cond b (gives j) (attribute_fault roles r run s a >> rest) ≡ scanned j (run.count - j)
-    unfolding scan_from fault_at number_at
-    turn =
-        let one : suc (run.count - (j + 1)) ≡ run.count - j = omega arith in
-        let place : j + 1 ≡ suc j = omega arith in
-        ap (λ (c : Bool). cond c (gives j) (attribute_fault roles r run s a >> rest)) is
-        ∙ ap (λ (x : Attribute). cond (special r x.number) (gives j) (attribute_fault roles r run s x >> rest)) at
-        ∙ ap (λ (x : ℕ). cond (is_own j) (gives j) (judged j >> scanned x (run.count - (j + 1)))) place
-        ∙ ap (scanned j) one
-
-    pub scan-own : b ≡ true → gives j ≡ scan_from roles r run s attrs j (run.count - j)
-    scan-own t = ap (λ (c : Bool). cond c (gives j) (attribute_fault roles r run s a >> rest)) (sym t) ∙ turn
-
-    judged-turn : {f : Said Unit} → f ≡ attribute_fault roles r run s a → b ≡ false → (f >> rest) ≡ scanned j (run.count - j)
-    judged-turn judges t =
-        ap (λ (x : Said Unit). x >> rest) judges ∙ ap (λ (c : Bool). cond c (gives j) (attribute_fault roles r run s a >> rest)) (sym t) ∙ turn
-
-    module _ {fault : Fault} (judges : said_fault fault ≡ attribute_fault roles r run s a) (t : b ≡ false) where
-      pub scan-clear : fault ≡ Clear → scan_from roles r run s attrs (j + 1) (run.count - (j + 1)) ≡ scan_from roles r run s attrs j (run.count - j)
-      unfolding said_fault ◌>>◌
-      scan-clear p = ap (λ (x : Fault). said_fault x >> rest) (sym p) ∙ judged-turn judges t
-
-      pub scan-fault : {why : Refusal} → fault ≡ Refused why → refusal why ≡ scan_from roles r run s attrs j (run.count - j)
-      unfolding said_fault ◌>>◌
-      scan-fault p = ap (λ (x : Fault). said_fault x >> rest) (sym p) ∙ judged-turn judges t
-
-  pub scan-end : (j : ℕ) → run.count ≤ j → gives j ≡ scan_from roles r run s attrs j (run.count - j)
+  pub scan-end : (j : ℕ) → run.count ≤ j → scan_from roles r run s attrs j (run.count - j) ≡ gives j
   unfolding scan_from
-  scan-end j h = let none : zero ≡ run.count - j = omega arith in ap (scanned j) none
+  scan-end j h = let none : run.count - j ≡ zero = omega arith in rw none
 
   -- ---- all attributes of a record that reads none itself
 
-  module _ (w : Plain r) {told : Scan} (is : said_scan told ≡ scan_from roles r run s attrs 0 (run.count - 0)) where
-    all : {x : Scan} → told ≡ x → scan_from roles r run s attrs 0 run.count ≡ said_scan x
-    all p = ap (scanned 0) (sym (sub-zero run.count)) ∙ sym (case-said said_scan is p)
+  module _ (w : Plain r) {told : Result ℕ Refusal} (is : said told ≡ scan_from roles r run s attrs 0 (run.count - 0)) where
+    all : {x : Result ℕ Refusal} → told ≡ x → scan_from roles r run s attrs 0 run.count ≡ said x
+    all p = ap (scanned 0) (sym (sub-zero run.count)) ∙ sym (case-said said is p)
 
-    pub all-clear : {k : ℕ} → told ≡ scan.Stop k → gives tt ≡ faults_from (fault_at roles r run s attrs) 0 run.count
-    unfolding faults_from said_scan
+    pub all-clear : {k : ℕ} → told ≡ Ok k → gives tt ≡ faults_from (fault_at roles r run s attrs) 0 run.count
+    unfolding faults_from said
     all-clear {k} p =
         let stop : Stopped 0 run.count k = scan-stop (all p) in
         elim (dec_le (0 + run.count) k) [
@@ -266,6 +213,8 @@ module _ (roles : Roles) (r : Record) (run : Run) (s attrs : List ℕ) where
           | no l ↦ absurd (true≢false (sym (stop.own (lt_of_not-le l)) ∙ w.plain (number_at roles r run s attrs k)))
         ]
 
-    pub all-refused : {why : Refusal} → told ≡ scan.Refused why → refusal why ≡ faults_from (fault_at roles r run s attrs) 0 run.count
-    unfolding said_scan
+    pub all-refused : {why : Refusal} → told ≡ Err why → refusal why ≡ faults_from (fault_at roles r run s attrs) 0 run.count
+    unfolding said
     all-refused p = sym (faults-met judged (λ j q. refl) (scan-refused (all p)).1)
+
+pub ruleset scans = (scan-step, scan-end)

@@ -1,4 +1,5 @@
 -- The list of an enumeration as the standard writes it is read back, and nothing else is read.
+use Rattle.std.specs.Prelude.{Option, Some, None}
 use Prim.Native.Nat.{ℕ, zero, suc, ◌+◌, ◌-◌, ◌≤◌, ◌<◌}
 use native.Mathlib.Nat.{add-zero, add-sub_cancel_left, lt_of_not-le}
 use native.Mathlib.Decide.{dec_le}
@@ -16,8 +17,6 @@ use Rattle.numbers.specs.Written.{bytes_of, Bytes}
 use Rattle.numbers.proofs.Laws.Written.{bytes-length, number-answers, number_small, number-written}
 use Rattle.numbers.proofs.Laws.Stands.{Stands, all-stands, stands-all, none-stands, front-stands, back-stands, both-stand, byte-stands, stands-byte, part_length, part-stands}
 use Rattle.numbers.specs.declared.Endian.{Endian}
-use Rattle.numbers.specs.declared.signed.ReadSigned.{ReadSigned}
-use Rattle.numbers.specs.declared.signed.ReadSigned.TheVariants as signed
 use Rattle.standard.specs.Entries.{Text, text, block}
 use Rattle.standard.specs.Elements.{Element, written_elements}
 use Rattle.format.specs.Said.{Said, gives, ◌>>=◌, placed}
@@ -31,8 +30,6 @@ use Rattle.blocks.proofs.Laws.StandardTypes.{block-stands, block-there}
 use Rattle.records.specs.Scan.{attribute_at}
 use Rattle.records.specs.Enumeration.{size_before, list_at}
 use Rattle.records.specs.declared.scan.Run.{Run}
-use Rattle.records.specs.declared.fields.Word.{Word}
-use Rattle.records.specs.declared.fields.Word.TheVariants as word
 use Rattle.records.specs.Elements.{list_width, value_at, named_from, valued, element_at, Listed, element_then, elements_from, elements_in}
 use Rattle.records.specs.Standard.{Width, one, two, four, listed_from, names_written, names_in, WrittenList, list_base, ListWritten}
 use Rattle.records.specs.declared.elements.Element as reader
@@ -99,8 +96,8 @@ module _ {w : ℕ} (e : Endian) (x : Element w) (xs : List (Element w)) where
 
 -- ---- one element
 
-abbrev signed_at : Endian → ℕ → List ℕ → ℕ → ReadSigned
-signed_at e w block at = read_at (λ n. signed.Value (signed_of w n)) signed.Short e w block at
+abbrev signed_at : Endian → ℕ → List ℕ → ℕ → Option ℤ
+signed_at e w block at = read_at (λ n. Some (signed_of w n)) None e w block at
 
 element-is : {w : ℕ} → Width w → (e : Endian) (block : List ℕ) (at : ℕ) → element_at w e block at ≡ valued w block at (signed_at e w block at)
 unfolding element_at value_at
@@ -109,7 +106,7 @@ element-is two e block at = refl
 element-is four e block at = refl
 
 named-is : (block : List ℕ) (at n : ℕ) (value : ℤ) → zero_from block at ≡ at + n → at + n < length block
-    → named_from block at value ≡ element.Is value at n (at + n + 1)
+    → named_from block at value ≡ Some (element.Is value at n (at + n + 1))
 unfolding named_from
 named-is block at n value p h = rw (p, lt-ltb (at + n) (length block) h, add-sub_cancel_left at n)
 
@@ -120,14 +117,14 @@ module _ {w : ℕ} (width : Width w) (e : Endian) (base : ℕ) (block : List ℕ
   -- ---- what is written is read
 
   module _ (x : Element w) (xs : List (Element w)) {at : ℕ} (q : Stands block at (written_elements w e (x ∷ xs))) where
-    element-read : element_at w e block at ≡ element.Is (signed_of w x.constant) (at + w) (length x.name) (at + w + length x.name + 1)
+    element-read : element_at w e block at ≡ Some (element.Is (signed_of w x.constant) (at + w) (length x.name) (at + w + length x.name + 1))
     unfolding valued
     element-read =
         let long : length (text x.name) ≡ length x.name + 1 = text-length e x xs in
         let inside : at + w + length (text x.name) ≤ length block = (text-stands e x xs q).fits in
         element-is width e block at
         ∙ ap (valued w block at)
-        (number-answers (λ n. signed.Value (signed_of w n)) signed.Short e w block at x.constant x.small (constant-stands e x xs q))
+        (number-answers (λ n. Some (signed_of w n)) None e w block at x.constant x.small (constant-stands e x xs q))
         ∙ named-is block (at + w) (length x.name) (signed_of w x.constant) (name-ends e x xs q) (omega arith)
 
   read-from : (xs : List (Element w)) (turns at : ℕ) → Stands block at (written_elements w e xs) → at + length (written_elements w e xs) ≡ length block
@@ -165,9 +162,9 @@ module _ {w : ℕ} (width : Width w) (e : Endian) (base : ℕ) (block : List ℕ
   unfolding valued named_from element_then
   got next at {listed} p =
       let z : ℕ = zero_from block (at + w) in
-      read_all (λ n. signed.Value (signed_of w n)) signed.Short e w block at
-      (λ (r : ReadSigned). element_then base next (valued w block at r) ≡ gives listed → Got next at listed)
-      (λ t. cond-all (λ (x : reader.Element). element_then base next x ≡ gives listed → Got next at listed) (ltb z (length block))
+      read_all (λ n. Some (signed_of w n)) None e w block at
+      (λ (r : Option ℤ). element_then base next (valued w block at r) ≡ gives listed → Got next at listed)
+      (λ t. cond-all (λ (x : Option reader.Element). element_then base next x ≡ gives listed → Got next at listed) (ltb z (length block))
       (λ u q.
       let step = step-gave (next (z + 1)) _ q in
       record {
@@ -310,7 +307,7 @@ elements-only {w} width e base {block} small {xs} p =
 
 -- ---- in a row
 
-width_of : {w : ℕ} → Width w → list_width (word.Is w) ≡ w
+width_of : {w : ℕ} → Width w → list_width (Some w) ≡ w
 unfolding list_width
 width_of one = refl
 width_of two = refl
@@ -331,7 +328,7 @@ module _ {w : ℕ} (width : Width w) (e : Endian) {s attrs : List ℕ} {run : Ru
   unfolding list_at placed
   list_read =
       ap (λ (ends : Endians). placed run.key (elements_in (list_width (size_before s attrs run j)) ends.section (at + 4) (block_at ends.«data» 4 s at))) l.one_endian
-      ∙ ap (λ (size : Word). placed run.key (elements_in (list_width size) e (at + 4) (block_at e 4 s at))) l.sized
+      ∙ ap (λ (size : Option ℕ). placed run.key (elements_in (list_width size) e (at + 4) (block_at e 4 s at))) l.sized
       ∙ ap (λ (n : ℕ). placed run.key (elements_in n e (at + 4) (block_at e 4 s at))) (width_of width)
       ∙ ap (λ (u : List ℕ). placed run.key (elements_in w e (at + 4) u)) list-there
       ∙ ap (placed run.key) (elements-read width e (at + 4) xs)

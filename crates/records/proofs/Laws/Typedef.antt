@@ -1,5 +1,7 @@
 -- What follows from `Typedef`, for each way that the code comes to an answer. What is known after some attributes is what the code looks up among them, or
 -- what the first specification has filled; so the loop goes from specification to specification.
+use Rattle.std.specs.Prelude.{Option, Some, None, Result, Ok, Err}
+use Rattle.format.specs.Said.{said}
 use Prim.Native.Nat.{ℕ, zero, suc, ◌+◌, ◌-◌, ◌≤◌, ◌<◌}
 use native.Mathlib.Nat.{sub-zero}
 use native.Mathlib.Omega.{arith}
@@ -7,245 +9,126 @@ use mathlib.Core.Path.{◌≡◌, refl, sym, ap, ap₂, ◌∙◌, subst}
 use mathlib.Core.Bool.{Bool, true, false, not, cond}
 use mathlib.Core.List.{List}
 use lib.Dec.{eqb, leb}
-use borrow.Author.Tests.{eq-eqb, ne_eqb, eqb-true, eqb-false, le-leb, lt-leb, leb-true, leb-false}
-use Rattle.numbers.proofs.Laws.Value.{read_all, read-map}
+use borrow.Author.Tests.{eqb-true, eqb-false, leb-true, leb-false}
+use Rattle.numbers.specs.Value.{value_of, there, read_at}
+use Rattle.numbers.specs.declared.Endian.{Endian}
+use Rattle.numbers.proofs.Laws.Value.{read_all}
 use Rattle.numbers.proofs.Laws.Tests.{cond-all, cond_map}
-use Rattle.numbers.specs.declared.unsigned.Read32.{Read32}
-use Rattle.numbers.specs.declared.unsigned.Read32.TheVariants as read32
 use Rattle.format.specs.AttributeKind as attribute
 use Rattle.format.specs.Said.{Said, gives, refuses, refuse, refusal, must, ◌>>=◌, ◌>>◌, placed}
-use Rattle.format.proofs.Laws.Said.{case-said, goes_on, goes-past, then_same, must-passed, must-failed}
+use Rattle.format.proofs.Laws.Said.{case-said, goes_on, then_same}
 use Rattle.format.specs.declared.settings.Settings.{Settings}
 use Rattle.format.specs.declared.refusal.Refusal.{Refusal}
 use Rattle.format.specs.declared.refusal.Reason.{Reason}
 use Rattle.format.specs.declared.refusal.Reason.TheVariants as reason
-use Rattle.attributes.specs.Decode.{reference_at}
 use Rattle.blocks.specs.Types.{process_type}
-use Rattle.blocks.specs.declared.types.Type.{«Type»}
 use Rattle.tables.specs.Table.{lent_rows}
 use Rattle.tables.specs.Row.{row_at}
 use Rattle.tables.specs.Find.{row_of_key}
 use Rattle.tables.specs.Keyed.{found_row}
 use Rattle.tables.proofs.Laws.Find.{row-found}
-use Rattle.tables.specs.Inside.Keyed.{refused_at}
-use Rattle.tables.specs.declared.find.Found.{Found}
-use Rattle.tables.specs.declared.find.Found.TheVariants as found
-use Rattle.links.specs.Links.{child_walk}
 use Rattle.links.specs.Inside.Links.{RowsHold}
 use Rattle.links.specs.Inside.Children.{Asked}
 use Rattle.records.specs.Taken.{special}
-use Rattle.records.proofs.Laws.Taken.{by-case, test-passed, test-failed}
-use Rattle.records.specs.Scan.{run_of, attribute_at, number_at, attribute_fault, fault_at, is_type}
-use Rattle.records.specs.Inside.Scan.{said_fault, said_scan, scan_from}
+use Rattle.records.specs.Scan.{run_of, attribute_at, number_at, fault_at, is_type}
+use Rattle.records.specs.Inside.Scan.{scan_from}
 use Rattle.records.proofs.Laws.Scan.{Before, Stopped, scan-stop, scan-refused}
-use Rattle.records.specs.Fields.{is_sought, last_of, last_from, text_of, name_by, name_of, attribute_needed, type_by}
-use Rattle.records.proofs.Laws.Fields.{by-told}
-use Rattle.records.specs.Front.{kind_fault, childless_fault}
-use Rattle.records.proofs.Laws.Record.{fields-said}
-use Rattle.records.specs.Typedef.{Held, holds, SoFar, nothing_yet, name_filled, type_filled, filled_in, overwritten, type_needed, specified_by, specified, typedef_end, attributes_from, typedef_run, said_typedef_read}
-use Rattle.records.specs.Inside.Typedef.{said_specified, Reached, meets, over, said_pause, first_filling, typedef_name, typedef_type, known_at, known_of, typedef_with, typedef_fields, pause_at, pause_from}
+use Rattle.records.specs.Fields.{is_sought, last_from, last_of, text_of, name_by, name_of, needed, type_by}
+use Rattle.records.specs.Front.{kind_fault}
+use Rattle.records.specs.Typedef.{Held, holds, SoFar, nothing_yet, name_filled, type_filled, filled_in, overwritten, specified_by, specified, typedef_end, attributes_from, typedef_run}
+use Rattle.records.specs.Inside.Typedef.{Reached, meets, over, said_pause, first_filling, typedef_name, typedef_type, known_at, known_of, pause_at, pause_from}
 use Rattle.records.specs.declared.taken.Record.TheVariants as record'
 use Rattle.records.specs.declared.scan.Run.{Run}
 use Rattle.records.specs.declared.scan.Attribute.{Attribute}
-use Rattle.records.specs.declared.scan.Fault.{Fault}
-use Rattle.records.specs.declared.scan.Fault.TheVariants as fault
-use Rattle.records.specs.declared.scan.Scan.{Scan}
-use Rattle.records.specs.declared.scan.Scan.TheVariants as scan
 use Rattle.records.specs.declared.fields.Sought.TheVariants as sought
 use Rattle.records.specs.declared.fields.Text.{Text}
-use Rattle.records.specs.declared.fields.Name.{Name}
-use Rattle.records.specs.declared.fields.Name.TheVariants as name
 use Rattle.records.specs.declared.typedef.Typedef.{Typedef}
-use Rattle.records.specs.declared.typedef.TypedefRead.{TypedefRead}
-use Rattle.records.specs.declared.typedef.TypedefRead.TheVariants.{Is, Refused}
-use Rattle.records.specs.declared.typedef.Filling.{Filling}
-use Rattle.records.specs.declared.typedef.Filling.TheVariants as filling
-use Rattle.records.specs.declared.typedef.Specified.{Specified}
 use Rattle.records.specs.declared.typedef.Pause.{Pause}
-use Rattle.records.specs.declared.typedef.Pause.TheVariants as pause
 
--- ---- name and type
+-- ---- what the code's steps come to
 
-module _ {f : Filling} (next : Typedef) where
-  pub filled-before : {first : Typedef} → f ≡ filling.Is first → filling.Is first ≡ first_filling f next
-  unfolding first_filling
-  filled-before p = by-case (λ (x : Filling). first_filling x next) p refl
+module _ (s attrs : List ℕ) (run : Run) (f : Option Typedef) where
+  pub known-name : (known_at s attrs run run.count f).name ≡ typedef_name (name_of s attrs run attribute.name) f
+  unfolding known_at name_of last_of
+  known-name = refl
 
-  pub filled-now : f ≡ filling.Nothing → filling.Is next ≡ first_filling f next
-  unfolding first_filling
-  filled-now p = by-case (λ (x : Filling). first_filling x next) p refl
+  pub known-type : (known_at s attrs run run.count f).of ≡ typedef_type s attrs run (last_from sought.Type attrs run.first run.count) f
+  unfolding known_at
+  known-type = refl
 
-module _ {own : Name} where
-  pub name-own : (f : Filling) {text : Text} → own ≡ name.Is text → name.Is text ≡ typedef_name own f
-  unfolding typedef_name
-  name-own f p = by-case (λ (x : Name). typedef_name x f) p refl
+pub ruleset known = (known-name, known-type)
 
-  module _ {f : Filling} (p : own ≡ name.Nothing) where
-    pub name-filled : {first : Typedef} → f ≡ filling.Is first → name.Is first.name ≡ typedef_name own f
-    unfolding typedef_name
-    name-filled q = by-case (λ (x : Name). typedef_name x f) p (by-case (typedef_name name.Nothing) q refl)
+pub read-is : {A : Type 0} (f : ℕ → A) (none : A) (e : Endian) (w : ℕ) (s : List ℕ) (at : ℕ)
+    → read_at f none e w s at ≡ cond (there s at w) (f (value_of e w s at)) none
+unfolding read_at
+read-is f none e w s at = refl
 
-    pub name-missing : f ≡ filling.Nothing → name.Nothing ≡ typedef_name own f
-    unfolding typedef_name
-    name-missing q = by-case (λ (x : Name). typedef_name x f) p (by-case (typedef_name name.Nothing) q refl)
+pub ruleset references = (read-is)
 
-module _ (s attrs : List ℕ) (run : Run) where
-  -- a type that is needed
-  abbrev needed : Found → Filling → Said «Type»
-  needed own f = type_needed run.key (typedef_type s attrs run own f)
+pub pause-said : (pause : Pause) → said_pause (Ok (Some pause)) ≡ gives (meets pause.at pause.row)
+unfolding said_pause
+pause-said pause = refl
 
-  module _ {own : Found} where
-    pub type-own : (f : Filling) {k : ℕ} {z : Said «Type»} → own ≡ found.At k → z ≡ type_by s attrs run (found.At k)
-        → z ≡ type_needed run.key (typedef_type s attrs run own f)
-    unfolding type_needed typedef_type
-    type-own f p h = by-case (λ (x : Found). needed x f) p h
+pub pause-over : said_pause (Ok None) ≡ gives over
+unfolding said_pause
+pause-over = refl
 
-    module _ {f : Filling} (p : own ≡ found.Nothing) where
-      pub type-filled : {first : Typedef} → f ≡ filling.Is first → gives first.of ≡ type_needed run.key (typedef_type s attrs run own f)
-      unfolding type_needed typedef_type
-      type-filled q = by-case (λ (x : Found). needed x f) p (by-case (needed found.Nothing) q refl)
+pub pause-refused : (why : Refusal) → said_pause (Err why) ≡ refusal why
+unfolding said_pause
+pause-refused why = refl
 
-      pub type-missing : {why : Refusal} → f ≡ filling.Nothing → why ≡ refused_at run.key reason.Missing
-          → refusal why ≡ type_needed run.key (typedef_type s attrs run own f)
-      unfolding type_needed typedef_type
-      type-missing q h = by-case (λ (x : Found). needed x f) p (by-case (needed found.Nothing) q (ap refusal h))
+pub pause-is : (settings : Settings) (s rows attrs : List ℕ) (n : ℕ) (run : Run) (levels j : ℕ)
+    → pause_at settings s rows attrs n run levels j
+    ≡ cond (leb run.count j) (gives over) (specified settings (lent_rows settings.endian s rows attrs n) run levels j >>= λ r. gives (meets j r))
+unfolding pause_at
+pause-is settings s rows attrs n run levels j = refl
 
-  module _ (f : Filling) where
-    -- the row's last type and its last name are what is known after all attributes
-    pub type-known : {own : Found} {z : Said «Type»} → own ≡ last_from sought.Type attrs run.first run.count
-        → z ≡ type_needed run.key (typedef_type s attrs run own f) → z ≡ type_needed run.key (known_of s attrs run f).of
-    unfolding known_at
-    type-known last is = is ∙ ap (λ (x : Found). needed x f) last
-
-    pub name-known : {own told : Name} → own ≡ name_of s attrs run attribute.name → told ≡ typedef_name own f → told ≡ (known_of s attrs run f).name
-    unfolding known_at name_of last_of
-    name-known last is = is ∙ ap (λ (x : Name). typedef_name x f) last
-
-pub end-clear : (settings : Settings) (s rows attrs : List ℕ) (n i : ℕ) (f : Filling) {told : Fault} {run : Run} {z : Said Typedef}
-    → said_fault told ≡ childless_fault rows i (child_walk (lent_rows settings.endian s rows attrs n) i) → told ≡ fault.Clear → run ≡ run_of settings.endian rows i
-    → z ≡ typedef_fields run.key (known_of s attrs run f)
-    → z ≡ typedef_end settings (lent_rows settings.endian s rows attrs n) i (known_of s attrs (run_of settings.endian rows i) f)
-unfolding typedef_end typedef_fields typedef_with run_of
-end-clear settings s rows attrs n i f is p q h = fields-said (λ (x : Run). typedef_fields x.key (known_of s attrs x f)) is p q h
-
--- ---- specifications
-
-module _ (settings : Settings) (rows : List ℕ) (n levels key : ℕ) {told : Found} (is : told ≡ row_of_key rows n key) where
-  row_goes : {x : Found} {z : Said ℕ} → told ≡ x
-      → z ≡ (found_row key x >>= λ r. must (not (eqb levels 0)) reason.Depth key >> (kind_fault settings rows record'.Typedef r >> gives r))
-      → z ≡ specified_by settings rows n levels key
-  unfolding specified_by
-  row_goes p h = goes_on (found_row key) (ap (found_row key) is) p _ h
-
-  module _ {r : ℕ} (p : told ≡ found.At r) where
-    pub limit-met : {why : Refusal} → levels ≡ 0 → why ≡ refused_at key reason.Depth → refusal why ≡ specified_by settings rows n levels key
-    unfolding found_row ◌>>=◌
-    limit-met z h = row_goes p (must-failed refl reason.Depth key _ (ap not (eq-eqb levels 0 z)) (ap refusal h))
-
-    pub row-kind : (levels ≡ 0 → ⊥) → {kind x : Fault} {z : Said ℕ} → said_fault kind ≡ kind_fault settings rows record'.Typedef r → kind ≡ x
-        → z ≡ (said_fault x >> gives r) → z ≡ specified_by settings rows n levels key
-    unfolding found_row ◌>>=◌
-    row-kind more kind_is q h = row_goes p (must-passed refl reason.Depth key _ (ap not (ne_eqb levels 0 more)) (goes-past said_fault kind_is q _ h))
-
-  pub row-missed : {why : Refusal} → told ≡ found.Nothing → why ≡ refused_at key reason.Entry → refusal why ≡ specified_by settings rows n levels key
-  unfolding found_row ◌>>=◌
-  row-missed p h = row_goes p (ap refusal h)
-
-module _ (settings : Settings) (s rows attrs : List ℕ) (n : ℕ) (run : Run) (levels j : ℕ) where
-  -- by what the reference reads
-  abbrev by_read : Read32 → Said ℕ
-  by_read (read32.Value key) = specified_by settings rows n levels key
-  by_read read32.Short = refuse reason.Block run.key
-
-  fault-here : {a : Attribute} → a ≡ attribute_at attrs (run.first + j)
-      → attribute_fault settings.roles record'.Typedef run s a ≡ fault_at settings.roles record'.Typedef run s attrs j
-  unfolding fault_at
-  fault-here at = ap (attribute_fault settings.roles record'.Typedef run s) at
-
-  module _ {a : Attribute} {told : Fault} (at : a ≡ attribute_at attrs (run.first + j))
-      (is : said_fault told ≡ attribute_fault settings.roles record'.Typedef run s a) where
-    module _ (p : told ≡ fault.Clear) {word : Read32} (reads : word ≡ reference_at run.ends s a.value) where
-      by_read_lem : {w : Read32} {z : Said ℕ} → word ≡ w → z ≡ by_read w → z ≡ specified settings (lent_rows settings.endian s rows attrs n) run levels j
-      unfolding specified said_fault ◌>>◌
-      by_read_lem q h =
-          goes-past said_fault (is ∙ fault-here at) p _
-          (by-told by_read (reads ∙ ap (λ (x : Attribute). reference_at run.ends s x.value) at) q h
-          ∙ read-map read32.Value read32.Short run.ends.section 4 s (attribute_at attrs (run.first + j)).value by_read)
-
-      pub reference-read : {key : ℕ} {z : Said ℕ} → word ≡ read32.Value key → z ≡ specified_by settings rows n levels key
-          → z ≡ specified settings (lent_rows settings.endian s rows attrs n) run levels j
-      reference-read q h = by_read_lem q h
-
-      pub reference-short : {why : Refusal} → word ≡ read32.Short → why ≡ refused_at run.key reason.Block
-          → refusal why ≡ specified settings (lent_rows settings.endian s rows attrs n) run levels j
-      reference-short q h = by_read_lem q (ap refusal h)
-
-    pub specification-refused : {why : Refusal} → told ≡ fault.Refused why → refusal why ≡ specified settings (lent_rows settings.endian s rows attrs n) run levels j
-    unfolding specified said_fault ◌>>◌
-    specification-refused p = goes-past said_fault (is ∙ fault-here at) p _ refl
-
--- ---- up to the next specification
-
-module _ (settings : Settings) (s rows attrs : List ℕ) (n : ℕ) (run : Run) (levels j : ℕ) {told : Scan}
-    (is : said_scan told ≡ scan_from settings.roles record'.Typedef run s attrs j (run.count - j)) where
-  module _ {k : ℕ} (p : told ≡ scan.Stop k) where
-    pub pause-end : run.count ≤ k → gives over ≡ pause_from settings s rows attrs n run levels j
-    unfolding pause_from pause_at said_scan ◌>>=◌
-    pause-end h = goes_on said_scan is p _ (test-passed refl _ (le-leb run.count k h) refl)
-
-    pub pause-at : k < run.count → {what x : Specified} {z : Said Reached} → said_specified what ≡ specified settings (lent_rows settings.endian s rows attrs n) run levels k → what ≡ x
-        → z ≡ (said_specified x >>= λ r. gives (meets k r)) → z ≡ pause_from settings s rows attrs n run levels j
-    unfolding pause_from pause_at said_scan ◌>>=◌
-    pause-at h said q g = goes_on said_scan is p _ (test-failed refl _ (lt-leb run.count k h) (goes_on said_specified said q _ g))
-
-  pub pause-refused : {why : Refusal} → told ≡ scan.Refused why → refusal why ≡ pause_from settings s rows attrs n run levels j
-  unfolding pause_from said_scan ◌>>=◌
-  pause-refused p = goes_on said_scan is p _ refl
+pub ruleset pauses = (pause-said, pause-over, pause-refused, pause-is)
 
 -- ---- what is known: specifications fill it, other attributes overwrite it
 
 module _ (s attrs : List ℕ) (run : Run) where
-  abbrev last_name : ℕ → Found
+  abbrev last_name : ℕ → Option ℕ
   last_name j = last_from (sought.Number attribute.name) attrs run.first j
 
-  abbrev last_type : ℕ → Found
+  abbrev last_type : ℕ → Option ℕ
   last_type j = last_from sought.Type attrs run.first j
 
-  abbrev both : Name → Held → SoFar
+  abbrev both : Option Text → Held → SoFar
   both x y = record { name = x; of = y }
 
-  known-none : nothing_yet ≡ known_at s attrs run 0 filling.Nothing
+  known-none : nothing_yet ≡ known_at s attrs run 0 None
   unfolding nothing_yet known_at last_from name_by typedef_name typedef_type
   known-none = refl
 
-  fills-name : (own : Name) (f : Filling) (t : Typedef) → name_filled (typedef_name own f) t.name ≡ typedef_name own (first_filling f t)
+  fills-name : (own : Option Text) (f : Option Typedef) (t : Typedef) → name_filled (typedef_name own f) t.name ≡ typedef_name own (first_filling f t)
   unfolding name_filled typedef_name first_filling
-  fills-name (name.Is text) f t = refl
-  fills-name name.Nothing (filling.Is first) t = refl
-  fills-name name.Nothing filling.Nothing t = refl
+  fills-name (Some text) f t = refl
+  fills-name None (Some first) t = refl
+  fills-name None None t = refl
 
-  fills-type : (own : Found) (f : Filling) (t : Typedef) → type_filled (typedef_type s attrs run own f) t.of ≡ typedef_type s attrs run own (first_filling f t)
+  fills-type : (own : Option ℕ) (f : Option Typedef) (t : Typedef) → type_filled (typedef_type s attrs run own f) t.of ≡ typedef_type s attrs run own (first_filling f t)
   unfolding type_filled typedef_type first_filling
-  fills-type (found.At k) f t = refl
-  fills-type found.Nothing (filling.Is first) t = refl
-  fills-type found.Nothing filling.Nothing t = refl
+  fills-type (Some k) f t = refl
+  fills-type None (Some first) t = refl
+  fills-type None None t = refl
 
-  overwrites : (j : ℕ) (f : Filling) → overwritten s run (attribute_at attrs (run.first + j)) (known_at s attrs run j f) ≡ known_at s attrs run (suc j) f
-  unfolding overwritten known_at last_from is_sought name_by typedef_name typedef_type type_by attribute_needed ◌>>=◌
+  overwrites : (j : ℕ) (f : Option Typedef) → overwritten s run (attribute_at attrs (run.first + j)) (known_at s attrs run j f) ≡ known_at s attrs run (suc j) f
+  unfolding overwritten known_at last_from is_sought name_by typedef_name typedef_type type_by needed ◌>>=◌
   overwrites j f =
       ap₂ both
-      (sym (cond_map (λ (x : Found). typedef_name (name_by s attrs x) f) (eqb (attribute_at attrs (run.first + j)).number attribute.name)
-      (found.At (run.first + j)) (last_name j)))
-      (sym (cond_map (λ (x : Found). typedef_type s attrs run x f) (is_type (attribute_at attrs (run.first + j)).number) (found.At (run.first + j)) (last_type j)))
+      (sym (cond_map (λ (x : Option ℕ). typedef_name (name_by s attrs x) f) (eqb (attribute_at attrs (run.first + j)).number attribute.name)
+      (Some (run.first + j)) (last_name j)))
+      (sym (cond_map (λ (x : Option ℕ). typedef_type s attrs run x f) (is_type (attribute_at attrs (run.first + j)).number) (Some (run.first + j)) (last_type j)))
 
   -- a specification is neither a name nor a type
   leaves : (a : Attribute) (known : SoFar) → special record'.Typedef a.number ≡ true → overwritten s run a known ≡ known
   unfolding overwritten special is_type
   leaves a known t =
-      ap (λ (x : ℕ). both (cond (eqb x attribute.name) (name.Is (text_of s a.value)) known.name)
+      ap (λ (x : ℕ). both (cond (eqb x attribute.name) (Some (text_of s a.value)) known.name)
       (cond (is_type x) (holds (placed run.key (process_type run.ends s x a.value))) known.of)) (eqb-true a.number attribute.specification t)
 
-  fills : (j : ℕ) (f : Filling) (t : Typedef) → special record'.Typedef (attribute_at attrs (run.first + j)).number ≡ true
+  fills : (j : ℕ) (f : Option Typedef) (t : Typedef) → special record'.Typedef (attribute_at attrs (run.first + j)).number ≡ true
       → filled_in (known_at s attrs run j f) t ≡ known_at s attrs run (suc j) (first_filling f t)
   unfolding filled_in known_at
   fills j f t own =
@@ -270,14 +153,14 @@ module _ (settings : Settings) (s rows attrs : List ℕ) (n levels : ℕ) where
   good-past (gives x) next h = h
   good-past (refuses number place counts) next h = tt
 
-  good-row : (key : ℕ) (f : Found) → row_of_key rows n key ≡ f
+  good-row : (key : ℕ) (f : Option ℕ) → row_of_key rows n key ≡ f
       → Good (found_row key f >>= λ r. must (not (eqb levels 0)) reason.Depth key >> (kind_fault settings rows record'.Typedef r >> gives r))
   unfolding found_row ◌>>=◌
-  good-row key (found.At r) p =
+  good-row key (Some r) p =
       good-limit (eqb levels 0) reason.Depth key _
       (λ t. good-past (kind_fault settings rows record'.Typedef r) (gives r)
       (let some : levels ≡ 0 → ⊥ = eqb-false levels 0 t in (omega arith, (row-found rows n key p).0)))
-  good-row key found.Nothing p = tt
+  good-row key None p = tt
 
   good : (run : Run) (j : ℕ) → Good (specified settings (lent_rows settings.endian s rows attrs n) run levels j)
   unfolding specified specified_by
@@ -290,7 +173,7 @@ module _ (settings : Settings) (s rows attrs : List ℕ) (n : ℕ) (below : ℕ 
   from j m known = attributes_from settings (lent_rows settings.endian s rows attrs n) below levels i run j m known
 
   -- with what is known after j attributes
-  abbrev left : ℕ → ℕ → Filling → Said Typedef
+  abbrev left : ℕ → ℕ → Option Typedef → Said Typedef
   left j m f = from j m (known_at s attrs run j f)
 
   abbrev is_own : ℕ → Bool
@@ -316,14 +199,14 @@ module _ (settings : Settings) (s rows attrs : List ℕ) (n : ℕ) (below : ℕ 
   by-own j m known t = left-turn j m known ∙ ap (λ (b : Bool). turn j m known b (specified settings (lent_rows settings.endian s rows attrs n) run levels j) (judged j)) t
 
   -- one that is no specification: it is passed by, or its fault decides
-  left-plain : (j m : ℕ) (f : Filling) {x : Said Unit} → is_own j ≡ false → judged j ≡ x → left j (suc m) f ≡ (x >> left (suc j) m f)
+  left-plain : (j m : ℕ) (f : Option Typedef) {x : Said Unit} → is_own j ≡ false → judged j ≡ x → left j (suc m) f ≡ (x >> left (suc j) m f)
   left-plain j m f {x} t p =
       by-own j m (known_at s attrs run j f) t
       ∙ ap (λ (y : Said Unit). y >> from (suc j) m (overwritten s run (attribute_at attrs (run.first + j)) (known_at s attrs run j f))) p
       ∙ ap (λ (k : SoFar). x >> from (suc j) m k) (overwrites s attrs run j f)
 
   -- a specification is read
-  left-special : (j m : ℕ) (f : Filling) {what : Said ℕ} → is_own j ≡ true → specified settings (lent_rows settings.endian s rows attrs n) run levels j ≡ what
+  left-special : (j m : ℕ) (f : Option Typedef) {what : Said ℕ} → is_own j ≡ true → specified settings (lent_rows settings.endian s rows attrs n) run levels j ≡ what
       → left j (suc m) f ≡ (what >>= λ r. below r >>= λ t. left (suc j) m (first_filling f t))
   unfolding number_at
   left-special j m f {what} t p =
@@ -331,7 +214,7 @@ module _ (settings : Settings) (s rows attrs : List ℕ) (n : ℕ) (below : ℕ 
       ∙ ap (λ (x : Said ℕ). x >>= λ r. below r >>= λ t. from (suc j) m (filled_in (known_at s attrs run j f) t)) p
       ∙ then_same what (λ r. then_same (below r) (λ u. ap (from (suc j) m) (fills s attrs run j f u t)))
 
-  left_over : (d j m : ℕ) (f : Filling) → Before settings.roles record'.Typedef run s attrs j (j + d) → left j (d + m) f ≡ left (j + d) m f
+  left_over : (d j m : ℕ) (f : Option Typedef) → Before settings.roles record'.Typedef run s attrs j (j + d) → left j (d + m) f ≡ left (j + d) m f
   unfolding ◌>>◌
   left_over zero j m f w =
       let many : zero + m ≡ m = omega arith in
@@ -346,7 +229,7 @@ module _ (settings : Settings) (s rows attrs : List ℕ) (n : ℕ) (below : ℕ 
       ∙ ap (λ (x : ℕ). left x m f) place
 
   -- attributes before k are passed by
-  left-past : (j k : ℕ) (f : Filling) → j ≤ k → k ≤ run.count → Before settings.roles record'.Typedef run s attrs j k
+  left-past : (j k : ℕ) (f : Option Typedef) → j ≤ k → k ≤ run.count → Before settings.roles record'.Typedef run s attrs j k
       → left j (run.count - j) f ≡ left k (run.count - k) f
   left-past j k f less upto w =
       let many : run.count - j ≡ k - j + (run.count - k) = omega arith in
@@ -361,12 +244,12 @@ module _ (settings : Settings) (s rows attrs : List ℕ) (n : ℕ) (below : ℕ 
     pub within : at < run.count
     pub more : 0 < levels
     pub there : row < n
-    pub goes : (f : Filling) → left j (run.count - j) f ≡ (below row >>= λ t. left (at + 1) (run.count - (at + 1)) (first_filling f t))
+    pub goes : (f : Option Typedef) → left j (run.count - j) f ≡ (below row >>= λ t. left (at + 1) (run.count - (at + 1)) (first_filling f t))
 
   abbrev Comes : ℕ → Said Reached → Type 0
   Comes j (gives (meets at row)) = Paused j at row
-  Comes j (gives over) = (f : Filling) → left j (run.count - j) f ≡ left run.count zero f
-  Comes j (refuses number place counts) = (f : Filling) → left j (run.count - j) f ≡ refuses number place counts
+  Comes j (gives over) = (f : Option Typedef) → left j (run.count - j) f ≡ left run.count zero f
+  Comes j (refuses number place counts) = (f : Option Typedef) → left j (run.count - j) f ≡ refuses number place counts
 
   comes-at : (j k : ℕ) → j ≤ k → k < run.count → is_own k ≡ true
       → Before settings.roles record'.Typedef run s attrs j k → (what : Said ℕ) → specified settings (lent_rows settings.endian s rows attrs n) run levels k ≡ what
@@ -411,7 +294,7 @@ module _ (settings : Settings) (s rows attrs : List ℕ) (n : ℕ) (below : ℕ 
       λ f. left-past j k f behind (omega arith) met.1.before ∙ ap (λ (x : ℕ). left k x f) one
       ∙ left-plain k (run.count - (k + 1)) f met.1.plain met.1.fault
 
-  comes : (j : ℕ) → j ≤ run.count → {told what : Pause} → said_pause told ≡ pause_from settings s rows attrs n run levels j → told ≡ what
+  comes : (j : ℕ) → j ≤ run.count → {told what : Result (Option Pause) Refusal} → said_pause told ≡ pause_from settings s rows attrs n run levels j → told ≡ what
       → Comes j (said_pause what)
   unfolding pause_from
   comes j h is p =
@@ -436,22 +319,22 @@ module _ (settings : Settings) (s rows attrs : List ℕ) (n levels i : ℕ) (run
   whole (suc l) x p = ap (λ (y : Run). attributes_from settings (lent_rows settings.endian s rows attrs n) (below_of (suc l)) (suc l) i y 0 y.count nothing_yet) p
 
   -- the attributes from j on, f being filled
-  abbrev rest_from : ℕ → ℕ → Filling → Said Typedef
+  abbrev rest_from : ℕ → ℕ → Option Typedef → Said Typedef
   rest_from j m f = attributes_from settings (lent_rows settings.endian s rows attrs n) (below_of levels) levels i run j m (known_at s attrs run j f)
 
-  pub record Loop (f : Filling) (j : ℕ) : Type 0 where
+  pub record Loop (f : Option Typedef) (j : ℕ) : Type 0 where
     pub within : j ≤ run.count
     pub rest : rest_from j (run.count - j) f ≡ typedef_run settings (lent_rows settings.endian s rows attrs n) levels i
 
-  pub begin : run ≡ run_of settings.endian rows i → Loop filling.Nothing 0
+  pub begin : run ≡ run_of settings.endian rows i → Loop None 0
   begin p =
       record {
         within = omega arith;
-        rest = ap (λ (m : ℕ). rest_from 0 m filling.Nothing) (sub-zero run.count)
+        rest = ap (λ (m : ℕ). rest_from 0 m None) (sub-zero run.count)
             ∙ ap (attributes_from settings (lent_rows settings.endian s rows attrs n) (below_of levels) levels i run 0 run.count) (sym (known-none s attrs run)) ∙ whole levels run p;
       }
 
-  module _ {f : Filling} {j : ℕ} (l : Loop f j) where
+  module _ {f : Option Typedef} {j : ℕ} (l : Loop f j) where
     pub done : {z : Said Typedef} → run ≡ run_of settings.endian rows i → run.count ≤ j
         → z ≡ typedef_end settings (lent_rows settings.endian s rows attrs n) i (known_of s attrs (run_of settings.endian rows i) f) → z ≡ typedef_run settings (lent_rows settings.endian s rows attrs n) levels i
     unfolding attributes_from
@@ -462,9 +345,9 @@ module _ (settings : Settings) (s rows attrs : List ℕ) (n levels i : ℕ) (run
         q ∙ ap (λ (x : Run). typedef_end settings (lent_rows settings.endian s rows attrs n) i (known_of s attrs x f)) (sym p)
         ∙ ap (λ (x : ℕ). rest_from x zero f) all ∙ ap (λ (m : ℕ). rest_from j m f) none ∙ l.rest
 
-    module _ {told : Pause} (is : said_pause told ≡ pause_from settings s rows attrs n run levels j) where
+    module _ {told : Result (Option Pause) Refusal} (is : said_pause told ≡ pause_from settings s rows attrs n run levels j) where
       -- no further specification
-      pub ended : told ≡ pause.End → Loop f run.count
+      pub ended : told ≡ Ok None → Loop f run.count
       unfolding said_pause
       ended p =
           let none : run.count - run.count ≡ zero = omega arith in
@@ -474,42 +357,42 @@ module _ (settings : Settings) (s rows attrs : List ℕ) (n levels i : ℕ) (run
                 ∙ sym (comes settings s rows attrs n (below_of levels) levels i run j l.within is p f) ∙ l.rest;
           }
 
-      pub refused-here : {why : Refusal} → told ≡ pause.Refused why → refusal why ≡ typedef_run settings (lent_rows settings.endian s rows attrs n) levels i
+      pub stopped : {why : Refusal} → told ≡ Err why → refusal why ≡ typedef_run settings (lent_rows settings.endian s rows attrs n) levels i
       unfolding said_pause
-      refused-here p = sym (comes settings s rows attrs n (below_of levels) levels i run j l.within is p f) ∙ l.rest
+      stopped p = sym (comes settings s rows attrs n (below_of levels) levels i run j l.within is p f) ∙ l.rest
 
       -- a specification, whose row was read
-      module _ {at row : ℕ} (p : told ≡ pause.At at row) where
-        paused : Paused settings s rows attrs n (below_of levels) levels i run j at row
+      module _ {pause : Pause} (p : told ≡ Ok (Some pause)) where
+        paused : Paused settings s rows attrs n (below_of levels) levels i run j pause.at pause.row
         unfolding said_pause
         paused = comes settings s rows attrs n (below_of levels) levels i run j l.within is p
 
         pub level_left : 0 < levels
         level_left = paused.more
 
-        pub row-asked : RowsHold rows n → Asked rows n row
+        pub row-asked : RowsHold rows n → Asked rows n pause.row
         row-asked table = record { table = table; there = paused.there }
 
-        pub place-there : at < run.count
+        pub place-there : pause.at < run.count
         place-there = paused.within
 
-        pub forward : run.count - (at + 1) < run.count - j
+        pub forward : run.count - (pause.at + 1) < run.count - j
         forward = omega (arith, paused.behind, paused.within)
 
-        module _ {next : TypedefRead} (reads : said_typedef_read next ≡ typedef_run settings (lent_rows settings.endian s rows attrs n) (levels - 1) row) where
-          next-read : {what : TypedefRead} → next ≡ what
-              → (said_typedef_read what >>= λ t. rest_from (at + 1) (run.count - (at + 1)) (first_filling f t)) ≡ typedef_run settings (lent_rows settings.endian s rows attrs n) levels i
+        module _ {next : Result Typedef Refusal} (reads : said next ≡ typedef_run settings (lent_rows settings.endian s rows attrs n) (levels - 1) pause.row) where
+          next-read : {what : Result Typedef Refusal} → next ≡ what
+              → (said what >>= λ t. rest_from (pause.at + 1) (run.count - (pause.at + 1)) (first_filling f t)) ≡ typedef_run settings (lent_rows settings.endian s rows attrs n) levels i
           next-read q =
-              goes_on said_typedef_read (reads ∙ sym (below_less levels row paused.more)) q _ refl ∙ sym (paused.goes f) ∙ l.rest
+              goes_on said (reads ∙ sym (below_less levels pause.row paused.more)) q _ refl ∙ sym (paused.goes f) ∙ l.rest
 
-          pub again : {t : Typedef} {g : Filling} → next ≡ Is t → g ≡ first_filling f t → Loop g (at + 1)
-          unfolding said_typedef_read ◌>>=◌
+          pub again : {t : Typedef} {g : Option Typedef} → next ≡ Ok t → g ≡ first_filling f t → Loop g (pause.at + 1)
+          unfolding said ◌>>=◌
           again q h =
               record {
                 within = omega (arith, paused.within);
-                rest = ap (rest_from (at + 1) (run.count - (at + 1))) h ∙ next-read q;
+                rest = ap (rest_from (pause.at + 1) (run.count - (pause.at + 1))) h ∙ next-read q;
               }
 
-          pub refused-below : {why : Refusal} → next ≡ Refused why → refusal why ≡ typedef_run settings (lent_rows settings.endian s rows attrs n) levels i
-          unfolding said_typedef_read ◌>>=◌
-          refused-below q = next-read q
+          pub stopped-below : {why : Refusal} → next ≡ Err why → refusal why ≡ typedef_run settings (lent_rows settings.endian s rows attrs n) levels i
+          unfolding said ◌>>=◌
+          stopped-below q = next-read q

@@ -1,4 +1,6 @@
 -- Where a union is read, its members are there: as many as it says, their records one after the other at the front of the room, and what lies behind is as it was.
+use Rattle.std.specs.Prelude.{Ok}
+use Rattle.format.specs.Said.{said}
 use Rattle.format.proofs.Laws.Said.{given_is, room-given, fill-given}
 use Prim.Native.Nat.{ℕ, ◌+◌, ◌*◌, ◌/◌, ◌≤◌}
 use native.Mathlib.Omega.{arith}
@@ -16,9 +18,7 @@ use Rattle.format.specs.Said.{Said, gives, in_room, fills_room}
 use Rattle.format.specs.declared.settings.Settings.{Settings}
 use Rattle.tables.specs.declared.row.Counts.{Counts}
 use Rattle.tables.specs.Keyed.{row_of}
-use Rattle.tables.specs.Inside.Keyed.{said_keyed}
 use Rattle.tables.proofs.Laws.Keyed.{keyed-there, keyed-key}
-use Rattle.tables.specs.declared.keyed.Keyed.TheVariants as keyed
 use Rattle.records.specs.MemberWords.{member_width, member_words}
 use Rattle.records.proofs.Laws.MemberWords.{words-wide}
 use Rattle.records.specs.Unions.{RowMember, row_members, union_at, members_words, union_into, process_union_tag}
@@ -87,7 +87,7 @@ module _ (settings : Settings) (vendors sizes s rows attrs : List ℕ) (counts :
 
   pub union-filled : {u : Union} {room' : List ℕ} → Given (process_union_tag (table s settings vendors sizes rows attrs counts) key room) (gives u) room'
       → UnionFilled settings s rows attrs counts.rows key u room room'
-  unfolding process_union_tag said_keyed
+  unfolding process_union_tag said
   union-filled {u} {room'} g =
       let found : (i : ℕ) × (row_of t key ≡ gives i) × Given (into i) (gives u) room' = room-given room (row_of t key) into g in
       let f : Fits found.0 u room' = fits found.0 found.2 in
@@ -97,8 +97,8 @@ module _ (settings : Settings) (vendors sizes s rows attrs : List ℕ) (counts :
       let enough : u.members * member_width ≤ length room = omega arith in
       record {
         row = found.0;
-        there = keyed-there settings vendors sizes s rows attrs counts key {told = keyed.Row found.0} (sym found.1) refl;
-        key_is = keyed-key settings vendors sizes s rows attrs counts key {told = keyed.Row found.0} (sym found.1) refl;
+        there = keyed-there settings vendors sizes s rows attrs counts key {told = Ok found.0} (sym found.1) refl;
+        key_is = keyed-key settings vendors sizes s rows attrs counts key {told = Ok found.0} (sym found.1) refl;
         union_is = f.read;
         list = f.list;
         are = f.are;

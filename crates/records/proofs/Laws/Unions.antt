@@ -1,4 +1,6 @@
 -- What follows from `Unions` and its ways, for each way that the code comes to an answer.
+use Rattle.std.specs.Prelude.{Option, Some, None, Result, Ok, Err}
+use Rattle.format.specs.Said.{said, said_counted}
 use Prim.Native.Nat.{ℕ, suc, ◌+◌, ◌*◌, ◌/◌, ◌≤◌, ◌<◌}
 use native.Mathlib.Nat.{add-zero, zero-add}
 use native.Mathlib.Omega.{arith}
@@ -19,6 +21,7 @@ use Rattle.format.specs.Said.{Said, gives, refuses, refuse, refusal, ◌>>=◌, 
 use Rattle.format.proofs.Laws.Said.{case-said, goes_on, goes-past, goes_in, given_is, given-refused, fills, wants, past-gave, step-gave}
 use Rattle.format.specs.declared.settings.Settings.{Settings}
 use Rattle.format.specs.declared.refusal.Refusal.{Refusal}
+use Rattle.format.specs.declared.refusal.Unfilled.TheVariants.{Room}
 use Rattle.format.specs.declared.refusal.Reason.TheVariants as reason
 use Rattle.tables.specs.Table.{lent_rows}
 use Rattle.tables.specs.Row.{row_at}
@@ -32,33 +35,20 @@ use Rattle.links.proofs.Laws.EachChild.{few-children, children-more, ends_more, 
 use Rattle.links.proofs.Laws.AnyChild.{ended-ends, ended-walk, endless-walk}
 use Rattle.links.specs.Inside.Children.{Asked}
 use Rattle.links.specs.Inside.AnyChild.{gone_over}
-use Rattle.links.specs.declared.any_child.Walked.{Walked}
-use Rattle.links.specs.declared.any_child.Walked.TheVariants as walked
 use Rattle.records.proofs.Laws.Taken.{test-passed, test-failed}
 use Rattle.records.specs.Scan.{run_of}
-use Rattle.records.specs.Inside.Scan.{said_fault}
-use Rattle.records.specs.Fields.{name_of, word_of, word_needed}
+use Rattle.records.specs.Fields.{name_of, word_of, needed}
 use Rattle.records.specs.Front.{head_of}
-use Rattle.records.specs.Member.{said_member_read, member_at}
+use Rattle.records.specs.Member.{member_at}
 use Rattle.records.specs.MemberWords.{member_width, member_words}
 use Rattle.records.proofs.Laws.MemberWords.{words-wide}
-use Rattle.records.specs.Unions.{said_union_read, ignored, RowMember, member_then, child_then, members_from, members_by, row_members, union_sized, union_at, members_words, union_into}
-use Rattle.records.specs.Inside.Unions.{said_union_whole, TakeAsked, EndsAt, count_of, members_stored, stored_on, TakesMember, MembersStored, UnionStored}
-use Rattle.records.specs.Inside.Tally.{said_tally}
+use Rattle.records.specs.Unions.{ignored, RowMember, member_then, child_then, members_from, members_by, row_members, union_sized, union_at, members_words, union_into}
+use Rattle.records.specs.Inside.Unions.{TakeAsked, EndsAt, count_of, members_stored, stored_on, TakesMember, MembersStored, UnionStored}
 use Rattle.records.specs.declared.taken.Record.TheVariants as record'
 use Rattle.records.specs.declared.scan.Run.{Run}
-use Rattle.records.specs.declared.scan.Fault.{Fault}
-use Rattle.records.specs.declared.scan.Fault.TheVariants as fault
-use Rattle.records.specs.declared.fields.Name.{Name}
+use Rattle.records.specs.declared.fields.Text.{Text}
 use Rattle.records.specs.declared.member.Member.{Member}
-use Rattle.records.specs.declared.member.MemberRead.{MemberRead}
-use Rattle.records.specs.declared.member.MemberRead.TheVariants as read
-use Rattle.records.specs.declared.tally.Tally.{Tally}
-use Rattle.records.specs.declared.tally.Tally.TheVariants as counted
 use Rattle.records.specs.declared.unions.Union.{Union}
-use Rattle.records.specs.declared.unions.UnionWhole.{UnionWhole}
-use Rattle.records.specs.declared.unions.UnionWhole.TheVariants as whole
-use Rattle.records.specs.declared.unions.UnionRead.TheVariants.{Is, Room}
 
 -- ---- one child
 
@@ -95,17 +85,17 @@ refused-most : {most number place : ℕ} {counts : List ℕ} (more : ℕ) → re
 refused-most more p = absurd (given-refused (sym p))
 
 module _ (settings : Settings) (s rows attrs : List ℕ) (n key c k : ℕ) (room : List ℕ) {row : Row} (at : row ≡ row_at rows c) where
-  module _ (h : row.kind ≡ tag.member) {told : MemberRead} (is : said_member_read told ≡ member_at settings (lent_rows settings.endian s rows attrs n) c) where
-    child-read : {x : MemberRead} → told ≡ x → (rest : Said (List RowMember))
-        → child_then settings (lent_rows settings.endian s rows attrs n) key c rest ≡ (said_member_read x >>= with_member c rest)
+  module _ (h : row.kind ≡ tag.member) {told : Result Member Refusal} (is : said told ≡ member_at settings (lent_rows settings.endian s rows attrs n) c) where
+    child-read : {x : Result Member Refusal} → told ≡ x → (rest : Said (List RowMember))
+        → child_then settings (lent_rows settings.endian s rows attrs n) key c rest ≡ (said x >>= with_member c rest)
     unfolding child_then member_then
     child-read p rest =
         let test : eqb (row_at rows c).kind tag.member ≡ true = eq-eqb (row_at rows c).kind tag.member (ap (λ (r : Row). r.kind) (sym at) ∙ h) in
-        rw test (ap (λ (d : Said Member). d >>= with_member c rest) (sym (case-said said_member_read is p)))
+        rw test (ap (λ (d : Said Member). d >>= with_member c rest) (sym (case-said said is p)))
 
-    pub take-member : {m : Member} {room' : List ℕ} → told ≡ read.Is m → room' ≡ sets room (k * member_width) (member_words c m)
-        → TakesMember settings s rows attrs n key c k (said_tally (counted.Count (k + 1))) room room'
-    unfolding said_tally stored_on in_room said_member_read ◌>>=◌
+    pub take-member : {m : Member} {room' : List ℕ} → told ≡ Ok m → room' ≡ sets room (k * member_width) (member_words c m)
+        → TakesMember settings s rows attrs n key c k (said (Ok (k + 1))) room room'
+    unfolding said stored_on in_room ◌>>=◌
     take-member {m} p q =
         record {
           turn = λ rest. ap (members_stored k room) (child-read p rest) ∙ stored_more k room c m q rest;
@@ -113,9 +103,11 @@ module _ (settings : Settings) (s rows attrs : List ℕ) (n key c k : ℕ) (room
           same_room = ap length q ∙ length-sets room (k * member_width) (member_words c m);
         }
 
-    pub take-unread : {why : Refusal} → told ≡ read.Refused why → TakesMember settings s rows attrs n key c k (said_tally (counted.Refused why)) room room
-    unfolding said_tally members_stored stored_on in_room said_member_read ◌>>=◌
-    take-unread p = record { turn = λ rest. ap (members_stored k room) (child-read p rest); one_more = refused-most; same_room = refl }
+    pub take-unread : {why : Refusal} {z : Said ℕ} → told ≡ Err why → z ≡ refusal why → TakesMember settings s rows attrs n key c k z room room
+    unfolding said members_stored stored_on in_room ◌>>=◌
+    take-unread {why} {z} p out =
+        subst (λ (r : Said ℕ). TakesMember settings s rows attrs n key c k r room room) (sym out)
+        (record { turn = λ rest. ap (members_stored k room) (child-read p rest); one_more = refused-most; same_room = refl })
 
   module _ (h : row.kind ≡ tag.member → ⊥) {b : Bool} (is : b ≡ ignored row.kind) where
     ignored-is : b ≡ ignored (row_at rows c).kind
@@ -128,8 +120,8 @@ module _ (settings : Settings) (s rows attrs : List ℕ) (n key c k : ℕ) (room
         let test : eqb (row_at rows c).kind tag.member ≡ false = ne_eqb (row_at rows c).kind tag.member (λ z. h (ap (λ (r : Row). r.kind) at ∙ z)) in
         rw test
 
-    pub take-type : b ≡ true → TakesMember settings s rows attrs n key c k (said_tally (counted.Count k)) room room
-    unfolding said_tally stored_on in_room
+    pub take-type : b ≡ true → TakesMember settings s rows attrs n key c k (said (Ok k)) room room
+    unfolding said stored_on in_room
     take-type t =
         record {
           turn = λ rest. ap (members_stored k room) (child-other rest ∙ sym (test-passed ignored-is _ t refl));
@@ -138,8 +130,8 @@ module _ (settings : Settings) (s rows attrs : List ℕ) (n key c k : ℕ) (room
         }
 
     pub take-other : {why : Refusal} → b ≡ false → why ≡ refused_at key reason.Child
-        → TakesMember settings s rows attrs n key c k (said_tally (counted.Refused why)) room room
-    unfolding said_tally members_stored stored_on in_room
+        → TakesMember settings s rows attrs n key c k (said (Err why)) room room
+    unfolding said members_stored stored_on in_room
     take-other t p =
         record {
           turn = λ rest. ap (members_stored k room) (child-other rest ∙ sym (test-failed ignored-is _ t refl) ∙ ap refusal (sym p));
@@ -186,8 +178,8 @@ module _ {settings : Settings} {s rows attrs : List ℕ} {n key end : ℕ} {all 
   found cs = members_from settings (lent_rows settings.endian s rows attrs n) key cs
 
   -- no child is left
-  pub taking-ends : n ≤ c → MembersStored all (said_tally (counted.Count k)) room₀ room
-  unfolding said_tally members_from members_stored members_words in_room
+  pub taking-ends : n ≤ c → MembersStored all (said (Ok k)) room₀ room
+  unfolding said members_from members_stored members_words in_room
   taking-ends l =
       let done : members_stored k room (gives []) ≡ members_stored 0 room₀ all =
       sym (ap (λ (cs : List ℕ). members_stored k room (found cs)) (children-none settings.endian s rows attrs n end w.on w.first l)) ∙ w.left
@@ -226,13 +218,13 @@ module _ {settings : Settings} {s rows attrs : List ℕ} {n key end : ℕ} {all 
           let some : length (children_now c) ≡ suc (length (children_now c')) = ap length rest-is in
           omega arith
 
-      pub taking-on : {told : Tally} {room' : List ℕ} {more : ℕ} → TakesMember settings s rows attrs n key c k (said_tally told) room room' → told ≡ counted.Count more
+      pub taking-on : {told : Result ℕ Refusal} {room' : List ℕ} {more : ℕ} → TakesMember settings s rows attrs n key c k (said told) room room' → told ≡ Ok more
           → Taking settings s rows attrs n key end all room₀ room' c' more
-      unfolding said_tally members_from stored_on in_room
+      unfolding said members_from stored_on in_room
       taking-on {told} {room'} {more} t q =
           let some : length (children_now c) ≡ suc (length (children_now c')) = ap length rest-is in
           let most : k + length (children_now c) ≤ n = w.counted in
-          let one : more ≤ k + 1 = t.one_more more (ap said_tally q) in
+          let one : more ≤ k + 1 = t.one_more more (ap said q) in
           record {
             on = ends_same settings.endian s rows attrs n end (taking-ending p) is;
             first = first-same settings.endian s rows attrs n end (taking-ending p) is;
@@ -240,34 +232,34 @@ module _ {settings : Settings} {s rows attrs : List ℕ} {n key end : ℕ} {all 
             same_room = t.same_room ∙ w.same_room;
             left =
                 sym (t.turn (found (children_now c'))
-                ∙ ap (λ (x : Tally). stored_on (said_tally x) room' (found (children_now c'))) q)
+                ∙ ap (λ (x : Result ℕ Refusal). stored_on (said x) room' (found (children_now c'))) q)
                 ∙ ap (λ (cs : List ℕ). members_stored k room (found cs)) (sym rest-is)
                 ∙ w.left;
           }
 
     -- a child is refused
-    pub taking-refused : {told : Tally} {room' : List ℕ} {why : Refusal} → TakesMember settings s rows attrs n key c k (said_tally told) room room' → told ≡ counted.Refused why
-        → MembersStored all (said_tally (counted.Refused why)) room₀ room'
-    unfolding said_tally members_from members_stored stored_on in_room
-    taking-refused {told} {room'} {why} t q =
+    pub taking-refused : {told : Result ℕ Refusal} {room' : List ℕ} {why : Refusal} {z : Said ℕ} → TakesMember settings s rows attrs n key c k (said told) room room'
+        → told ≡ Err why → z ≡ refusal why → MembersStored all z room₀ room'
+    unfolding said members_from members_stored stored_on in_room
+    taking-refused {told} {room'} {why} t q out =
         let rest : Said (List RowMember) = found (children_now (after c)) in
         let done : storage (refusal why) [] ≡ members_stored 0 room₀ all =
-        sym (t.turn rest ∙ ap (λ (x : Tally). stored_on (said_tally x) room' rest) q)
+        sym (t.turn rest ∙ ap (λ (x : Result ℕ Refusal). stored_on (said x) room' rest) q)
         ∙ ap (λ (cs : List ℕ). members_stored k room (found cs)) (sym here) ∙ w.left
         in
         record {
-          answer_is = ap (λ (o : Outcome (Said ℕ) ℕ). o.answer) done ∙ count-of room₀ all;
+          answer_is = out ∙ ap (λ (o : Outcome (Said ℕ) ℕ). o.answer) done ∙ count-of room₀ all;
           room_is = λ ms e. absurd (given-refused (sym (ap (λ (o : Outcome (Said ℕ) ℕ). o.answer) (done ∙ ap (members_stored 0 room₀) e))));
         }
 
 -- ---- all children of a row
 
-pub members-ending : (e : Endian) (s rows attrs : List ℕ) (n i : ℕ) {told : Walked} {any : Bool} → told ≡ gone_over rows false (child_walk (lent_rows e s rows attrs n) i)
-    → Asked rows n i → told ≡ walked.Ended any → EndsAt e s rows attrs n i
+pub members-ending : (e : Endian) (s rows attrs : List ℕ) (n i : ℕ) {told : Option Bool} {any : Bool} → told ≡ gone_over rows false (child_walk (lent_rows e s rows attrs n) i)
+    → Asked rows n i → told ≡ Some any → EndsAt e s rows attrs n i
 members-ending e s rows attrs n i is a p = record { asked = a; ending = ended-ends e s rows attrs n i is p a.table }
 
-module _ (settings : Settings) (s rows attrs : List ℕ) (n i : ℕ) {told : Walked} (is : told ≡ gone_over rows false (child_walk (lent_rows settings.endian s rows attrs n) i)) where
-  pub members-walked : {any : Bool} {r : Said ℕ} {room room' : List ℕ} → told ≡ walked.Ended any
+module _ (settings : Settings) (s rows attrs : List ℕ) (n i : ℕ) {told : Option Bool} (is : told ≡ gone_over rows false (child_walk (lent_rows settings.endian s rows attrs n) i)) where
+  pub members-walked : {any : Bool} {r : Said ℕ} {room room' : List ℕ} → told ≡ Some any
       → MembersStored (members_from settings (lent_rows settings.endian s rows attrs n) (row_at rows i).key (children_at settings.endian s rows attrs n i)) r room room'
       → MembersStored (row_members settings (lent_rows settings.endian s rows attrs n) i) r room room'
   unfolding row_members members_by
@@ -278,26 +270,21 @@ module _ (settings : Settings) (s rows attrs : List ℕ) (n i : ℕ) {told : Wal
       ∙ sym (ap (members_by settings (lent_rows settings.endian s rows attrs n) (row_at rows i).key) walk))
       g
 
-  pub members-endless : (room : List ℕ) {row : Row} {why : Refusal} → told ≡ walked.Endless → row ≡ row_at rows i → why ≡ refused_at row.key reason.Link
-      → MembersStored (row_members settings (lent_rows settings.endian s rows attrs n) i) (said_tally (counted.Refused why)) room room
-  unfolding said_tally row_members members_by count_of ◌>>=◌
-  members-endless room {why = why} p at q =
+  pub members-endless : (room : List ℕ) {row : Row} {why : Refusal} {z : Said ℕ} → told ≡ None → row ≡ row_at rows i → why ≡ refused_at row.key reason.Link
+      → z ≡ refusal why → MembersStored (row_members settings (lent_rows settings.endian s rows attrs n) i) z room room
+  unfolding said row_members members_by count_of ◌>>=◌
+  members-endless room {why = why} p at q out =
       let none : refusal why ≡ row_members settings (lent_rows settings.endian s rows attrs n) i =
       ap refusal (q ∙ ap (λ (r : Row). refused_at r.key reason.Link) at)
       ∙ sym (ap (members_by settings (lent_rows settings.endian s rows attrs n) (row_at rows i).key) (endless-walk settings.endian s rows attrs n i is p))
       in
-      record { answer_is = ap count_of none; room_is = λ ms e. absurd (given-refused (sym (none ∙ e))) }
+      record { answer_is = out ∙ ap count_of none; room_is = λ ms e. absurd (given-refused (sym (none ∙ e))) }
 
 -- ---- the whole union
 
 -- a union of so many members
-abbrev union : ℕ → ℕ → Name → Union
+abbrev union : ℕ → ℕ → Option Text → Union
 union many size name = record { name = name; byte_size = size; members = many }
-
-pub union-whole : (s attrs : List ℕ) (run : Run) (many size : ℕ) {name : Name} → name ≡ name_of s attrs run attribute.name
-    → said_union_whole (whole.Is (union many size name)) ≡ gives (union many size (name_of s attrs run attribute.name))
-unfolding said_union_whole
-union-whole s attrs run many size p = ap (λ (x : Name). gives (union many size x)) p
 
 -- what follows with the members' number
 counted-on : {B : Type 0} (all : Said (List RowMember)) (next : ℕ → Said B) → (count_of all >>= next) ≡ (all >>= λ ms. next (length ms))
@@ -305,36 +292,36 @@ unfolding count_of ◌>>=◌
 counted-on (gives ms) next = refl
 counted-on (refuses number place counts) next = refl
 
-module _ (settings : Settings) (s rows attrs : List ℕ) (n i : ℕ) {told : Fault} (is : said_fault told ≡ head_of settings s rows attrs record'.Union i) where
-  module _ (clear : told ≡ fault.Clear) {taken : Tally} {room room' : List ℕ} (g : MembersStored (row_members settings (lent_rows settings.endian s rows attrs n) i) (said_tally taken) room room') where
-    read-counted : {x : Tally} {z : Said Union} → taken ≡ x → z ≡ (said_tally x >>= union_sized s attrs (run_of settings.endian rows i))
+module _ (settings : Settings) (s rows attrs : List ℕ) (n i : ℕ) {told : Result Unit Refusal} (is : said told ≡ head_of settings s rows attrs record'.Union i) where
+  module _ (clear : told ≡ Ok tt) {taken : Result ℕ Refusal} {room room' : List ℕ} (g : MembersStored (row_members settings (lent_rows settings.endian s rows attrs n) i) (said taken) room room') where
+    read-counted : {x : Result ℕ Refusal} {z : Said Union} → taken ≡ x → z ≡ (said x >>= union_sized s attrs (run_of settings.endian rows i))
         → UnionStored (union_at settings (lent_rows settings.endian s rows attrs n) i) (row_members settings (lent_rows settings.endian s rows attrs n) i) z room room'
-    unfolding union_at said_fault ◌>>◌
+    unfolding union_at said ◌>>◌
     read-counted p h =
         record {
           answer_is =
-              goes-past said_fault is clear _
-              (goes_on said_tally g.answer_is p (union_sized s attrs (run_of settings.endian rows i)) h
+              goes-past said is clear _
+              (goes_on said g.answer_is p (union_sized s attrs (run_of settings.endian rows i)) h
               ∙ counted-on (row_members settings (lent_rows settings.endian s rows attrs n) i) (union_sized s attrs (run_of settings.endian rows i)));
           room_is = λ u e ms f. g.room_is ms f;
         }
 
-    pub read-sized : {many : ℕ} {run : Run} {z : Said Union} → taken ≡ counted.Count many → run ≡ run_of settings.endian rows i → z ≡ union_sized s attrs run many
+    pub read-sized : {many : ℕ} {run : Run} {z : Said Union} → taken ≡ Ok many → run ≡ run_of settings.endian rows i → z ≡ union_sized s attrs run many
         → UnionStored (union_at settings (lent_rows settings.endian s rows attrs n) i) (row_members settings (lent_rows settings.endian s rows attrs n) i) z room room'
-    unfolding said_tally ◌>>=◌
+    unfolding said ◌>>=◌
     read-sized {many} p q h = read-counted p (h ∙ ap (λ (x : Run). union_sized s attrs x many) q)
 
-    pub read-refused : {why : Refusal} → taken ≡ counted.Refused why
-        → UnionStored (union_at settings (lent_rows settings.endian s rows attrs n) i) (row_members settings (lent_rows settings.endian s rows attrs n) i) (said_union_whole (whole.Refused why)) room room'
-    unfolding said_union_whole said_tally ◌>>=◌
-    read-refused p = read-counted p refl
+    pub read-refused : {why : Refusal} {z : Said Union} → taken ≡ Err why → z ≡ refusal why
+        → UnionStored (union_at settings (lent_rows settings.endian s rows attrs n) i) (row_members settings (lent_rows settings.endian s rows attrs n) i) z room room'
+    unfolding said ◌>>=◌
+    read-refused p out = read-counted p out
 
-  pub read-faulty : (room : List ℕ) {why : Refusal} → told ≡ fault.Refused why
-      → UnionStored (union_at settings (lent_rows settings.endian s rows attrs n) i) (row_members settings (lent_rows settings.endian s rows attrs n) i) (said_union_whole (whole.Refused why)) room room
-  unfolding said_union_whole union_at said_fault ◌>>◌
-  read-faulty room {why} p =
-      let wrong : refusal why ≡ union_at settings (lent_rows settings.endian s rows attrs n) i = goes-past said_fault is p _ refl in
-      record { answer_is = wrong; room_is = λ u e ms f. absurd (given-refused (sym (wrong ∙ e))) }
+  pub read-faulty : (room : List ℕ) {why : Refusal} {z : Said Union} → told ≡ Err why → z ≡ refusal why
+      → UnionStored (union_at settings (lent_rows settings.endian s rows attrs n) i) (row_members settings (lent_rows settings.endian s rows attrs n) i) z room room
+  unfolding said union_at ◌>>◌
+  read-faulty room {why} p out =
+      let wrong : refusal why ≡ union_at settings (lent_rows settings.endian s rows attrs n) i = goes-past said is p _ refl in
+      record { answer_is = out ∙ wrong; room_is = λ u e ms f. absurd (given-refused (sym (wrong ∙ e))) }
 
 -- the members that a union counts
 pub record AsMany (all : Said (List RowMember)) (u : Union) : Type 0 where
@@ -346,7 +333,7 @@ sized-counts : (s attrs : List ℕ) (run : Run) (many : ℕ) {u : Union} → uni
 unfolding union_sized
 sized-counts s attrs run many p =
     ap (λ (x : Union). x.members)
-    (given_is (step-gave (word_needed run.key (word_of s attrs run attribute.byte_size)) (λ size. gives (union many size (name_of s attrs run attribute.name))) p).2)
+    (given_is (step-gave (needed run.key (word_of s attrs run attribute.byte_size)) (λ size. gives (union many size (name_of s attrs run attribute.name))) p).2)
 
 pub union-counts : (settings : Settings) (s rows attrs : List ℕ) (n i : ℕ) {u : Union} → union_at settings (lent_rows settings.endian s rows attrs n) i ≡ gives u
     → AsMany (row_members settings (lent_rows settings.endian s rows attrs n) i) u
@@ -360,11 +347,11 @@ union-counts settings s rows attrs n i {u} p =
 
 -- ---- into lent room
 
-module _ (settings : Settings) (s rows attrs : List ℕ) (n i : ℕ) (room : List ℕ) {told : UnionWhole} (is : said_union_whole told ≡ union_at settings (lent_rows settings.endian s rows attrs n) i) {u : Union}
-    (p : told ≡ whole.Is u) where
+module _ (settings : Settings) (s rows attrs : List ℕ) (n i : ℕ) (room : List ℕ) {told : Result Union Refusal} (is : said told ≡ union_at settings (lent_rows settings.endian s rows attrs n) i) {u : Union}
+    (p : told ≡ Ok u) where
   read_is : union_at settings (lent_rows settings.endian s rows attrs n) i ≡ gives u
-  unfolding said_union_whole
-  read_is = sym (case-said said_union_whole is p)
+  unfolding said
+  read_is = sym (case-said said is p)
 
   these : AsMany (row_members settings (lent_rows settings.endian s rows attrs n) i) u
   these = union-counts settings s rows attrs n i read_is
@@ -374,18 +361,18 @@ module _ (settings : Settings) (s rows attrs : List ℕ) (n i : ℕ) (room : Lis
 
   -- the union and its members are there: they fit, or not
   give-in : {z : Said Union} {room' : List ℕ} → Given (filling these.list) z room' → Given (union_into settings (lent_rows settings.endian s rows attrs n) room i) z room'
-  unfolding union_into said_union_whole in_room
-  give-in g = goes_in said_union_whole is p room _ (goes_in (λ (d : Said (List RowMember)). d) refl these.are room filling g)
+  unfolding union_into said in_room
+  give-in g = goes_in said is p room _ (goes_in (λ (d : Said (List RowMember)). d) refl these.are room filling g)
 
   pub give-filled : {z : Said Union} {room' : List ℕ} → u.members ≤ length room / member_width
       → UnionStored (union_at settings (lent_rows settings.endian s rows attrs n) i) (row_members settings (lent_rows settings.endian s rows attrs n) i) z room room'
-      → Given (union_into settings (lent_rows settings.endian s rows attrs n) room i) (said_union_read (Is u)) room'
-  unfolding said_union_read
+      → Given (union_into settings (lent_rows settings.endian s rows attrs n) room i) (said_counted (Ok u)) room'
+  unfolding said_counted
   give-filled h g =
       give-in
       (fills u (u.members ∷ []) (members_words these.list) room (le-leb u.members (length room / member_width) h) refl
       (g.room_is u read_is these.list these.are))
 
-  pub give-unfit : length room / member_width < u.members → Given (union_into settings (lent_rows settings.endian s rows attrs n) room i) (said_union_read (Room u.members)) room
-  unfolding said_union_read
+  pub give-unfit : length room / member_width < u.members → Given (union_into settings (lent_rows settings.endian s rows attrs n) room i) (said_counted (Err (Room u.members))) room
+  unfolding said_counted
   give-unfit h = give-in (wants u (u.members ∷ []) (members_words these.list) room (lt-leb u.members (length room / member_width) h) refl refl)

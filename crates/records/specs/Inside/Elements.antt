@@ -1,10 +1,10 @@
 -- How the code stores the elements of lists: one reader that counts on empty rooms and fills lent ones.
-use Rattle.std.specs.Prelude.{ℕ, suc, ◌+◌, ◌-◌, ◌*◌, ◌^◌, ◌<◌, ◌≡◌, cond, List, [], ◌∷◌, ◌++◌, length, ℤ}
+use Rattle.std.specs.Prelude.{Result, ℕ, suc, ◌+◌, ◌-◌, ◌*◌, ◌^◌, ◌<◌, ◌≡◌, cond, List, [], ◌∷◌, ◌++◌, length, ℤ}
+use Rattle.format.specs.declared.refusal.Refusal.{Refusal}
+use Rattle.format.specs.Said.{said}
 use Rattle.std.proofs.lemmas.List.Edits.{sets}
 use Rattle.format.specs.Said.{Said, gives, ◌>>=◌}
 use Rattle.records.specs.Elements.{Listed}
-use Rattle.records.specs.Inside.Tally.{said_tally}
-use Rattle.records.specs.declared.tally.Tally.{Tally}
 use Rattle.records.specs.declared.elements.Slots.{Slots}
 
 -- ---- an element in its slot
@@ -62,7 +62,7 @@ count_from k lists = do
   gives (k + length xs)
 
 -- lists from number k on in their slots; of the rooms something is said only where all were read
-pub record StoredFrom (lists : Said (List Listed)) (slots : Slots) (k : ℕ) (r : Tally) (values values' : List ℤ) (names names' : List ℕ) : Type 0 where
-  pub answer_is : said_tally r ≡ count_from k lists
+pub record StoredFrom (lists : Said (List Listed)) (slots : Slots) (k : ℕ) (r : Result ℕ Refusal) (values values' : List ℤ) (names names' : List ℕ) : Type 0 where
+  pub answer_is : said r ≡ count_from k lists
   pub values_are : (xs : List Listed) → lists ≡ gives xs → values' ≡ store_values slots k xs values
   pub names_are : (xs : List Listed) → lists ≡ gives xs → names' ≡ store_names slots k xs names

@@ -1,25 +1,11 @@
 -- How the scan over a row's attributes pauses: it stops at an attribute that the record reads itself.
 use Rattle.std.specs.Prelude.{ℕ, zero, suc, ◌≡◌, false, cond, List}
-use Rattle.format.specs.Said.{Said, gives, refusal, ◌>>◌}
+use Rattle.format.specs.Said.{Said, gives, ◌>>◌}
 use Rattle.format.specs.declared.settings.Roles.{Roles}
 use Rattle.records.specs.Taken.{special}
 use Rattle.records.specs.declared.taken.Record.{Record}
 use Rattle.records.specs.declared.scan.Run.{Run}
-use Rattle.records.specs.declared.scan.Fault.{Fault}
-use Rattle.records.specs.declared.scan.Fault.TheVariants.{Clear, Refused}
-use Rattle.records.specs.declared.scan.Scan.{Scan}
-use Rattle.records.specs.declared.scan.Scan.TheVariants as scan
 use Rattle.records.specs.Scan.{fault_at, number_at}
-
--- what is wrong, if anything
-unfoldable pub said_fault : Fault → Said Unit
-said_fault Clear = gives tt
-said_fault (Refused why) = refusal why
-
--- where the scan stops
-unfoldable pub said_scan : Scan → Said ℕ
-said_scan (scan.Stop j) = gives j
-said_scan (scan.Refused why) = refusal why
 
 module _ (roles : Roles) (r : Record) (run : Run) (s attrs : List ℕ) where
   -- n attributes from number j on, up to the next that the record reads itself

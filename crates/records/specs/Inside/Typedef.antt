@@ -1,35 +1,22 @@
 -- How the code reads a typedef: from one specification to the next, keeping what the first of them fills; at the end it looks up the row's own last
 -- name and type.
-use Rattle.std.specs.Prelude.{ℕ, ◌-◌, cond, List, leb}
+use Rattle.format.specs.declared.refusal.Refusal.{Refusal}
+use Rattle.std.specs.Prelude.{Result, Ok, Err, Option, Some, None, ℕ, ◌-◌, cond, List, leb}
 use Rattle.format.specs.AttributeKind as attribute
 use Rattle.format.specs.Said.{Said, gives, refusal, ◌>>=◌}
 use Rattle.format.specs.declared.settings.Settings.{Settings}
 use Rattle.tables.specs.Table.{lent_rows}
-use Rattle.tables.specs.declared.find.Found.{Found}
-use Rattle.tables.specs.declared.find.Found.TheVariants as found
 use Rattle.records.specs.Inside.Scan.{scan_from}
-use Rattle.records.specs.Fields.{last_from, name_by, name_needed, type_by}
+use Rattle.records.specs.Fields.{last_from, name_by, needed, type_by}
 use Rattle.records.specs.Typedef.{Held, nothing, holds, SoFar, type_needed, specified}
 use Rattle.records.specs.declared.taken.Record.TheVariants as record'
 use Rattle.records.specs.declared.scan.Run.{Run}
 use Rattle.records.specs.declared.fields.Sought.TheVariants as sought
 use Rattle.records.specs.declared.fields.Text.{Text}
-use Rattle.records.specs.declared.fields.Name.{Name}
-use Rattle.records.specs.declared.fields.Name.TheVariants as name
 use Rattle.records.specs.declared.typedef.Typedef.{Typedef}
-use Rattle.records.specs.declared.typedef.Filling.{Filling}
-use Rattle.records.specs.declared.typedef.Filling.TheVariants as filling
-use Rattle.records.specs.declared.typedef.Specified.{Specified}
-use Rattle.records.specs.declared.typedef.Specified.TheVariants as specified'
 use Rattle.records.specs.declared.typedef.Pause.{Pause}
-use Rattle.records.specs.declared.typedef.Pause.TheVariants as pause
 
 -- ---- what answers say
-
--- a row
-unfoldable pub said_specified : Specified → Said ℕ
-said_specified (specified'.Row r) = gives r
-said_specified (specified'.Refused why) = refusal why
 
 -- where the attributes come to: an attribute that is a specification, and the row that it names; or their end
 pub data Reached : Type 0 where
@@ -37,33 +24,33 @@ pub data Reached : Type 0 where
   over : Reached
 
 -- where they pause
-unfoldable pub said_pause : Pause → Said Reached
-said_pause (pause.At j r) = gives (meets j r)
-said_pause pause.End = gives over
-said_pause (pause.Refused why) = refusal why
+unfoldable pub said_pause : Result (Option Pause) Refusal → Said Reached
+said_pause (Ok (Some pause)) = gives (meets pause.at pause.row)
+said_pause (Ok None) = gives over
+said_pause (Err why) = refusal why
 
 -- ---- name and type
 
 -- the first specification fills; later ones find nothing missing
-unfoldable pub first_filling : Filling → Typedef → Filling
-first_filling (filling.Is first) next = filling.Is first
-first_filling filling.Nothing next = filling.Is next
+unfoldable pub first_filling : Option Typedef → Typedef → Option Typedef
+first_filling (Some first) next = Some first
+first_filling None next = Some next
 
 -- the row's own name, or that of a specification
-unfoldable pub typedef_name : Name → Filling → Name
-typedef_name (name.Is text) f = name.Is text
-typedef_name name.Nothing (filling.Is first) = name.Is first.name
-typedef_name name.Nothing filling.Nothing = name.Nothing
+unfoldable pub typedef_name : Option Text → Option Typedef → Option Text
+typedef_name (Some text) f = Some text
+typedef_name None (Some first) = Some first.name
+typedef_name None None = None
 
 module _ (s attrs : List ℕ) (run : Run) where
   -- the row's own type, or that of a specification
-  unfoldable pub typedef_type : Found → Filling → Held
-  typedef_type (found.At k) f = holds (type_by s attrs run (found.At k))
-  typedef_type found.Nothing (filling.Is first) = holds (gives first.of)
-  typedef_type found.Nothing filling.Nothing = nothing
+  unfoldable pub typedef_type : Option ℕ → Option Typedef → Held
+  typedef_type (Some k) f = holds (type_by s attrs run (Some k))
+  typedef_type None (Some first) = holds (gives first.of)
+  typedef_type None None = nothing
 
   -- what is known after j attributes: the last of a kind among them, or what the first specification fills
-  unfoldable pub known_at : ℕ → Filling → SoFar
+  unfoldable pub known_at : ℕ → Option Typedef → SoFar
   known_at j f =
       record {
         name = typedef_name (name_by s attrs (last_from (sought.Number attribute.name) attrs run.first j)) f;
@@ -71,20 +58,8 @@ module _ (s attrs : List ℕ) (run : Run) where
       }
 
   -- and after all
-  abbrev pub known_of : Filling → SoFar
+  abbrev pub known_of : Option Typedef → SoFar
   known_of f = known_at run.count f
-
--- with its name
-unfoldable pub typedef_with : ℕ → SoFar → Text → Said Typedef
-typedef_with key known text = do
-  of ← type_needed key known.of
-  gives (record { name = text; of = of })
-
--- name first, then type
-unfoldable pub typedef_fields : ℕ → SoFar → Said Typedef
-typedef_fields key known = do
-  text ← name_needed key known.name
-  typedef_with key known text
 
 -- ---- specifications
 

@@ -4,7 +4,7 @@ use Rattle.std.proofs.lemmas.List.Edits.{sets}
 use Rattle.tables.specs.Table.{lent_rows}
 use Rattle.lent.specs.Outcome.{Outcome, outcome}
 use Rattle.numbers.specs.declared.Endian.{Endian}
-use Rattle.format.specs.Said.{Said, gives, ◌>>=◌, in_room, refusal}
+use Rattle.format.specs.Said.{Said, gives, ◌>>=◌, in_room}
 use Rattle.format.specs.declared.settings.Settings.{Settings}
 use Rattle.links.specs.Links.{sibling_row, next_row}
 use Rattle.links.specs.Inside.EachChild.{Ends}
@@ -12,13 +12,6 @@ use Rattle.links.specs.Inside.Children.{Asked}
 use Rattle.records.specs.MemberWords.{member_width}
 use Rattle.records.specs.Unions.{RowMember, child_then, members_words}
 use Rattle.records.specs.declared.unions.Union.{Union}
-use Rattle.records.specs.declared.unions.UnionWhole.{UnionWhole}
-use Rattle.records.specs.declared.unions.UnionWhole.TheVariants as whole
-
--- what an answer with no room says
-unfoldable pub said_union_whole : UnionWhole → Said Union
-said_union_whole (whole.Is union) = gives union
-said_union_whole (whole.Refused why) = refusal why
 
 -- a child's row, and a count that can grow
 pub record TakeAsked (rows : List ℕ) (n c k : ℕ) : Type 0 where

@@ -1,3 +1,5 @@
+use mathlib.Core.Path.{refl}
+use Rattle.format.proofs.Laws.Said.{refused-here}
 use Rattle.links.proofs.Laws.EachChild.{ends_at}
 use Rattle.records.proofs.Laws.Unions.{taking-begins, taking-ends, taking-asked, taking-at, taking-ending, taking-less, taking-on, taking-refused}
 use Rattle.records.proofs.unions.take_children.Goals as goal
@@ -20,17 +22,18 @@ take_child-requires c = taking-asked c.loop-c.invariant c.loop-c-test.true
 pub sibling_row-requires : goal.sibling_row-requires
 sibling_row-requires c = taking-at c.loop-c.invariant c.loop-c-test.true
 
-pub child_from-c-requires-in-Count : goal.child_from-c-requires-in-Count
-child_from-c-requires-in-Count c = taking-ending c.loop-c.invariant c.loop-c-test.true c.sibling_row.ensures
+pub child_from-c-requires-in-loop-c : goal.child_from-c-requires-in-loop-c
+child_from-c-requires-in-loop-c c = taking-ending c.loop-c.invariant c.loop-c-test.true c.sibling_row.ensures
 
 pub loop-c-smaller : goal.loop-c-smaller
-loop-c-smaller c = taking-less c.loop-c.invariant c.loop-c-test.true c.sibling_row.ensures c.child_from-c-in-Count.ensures
+loop-c-smaller c = taking-less c.loop-c.invariant c.loop-c-test.true c.sibling_row.ensures c.child_from-c-in-loop-c.ensures
 
 pub loop-c-preserved : goal.loop-c-preserved
-loop-c-preserved c = taking-on c.loop-c.invariant c.loop-c-test.true c.sibling_row.ensures c.child_from-c-in-Count.ensures c.take_child.ensures c.in-Count.is
+loop-c-preserved c = taking-on c.loop-c.invariant c.loop-c-test.true c.sibling_row.ensures c.child_from-c-in-loop-c.ensures c.take_child.ensures c.in_ok-k.was
 
-pub returns-in-Refused : goal.returns-in-Refused
-returns-in-Refused c = taking-refused c.loop-c.invariant c.loop-c-test.true c.take_child.ensures c.in-Refused.is
+pub returns-in_err-k : goal.returns-in_err-k
+returns-in_err-k c =
+    taking-refused c.loop-c.invariant c.loop-c-test.true c.take_child.ensures c.in_err-k.was (refused-here refl c.in_err-k.was _ c.from_residual.ensures.1)
 
 pub returns : goal.returns
 returns c = taking-ends c.loop-c.invariant c.loop-c-test.false

@@ -7,7 +7,7 @@ use lib.ListN.{length}
 use Rattle.records.proofs.unions.take_children.Given as goal
 
 abbrev pub invariant-loop-c : goal.invariant-loop-c
-invariant-loop-c l = Taking l.settings l.s l.rows l.attrs l.n l.row.key l.end (members_from l.settings (lent_rows l.settings.endian l.s l.rows l.attrs l.n) (row_at l.rows l.i).key (children_at l.settings.endian l.s l.rows l.attrs l.n l.i)) l.initial.room l.room l.c l.k
+invariant-loop-c l = Taking l.t.settings l.t.section.now l.t.rows.now l.t.attrs.now l.t.counts.rows l.row.key l.end (members_from l.t.settings (lent_rows l.t.settings.endian l.t.section.now l.t.rows.now l.t.attrs.now l.t.counts.rows) (row_at l.t.rows.now l.i).key (children_at l.t.settings.endian l.t.section.now l.t.rows.now l.t.attrs.now l.t.counts.rows l.i)) l.initial.room l.room l.c l.k
 
 abbrev pub decreases-loop-c : goal.decreases-loop-c
-decreases-loop-c l = length (children_from l.settings.endian l.s l.rows l.attrs l.n l.end l.c)
+decreases-loop-c l = length (children_from l.t.settings.endian l.t.section.now l.t.rows.now l.t.attrs.now l.t.counts.rows l.end l.c)
