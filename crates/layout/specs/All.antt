@@ -1,5 +1,9 @@
 -- Every structure's and class's layout of a table, in file order, each as `Layout` has it for its key. One that is refused says so, and the rest go
 -- on: only 1, 2, 3 and 8 refuse the call.
+use Rattle.std.specs.Prelude.{Result, Ok, Err}
+use Rattle.format.specs.declared.refusal.Unfilled.TheVariants.{Refused, Room}
+use Rattle.format.specs.declared.refusal.Unfilled.{Unfilled}
+use Rattle.std.specs.Prelude.{Option, Result, Ok}
 use Rattle.std.specs.Prelude.{ℕ, zero, suc, ◌+◌, ◌/◌, Bool, cond, ◌&&◌, List, [], ◌∷◌, ◌++◌, length, leb}
 use Rattle.tables.specs.Table.{Table, Rows, table_rows}
 use Rattle.lent.specs.Outcome.{Outcomes}
@@ -10,26 +14,24 @@ use Rattle.blocks.specs.declared.types.Type.{«Type»}
 use Rattle.tables.specs.Row.{row_at}
 use Rattle.tables.specs.Tests.{test_table}
 use Rattle.records.specs.Scan.{run_of}
+use Rattle.records.specs.declared.fields.Text.{Text}
 use Rattle.records.specs.Fields.{name_of}
 use Rattle.records.specs.MemberWords.{name_place, name_length}
-use Rattle.records.specs.declared.fields.Name.{Name}
 use Rattle.sizes.specs.Size.{inner_size, is_structure, shape_of}
 use Rattle.layout.specs.Layout.{Laid, Lay, row_lay, layout_at, laid_words, laid_width}
 use Rattle.layout.specs.declared.one.Layout.{Layout}
 use Rattle.layout.specs.declared.all.LayoutCounts.{LayoutCounts}
-use Rattle.layout.specs.declared.all.AllLayouts.{AllLayouts}
-use Rattle.layout.specs.declared.all.AllLayouts.TheVariants as all
 
 -- what an answer says
-unfoldable pub said_all_layouts : AllLayouts → Said LayoutCounts
-said_all_layouts (all.Are counts) = gives counts
-said_all_layouts (all.Refused why) = refusal why
-said_all_layouts (all.Room counts) = wanting (counts.structures ∷ counts.members ∷ [])
+unfoldable pub said_all_layouts : Result LayoutCounts (Unfilled LayoutCounts) → Said LayoutCounts
+said_all_layouts (Ok counts) = gives counts
+said_all_layouts (Err (Refused why)) = refusal why
+said_all_layouts (Err (Room counts)) = wanting (counts.structures ∷ counts.members ∷ [])
 
 -- a structure or class: its row and name, and how it is laid out, or why it is not
 pub record Structure : Type 0 where
   pub row : ℕ
-  pub name : Name
+  pub name : (Option Text)
   pub answer : Said Layout
   pub members : List Laid
 
@@ -62,7 +64,7 @@ module _ (settings : Settings) (t : Rows) (size_of : «Type» → Said ℕ) wher
 
 -- eight words for each: its row; 0, its size and 0, or a refusal's number, 0 and its place; the first of its members, and how many; its name's
 -- bytes in the section
-unfoldable pub answer_words : ℕ → Name → ℕ → Said Layout → List ℕ
+unfoldable pub answer_words : ℕ → (Option Text) → ℕ → Said Layout → List ℕ
 answer_words row name first (gives x) = row ∷ 0 ∷ x.size ∷ 0 ∷ first ∷ x.members ∷ name_place name ∷ name_length name ∷ []
 answer_words row name first (refuses number place counts) = row ∷ number ∷ 0 ∷ place ∷ first ∷ 0 ∷ name_place name ∷ name_length name ∷ []
 

@@ -2,6 +2,7 @@
 -- its size (ByteSize, else its type's) and its name, empty if none. All members are read whole before any size is taken; then member by member its
 -- size, then its end, which is tested (20) only where the ends make the size, that is without ByteSize. The tests in their order: 1, 2, 3; of the
 -- entry 11, 12; 9 and what its Member records refuse; member by member its size and end; 8.
+use Rattle.std.specs.Prelude.{Option, Some, None}
 use Rattle.std.specs.Prelude.{ℕ, ◌+◌, ◌/◌, Bool, true, false, cond, List, [], ◌∷◌, length, leb}
 use Rattle.tables.specs.Table.{Table, Rows, table_rows}
 use Rattle.lent.specs.Outcome.{Outcome}
@@ -16,12 +17,8 @@ use Rattle.records.specs.Scan.{run_of}
 use Rattle.records.specs.Fields.{word_of}
 use Rattle.records.specs.MemberWords.{name_place, name_length}
 use Rattle.records.specs.Unions.{RowMember}
-use Rattle.records.specs.declared.fields.Word.{Word}
-use Rattle.records.specs.declared.fields.Word.TheVariants as word
 use Rattle.sizes.specs.Size.{inner_size, is_structure, with_end, member_size, members_of, shape_of}
 use Rattle.layout.specs.declared.one.Layout.{Layout}
-use Rattle.layout.specs.declared.one.LayoutRead.{LayoutRead}
-use Rattle.layout.specs.declared.one.LayoutRead.TheVariants as layout
 
 -- a member in a layout: offset, size, and its name's bytes in the section
 pub record Laid : Type 0 where
@@ -38,12 +35,6 @@ pub record Lay : Type 0 where
 -- the same, in short
 abbrev pub lay : List Laid → ℕ → Lay
 lay members largest = record { members = members; largest = largest }
-
--- what an answer says
-unfoldable pub said_layout_read : LayoutRead → Said Layout
-said_layout_read (layout.Is x) = gives x
-said_layout_read (layout.Refused why) = refusal why
-said_layout_read (layout.Room many) = wanting (many ∷ [])
 
 -- a member with its size; without a name, place and length are 0
 unfoldable pub laid_member : RowMember → ℕ → Laid
@@ -65,17 +56,17 @@ module _ (rows : List ℕ) (size_of : «Type» → Said ℕ) (sized : Bool) wher
     gives (lay (laid_member m size ∷ rest.members) rest.largest)
 
 -- there is a ByteSize
-unfoldable pub has_byte_size : Word → Bool
-has_byte_size (word.Is size) = true
-has_byte_size word.Nothing = false
+unfoldable pub has_byte_size : Option ℕ → Bool
+has_byte_size (Some size) = true
+has_byte_size None = false
 
 -- ByteSize, or else the largest end
-unfoldable pub size_or_largest : ℕ → Word → ℕ
-size_or_largest largest (word.Is size) = size
-size_or_largest largest word.Nothing = largest
+unfoldable pub size_or_largest : ℕ → (Option ℕ) → ℕ
+size_or_largest largest (Some size) = size
+size_or_largest largest None = largest
 
 -- row i's ByteSize
-unfoldable pub own_size : Settings → List ℕ → List ℕ → List ℕ → ℕ → Word
+unfoldable pub own_size : Settings → List ℕ → List ℕ → List ℕ → ℕ → (Option ℕ)
 own_size settings s rows attrs i = word_of s attrs (run_of settings.endian rows i) attribute.byte_size
 
 module _ (settings : Settings) (t : Rows) (size_of : «Type» → Said ℕ) (i : ℕ) where

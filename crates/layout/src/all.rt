@@ -1,11 +1,12 @@
 // Every structure's and class's layout of a table, in file order, in one call that tests the table once. The sizes of all rows are taken first, so that the
 // row sizes taken are at most rows times depth.
+ghost use Rattle.tables.specs.Table.{table_of, table_rows};
+ghost use Rattle.format.specs.Said.{said};
 ghost use Rattle.std.specs.Prelude.{◌≡◌, ◌*◌, ◌≤◌, length};
 ghost use Rattle.std.proofs.lemmas.List.Edits.{sets};
-ghost use Rattle.tables.specs.Table.{table, lent_rows};
 ghost use Rattle.lent.specs.Outcome.{BothGiven};
-ghost use Rattle.sizes.specs.Size.{said_sized, type_size};
-ghost use Rattle.layout.specs.Inside.Layout.{said_layout_whole};
+ghost use Rattle.sizes.specs.Inside.Lent.{over, over_sizes};
+ghost use Rattle.sizes.specs.Size.{type_size};
 ghost use Rattle.sizes.specs.Inside.Size.{TableReady, type_size_from};
 ghost use Rattle.sizes.specs.Inside.Noted.{noted_width};
 ghost use Rattle.layout.specs.Inside.Levels.{deepest, FillAsked};
@@ -16,33 +17,23 @@ ghost use Rattle.layout.specs.Inside.All.{WholesTold, RowCounted, AllCounted, Pu
 
 use crate::keep::keep_rows;
 use crate::levels::fill_noted;
-use crate::one::{LAID_WIDTH, LayoutWhole, read_layout};
+use crate::one::{LAID_WIDTH, Layout, read_layout};
 use format::attribute_kind::NAME;
-use format::refusal::{Refusal, number_of};
-use format::settings::Settings;
-use lent::words::put_word;
-use records::fields::{Name, last_name};
+use format::refusal::{Refusal, Unfilled, number_of};
+use lent::cells::put;
+use records::fields::{Text, last_name};
 use records::member_words::{name_length, name_place};
 use records::scan::run_of;
 use sizes::noted::{noted_at, put_noted};
 use sizes::prepare::is_structure;
-use sizes::sized::Sized;
-use tables::row::{Counts, row_at};
-use tables::tests::{Tested, test_table};
+use tables::row::row_at;
+use tables::table::Table;
+use tables::tests::test_table;
 
 #[derive(Clone, Copy)]
 pub struct LayoutCounts {
     pub structures: usize,
     pub members: usize,
-}
-
-#[derive(Clone, Copy)]
-pub enum AllLayouts {
-    // How many structures and classes there are, and how many members of those that have a layout.
-    Are(LayoutCounts),
-    Refused(Refusal),
-    // Refusal 8, at 0: how many there are.
-    Room(LayoutCounts),
 }
 
 // The words of a structure: row; 0, size and 0, or a refusal's number, 0 and place; its first member, and how many; place and length of its name.
@@ -55,6 +46,7 @@ const KNOWN_WORDS: usize = 12288;
 const KEPT_WORDS: usize = 36864;
 
 // One structure more, with so many members.
+#[tactic(auto, unfolding(crate::specs::Inside::All::counted_on))]
 fn one_more(counts: LayoutCounts, members: usize) -> LayoutCounts
     requires { OneMore counts members }
     ensures { result ≡ counted_on counts members }
@@ -66,82 +58,60 @@ fn one_more(counts: LayoutCounts, members: usize) -> LayoutCounts
 }
 
 // What is kept of a layout between counting and writing: its size, or why it is refused.
-fn size_told(answer: LayoutWhole) -> Sized
-    ensures { said_sized result ≡ whole_told (said_layout_whole answer) }
+fn size_told(answer: Result<Layout, Refusal>) -> Result<u32, Refusal>
+    ensures { said result ≡ whole_told (said answer) }
 {
-    match answer {
-        LayoutWhole::Is(found) => Sized::Is(found.size),
-        LayoutWhole::Refused(why) => Sized::Refused(why),
-    }
+    let found = answer?;
+    Ok(found.size)
 }
 
 // Row i counted too, if it is a structure, and what its layout tells kept.
 fn count_row(
-    s: &[u8],
-    settings: Settings,
-    sizes: &[u32],
-    rows: &[u32],
-    attrs: &[u32],
-    n: usize,
+    t: &Table<'_>,
     noted: &[u64],
     kept: &[u64],
     told: &mut [u64],
     i: usize,
     counts: LayoutCounts,
 ) -> LayoutCounts
-    requires { CountAsked s.now rows.now n i counts ×
-        (n * noted_width ≤ length told.old × AllKept settings sizes.now s.now rows.now attrs.now n noted.now kept.now) }
-    ensures { RowCounted settings s.now rows.now attrs.now n
-        (type_size_from settings sizes.now s.now rows.now attrs.now n noted.now 0) i counts result
+    requires { CountAsked t.now.section.now t.now.rows.now t.now.counts.rows i counts ×
+        (t.now.counts.rows * noted_width ≤ length told.old × over_sizes AllKept t.now noted.now kept.now) }
+    ensures { over RowCounted t.now
+        (over_sizes type_size_from t.now noted.now 0) i counts result
         told.old told.new }
 {
-    let row = row_at(rows, i);
+    let row = row_at(t.rows, i);
     if !is_structure(row.kind) {
         return counts;
     }
     let mut none = [0u64; 0];
-    let answer = read_layout(
-        s, settings, sizes, rows, attrs, n, noted, kept, 0, i, &mut none,
-    );
+    let answer = read_layout(t, noted, kept, 0, i, &mut none);
     put_noted(told, i, size_told(answer));
     match answer {
-        LayoutWhole::Is(found) => one_more(counts, found.members),
-        LayoutWhole::Refused(_) => one_more(counts, 0),
+        Ok(found) => one_more(counts, found.members),
+        Err(_) => one_more(counts, 0),
     }
 }
 
 // How many structures and members there are, whatever the room.
-fn count_layouts(
-    s: &[u8],
-    settings: Settings,
-    sizes: &[u32],
-    rows: &[u32],
-    attrs: &[u32],
-    n: usize,
-    noted: &[u64],
-    kept: &[u64],
-    told: &mut [u64],
-) -> LayoutCounts
-    requires { FillAsked s.now rows.now n told.old × AllKept settings sizes.now s.now rows.now attrs.now n noted.now kept.now }
-    ensures { AllCounted settings s.now rows.now attrs.now n
-        (type_size_from settings sizes.now s.now rows.now attrs.now n noted.now 0) result
+fn count_layouts(t: &Table<'_>, noted: &[u64], kept: &[u64], told: &mut [u64]) -> LayoutCounts
+    requires { FillAsked t.now.section.now t.now.rows.now t.now.counts.rows told.old × over_sizes AllKept t.now noted.now kept.now }
+    ensures { over AllCounted t.now
+        (over_sizes type_size_from t.now noted.now 0) result
         told.new }
 {
     let mut counts = LayoutCounts {
         structures: 0,
         members: 0,
     };
-    let mut i: usize = 0;
-    while i < n {
-        counts = count_row(
-            s, settings, sizes, rows, attrs, n, noted, kept, told, i, counts,
-        );
-        i += 1;
+    for i in 0..t.counts.rows {
+        counts = count_row(t, noted, kept, told, i, counts);
     }
     counts
 }
 
 // The words of structure number k, if they fit.
+#[tactic(auto, unfolding(crate::specs::Inside::All::eight_words))]
 fn put_structure(
     structures: &mut [u64],
     k: usize,
@@ -151,31 +121,26 @@ fn put_structure(
     place: u64,
     first: usize,
     members: usize,
-    name: Name,
+    name: Option<Text>,
 )
     ensures { structures.new ≡ sets structures.old (k * structure_width) (eight_words row number size place first members name) }
 {
     if k < structures.len() {
         let at = k * STRUCTURE_WIDTH;
-        put_word(structures, at, row as u64);
-        put_word(structures, at + 1, number as u64);
-        put_word(structures, at + 2, size as u64);
-        put_word(structures, at + 3, place);
-        put_word(structures, at + 4, first as u64);
-        put_word(structures, at + 5, members as u64);
-        put_word(structures, at + 6, name_place(name));
-        put_word(structures, at + 7, name_length(name));
+        put(structures, at, row as u64);
+        put(structures, at + 1, number as u64);
+        put(structures, at + 2, size as u64);
+        put(structures, at + 3, place);
+        put(structures, at + 4, first as u64);
+        put(structures, at + 5, members as u64);
+        put(structures, at + 6, name_place(name));
+        put(structures, at + 7, name_length(name));
     }
 }
 
 // Row i, if it is a structure: its words after those of the others, its members after theirs.
 fn put_row(
-    s: &[u8],
-    settings: Settings,
-    sizes: &[u32],
-    rows: &[u32],
-    attrs: &[u32],
-    n: usize,
+    t: &Table<'_>,
     noted: &[u64],
     kept: &[u64],
     told: &[u64],
@@ -184,38 +149,30 @@ fn put_row(
     structures: &mut [u64],
     members: &mut [u64],
 ) -> LayoutCounts
-    requires { PutAsked s.now rows.now n i counts members.old ×
-        (WholesTold settings s.now rows.now attrs.now n (type_size_from settings sizes.now s.now rows.now attrs.now n noted.now 0) n
-        told.now × AllKept settings sizes.now s.now rows.now attrs.now n noted.now kept.now) }
-    ensures { Puts (row_structures settings s.now rows.now attrs.now n
-        (type_size_from settings sizes.now s.now rows.now attrs.now n noted.now 0) i) counts result
+    requires { PutAsked t.now.section.now t.now.rows.now t.now.counts.rows i counts members.old ×
+        (over WholesTold t.now (over_sizes type_size_from t.now noted.now 0) t.now.counts.rows
+        told.now × over_sizes AllKept t.now noted.now kept.now) }
+    ensures { Puts (over row_structures t.now
+        (over_sizes type_size_from t.now noted.now 0) i) counts result
         structures.old structures.new members.old members.new }
 {
-    let row = row_at(rows, i);
+    let row = row_at(t.rows, i);
     if !is_structure(row.kind) {
         return counts;
     }
-    let e = settings.endian;
-    let name = last_name(s, attrs, run_of(e, rows, i), NAME);
+    let name = last_name(
+        t.section,
+        t.attrs,
+        run_of(t.settings.endian, t.rows, i),
+        NAME,
+    );
     let k = counts.structures;
     let first = counts.members;
     match noted_at(told, i) {
-        Sized::Is(_) => {
+        Ok(_) => {
             let from = first * LAID_WIDTH;
-            match read_layout(
-                s,
-                settings,
-                sizes,
-                rows,
-                attrs,
-                n,
-                noted,
-                kept,
-                0,
-                i,
-                &mut members[from..],
-            ) {
-                LayoutWhole::Is(found) => {
+            match read_layout(t, noted, kept, 0, i, &mut members[from..]) {
+                Ok(found) => {
                     put_structure(
                         structures,
                         k,
@@ -230,16 +187,15 @@ fn put_row(
                     one_more(counts, found.members)
                 }
                 // What was told of it was a size.
-                LayoutWhole::Refused(_) => counts,
+                Err(_) => counts,
             }
         }
-        Sized::Refused(why) => {
-            let reason = why.reason;
+        Err(why) => {
             put_structure(
                 structures,
                 k,
                 i,
-                number_of(reason),
+                number_of(why.reason),
                 0,
                 why.place,
                 first,
@@ -253,129 +209,86 @@ fn put_row(
 
 // All of them written; the rooms were found long enough.
 fn put_layouts(
-    s: &[u8],
-    settings: Settings,
-    sizes: &[u32],
-    rows: &[u32],
-    attrs: &[u32],
-    n: usize,
+    t: &Table<'_>,
     noted: &[u64],
     kept: &[u64],
     told: &[u64],
     structures: &mut [u64],
     members: &mut [u64],
 )
-    requires { PutsAsked s.now rows.now n (structures_from settings (lent_rows settings.endian s.now rows.now attrs.now n)
-        (type_size_from settings sizes.now s.now rows.now attrs.now n noted.now 0) 0 n) members.old ×
-        (WholesTold settings s.now rows.now attrs.now n (type_size_from settings sizes.now s.now rows.now attrs.now n noted.now 0) n
-        told.now × AllKept settings sizes.now s.now rows.now attrs.now n noted.now kept.now) }
-    ensures { PutAll (structures_from settings (lent_rows settings.endian s.now rows.now attrs.now n)
-        (type_size_from settings sizes.now s.now rows.now attrs.now n noted.now 0) 0 n)
+    requires { PutsAsked t.now.section.now t.now.rows.now t.now.counts.rows (structures_from t.now.settings (table_rows (table_of t.now))
+        (over_sizes type_size_from t.now noted.now 0) 0 t.now.counts.rows) members.old ×
+        (over WholesTold t.now (over_sizes type_size_from t.now noted.now 0) t.now.counts.rows
+        told.now × over_sizes AllKept t.now noted.now kept.now) }
+    ensures { PutAll (structures_from t.now.settings (table_rows (table_of t.now))
+        (over_sizes type_size_from t.now noted.now 0) 0 t.now.counts.rows)
         structures.old structures.new members.old members.new }
 {
     let mut counts = LayoutCounts {
         structures: 0,
         members: 0,
     };
-    let mut i: usize = 0;
-    while i < n {
-        counts = put_row(
-            s, settings, sizes, rows, attrs, n, noted, kept, told, i, counts, structures, members,
-        );
-        i += 1;
+    for i in 0..t.counts.rows {
+        counts = put_row(t, noted, kept, told, i, counts, structures, members);
     }
 }
 
 // Counted first, so that with too little room nothing is written; what each layout tells is kept meanwhile, so that none is laid in vain.
 fn give_layouts(
-    s: &[u8],
-    settings: Settings,
-    sizes: &[u32],
-    rows: &[u32],
-    attrs: &[u32],
-    n: usize,
+    t: &Table<'_>,
     noted: &[u64],
     kept: &[u64],
     told: &mut [u64],
     structures: &mut [u64],
     members: &mut [u64],
-) -> AllLayouts
-    requires { FillAsked s.now rows.now n told.old × AllKept settings sizes.now s.now rows.now attrs.now n noted.now kept.now }
+) -> Result<LayoutCounts, Unfilled<LayoutCounts>>
+    requires { FillAsked t.now.section.now t.now.rows.now t.now.counts.rows told.old × over_sizes AllKept t.now noted.now kept.now }
     ensures { BothGiven (layouts_into structures.old members.old
-        (structures_from settings (lent_rows settings.endian s.now rows.now attrs.now n)
-        (type_size_from settings sizes.now s.now rows.now attrs.now n noted.now 0) 0 n))
+        (structures_from t.now.settings (table_rows (table_of t.now))
+        (over_sizes type_size_from t.now noted.now 0) 0 t.now.counts.rows))
         (said_all_layouts result) structures.new members.new }
 {
-    let needed = count_layouts(s, settings, sizes, rows, attrs, n, noted, kept, told);
+    let needed = count_layouts(t, noted, kept, told);
     if needed.structures > structures.len() / STRUCTURE_WIDTH {
-        return AllLayouts::Room(needed);
+        return Err(Unfilled::Room(needed));
     }
     if needed.members > members.len() / LAID_WIDTH {
-        return AllLayouts::Room(needed);
+        return Err(Unfilled::Room(needed));
     }
-    put_layouts(
-        s, settings, sizes, rows, attrs, n, noted, kept, told, structures, members,
-    );
-    AllLayouts::Are(needed)
+    put_layouts(t, noted, kept, told, structures, members);
+    Ok(needed)
 }
 
 // Each row is read once, then the sizes of all rows are taken.
 fn lay_all(
-    s: &[u8],
-    settings: Settings,
-    sizes: &[u32],
-    rows: &[u32],
-    attrs: &[u32],
-    n: usize,
+    t: &Table<'_>,
     structures: &mut [u64],
     members: &mut [u64],
-) -> AllLayouts
-    requires { TableReady s.now rows.now n }
+) -> Result<LayoutCounts, Unfilled<LayoutCounts>>
+    requires { TableReady t.now.section.now t.now.rows.now t.now.counts.rows }
     ensures { BothGiven (layouts_into structures.old members.old
-        (structures_from settings (lent_rows settings.endian s.now rows.now attrs.now n)
-        (type_size settings sizes.now (lent_rows settings.endian s.now rows.now attrs.now n) deepest) 0
-        n))
+        (structures_from t.now.settings (table_rows (table_of t.now))
+        (type_size t.now.settings t.now.sizes.now (table_rows (table_of t.now)) deepest) 0
+        t.now.counts.rows))
         (said_all_layouts result) structures.new members.new }
 {
     let mut kept = [0u64; KEPT_WORDS];
-    keep_rows(s, settings, sizes, rows, attrs, n, &mut kept);
+    keep_rows(t, &mut kept);
     let mut noted = [0u64; KNOWN_WORDS];
     let mut next = [0u64; KNOWN_WORDS];
-    fill_noted(
-        s, settings, sizes, rows, attrs, n, &kept, &mut noted, &mut next,
-    );
-    give_layouts(
-        s, settings, sizes, rows, attrs, n, &noted, &kept, &mut next, structures, members,
-    )
+    fill_noted(t, &kept, &mut noted, &mut next);
+    give_layouts(t, &noted, &kept, &mut next, structures, members)
 }
 
 // Every structure's and class's layout, their words and their members' into lent rooms; or a refusal, and both stay as they were.
 pub fn all_layouts(
-    s: &[u8],
-    settings: Settings,
-    vendors: &[u16],
-    sizes: &[u32],
-    rows: &[u32],
-    attrs: &[u32],
-    counts: Counts,
+    t: &Table<'_>,
     structures: &mut [u64],
     members: &mut [u64],
-) -> AllLayouts
-    ensures { BothGiven (all_layouts (table s.now settings vendors.now sizes.now rows.now
-        attrs.now counts) structures.old members.old) (said_all_layouts result) structures.new
+) -> Result<LayoutCounts, Unfilled<LayoutCounts>>
+    ensures { BothGiven (all_layouts (table_of t.now) structures.old members.old) (said_all_layouts result) structures.new
         members.new }
 {
-    match test_table(s, settings, vendors, sizes, rows, attrs, counts) {
-        Tested::Passed => lay_all(
-            s,
-            settings,
-            sizes,
-            rows,
-            attrs,
-            counts.rows,
-            structures,
-            members,
-        ),
-        Tested::Refused(why) => AllLayouts::Refused(why),
-    }
+    test_table(t)?;
+    lay_all(t, structures, members)
 }

@@ -2,7 +2,8 @@
 -- call each other: here the entry's size is a function of "the size of a type", and the levels that are left fall from an entry to those it names.
 -- The tests in their order: 1, 2, 3; of the entry 11, 10, 12; what its row refuses, all of it read whole; what the sizes that it asks for refuse,
 -- and 20. `size_of_key` and `size_of_type`, at the end, are the public calls.
-use Rattle.std.specs.Prelude.{ℕ, zero, suc, ◌+◌, ◌*◌, ◌-◌, Bool, true, false, cond, List, [], ◌∷◌, length, get_or, drop, eqb, leb, ltb}
+use Rattle.std.specs.Prelude.{ℕ, zero, suc, ◌+◌, ◌*◌, ◌-◌, Bool, true, false, cond, List, [], ◌∷◌, length, get_or, drop}
+use Rattle.std.specs.Prelude.{eqb, leb, ltb, Option, Some, None}
 use Rattle.tables.specs.Table.{Table, Rows, table_rows}
 use Rattle.numbers.specs.declared.Endian.{Endian}
 use Rattle.format.specs.Lookup.{Line, ◌means◌, lookup, index_of}
@@ -10,12 +11,13 @@ use Rattle.format.specs.FundType.{fund_types}
 use Rattle.format.specs.AttributeKind as attribute
 use Rattle.format.specs.TagKind as tag
 use Rattle.format.specs.Limits.{depth_limit}
-use Rattle.format.specs.Said.{Said, gives, refuse, refusal, must, ◌>>=◌, ◌>>◌, placed}
+use Rattle.format.specs.Said.{Said, gives, refuse, must, ◌>>=◌, ◌>>◌, placed}
 use Rattle.format.specs.declared.settings.Settings.{Settings}
 use Rattle.format.specs.declared.refusal.Reason.TheVariants as reason
 use Rattle.attributes.specs.Parts.{block_at}
 use Rattle.blocks.specs.Subscript.{Part, dimension, element, next_subscript}
-use Rattle.blocks.specs.Subscripts.{Array, count_subscripts}
+use Rattle.blocks.specs.Subscripts.{count_subscripts}
+use Rattle.blocks.specs.declared.subscripts.Array.{Array}
 use Rattle.blocks.specs.declared.types.Type.{«Type»}
 use Rattle.blocks.specs.declared.types.TypeKind.{TypeKind}
 use Rattle.blocks.specs.declared.types.TypeKind.TheVariants as kind
@@ -23,8 +25,6 @@ use Rattle.tables.specs.Row.{row_at}
 use Rattle.tables.specs.Find.{row_of_key}
 use Rattle.tables.specs.Tests.{test_table}
 use Rattle.tables.specs.Keyed.{found_row}
-use Rattle.tables.specs.declared.find.Found.{Found}
-use Rattle.tables.specs.declared.find.Found.TheVariants as found
 use Rattle.links.specs.Walk.{Walk, ends, endless}
 use Rattle.links.specs.Links.{child_walk, non_null}
 use Rattle.records.specs.Scan.{run_of, attribute_at, faults_from}
@@ -34,21 +34,12 @@ use Rattle.records.specs.Enumeration.{enumeration_at}
 use Rattle.records.specs.PtrToMember.{ptr_at}
 use Rattle.records.specs.declared.scan.Run.{Run}
 use Rattle.records.specs.declared.fields.Sought.TheVariants as sought
-use Rattle.records.specs.declared.fields.Word.{Word}
-use Rattle.records.specs.declared.fields.Word.TheVariants as word
 use Rattle.sizes.specs.declared.prepare.Shape.{Shape}
 use Rattle.sizes.specs.declared.prepare.Shape.TheVariants as shape
-use Rattle.sizes.specs.declared.sized.Sized.{Sized}
-use Rattle.sizes.specs.declared.sized.Sized.TheVariants.{Is, Refused}
 
 -- a size has 32 bits
 abbrev pub size_limit : ℕ
 size_limit = 0xFFFFFFFF
-
--- what an answer says
-unfoldable pub said_sized : Sized → Said ℕ
-said_sized (Is size) = gives size
-said_sized (Refused why) = refusal why
 
 -- ---- a type
 
@@ -98,9 +89,9 @@ module _ (e : Endian) (key : ℕ) where
   product_of block size = product_from (length block) size block
 
 -- where an attribute that is needed stands in the table: 15 without
-unfoldable pub needed_at : ℕ → Found → Said ℕ
-needed_at key (found.At k) = gives k
-needed_at key found.Nothing = refuse reason.Missing key
+unfoldable pub needed_at : ℕ → Option ℕ → Said ℕ
+needed_at key (Some k) = gives k
+needed_at key None = refuse reason.Missing key
 
 module _ (s attrs : List ℕ) (run : Run) where
   -- the block that is attribute k of the table: its length in data endianness, what is in it in section endianness
@@ -148,9 +139,9 @@ module _ (settings : Settings) (t : Rows) where
   members_of i = member_rows_by (row_at t.rows i).key (child_walk t i)
 
 -- a ByteSize of its own, else its type's size
-unfoldable pub size_or : («Type» → Said ℕ) → «Type» → Word → Said ℕ
-size_or type_size t (word.Is size) = gives size
-size_or type_size t word.Nothing = type_size t
+unfoldable pub size_or : («Type» → Said ℕ) → «Type» → Option ℕ → Said ℕ
+size_or type_size t (Some size) = gives size
+size_or type_size t None = type_size t
 
 -- a member's size
 unfoldable pub member_size : («Type» → Said ℕ) → RowMember → Said ℕ
@@ -176,9 +167,9 @@ module _ (rows : List ℕ) (type_size : «Type» → Said ℕ) where
     ends_from next ms
 
   -- ByteSize, or else the largest member end; with a ByteSize no member's size is taken
-  unfoldable pub size_or_ends : List RowMember → Word → Said ℕ
-  size_or_ends ms (word.Is size) = gives size
-  size_or_ends ms word.Nothing = ends_from 0 ms
+  unfoldable pub size_or_ends : List RowMember → Option ℕ → Said ℕ
+  size_or_ends ms (Some size) = gives size
+  size_or_ends ms None = ends_from 0 ms
 
 -- ---- the kinds of rows that have a size
 

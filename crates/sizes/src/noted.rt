@@ -2,31 +2,30 @@
 ghost use Rattle.std.specs.Prelude.{◌≡◌, ◌+◌, ◌*◌, ◌≤◌, [], ◌∷◌, length, get_or};
 ghost use Rattle.std.proofs.lemmas.List.Edits.{sets};
 ghost use Rattle.sizes.specs.Inside.Noted.{noted_at, noted_width, PutNoted};
-ghost use Rattle.format.specs.Said.{gives, refusal};
-ghost use Rattle.sizes.specs.Size.{said_sized};
+ghost use Rattle.format.specs.Said.{gives, refusal, said};
 
-use crate::sized::Sized;
 use format::refusal::{Refusal, number_of, reason_of};
-use lent::words::{put_word, word};
+use lent::cells::{get_or, put};
 
 // The words of a size.
 pub const KNOWN_WIDTH: usize = 3;
 
 // The size of row i.
-pub fn noted_at(noted: &[u64], i: usize) -> Sized
-    ensures { said_sized result ≡ noted_at noted.now i }
+#[tactic(auto, unfolding(crate::specs::Inside::Noted::noted_at, format::specs::Said::said))]
+pub fn noted_at(noted: &[u64], i: usize) -> Result<u32, Refusal>
+    ensures { said result ≡ noted_at noted.now i }
 {
     if i >= noted.len() {
-        return Sized::Is(0);
+        return Ok(0);
     }
     let at = i * KNOWN_WIDTH;
-    let number = word(noted, at);
+    let number = get_or(noted, at, 0);
     if number == 0 {
-        Sized::Is((word(noted, at + 1) % 4294967296) as u32)
+        Ok((get_or(noted, at + 1, 0) % 4294967296) as u32)
     } else {
-        Sized::Refused(Refusal {
+        Err(Refusal {
             reason: reason_of((number % 4294967296) as u32),
-            place: word(noted, at + 2),
+            place: get_or(noted, at + 2, 0),
         })
     }
 }
@@ -38,9 +37,9 @@ fn put_three(noted: &mut [u64], at: usize, number: u64, size: u64, place: u64)
     requires { at + 3 ≤ length noted.old }
     ensures { noted.new ≡ sets noted.old at (number ∷ size ∷ place ∷ []) }
 {
-    put_word(noted, at, number);
-    put_word(noted, at + 1, size);
-    put_word(noted, at + 2, place);
+    put(noted, at, number);
+    put(noted, at + 1, size);
+    put(noted, at + 2, place);
 }
 
 fn put_size(noted: &mut [u64], i: usize, size: u32)
@@ -66,12 +65,13 @@ pub fn put_refusal(noted: &mut [u64], i: usize, why: Refusal)
 }
 
 // Row i's size among the noted ones.
-pub fn put_noted(noted: &mut [u64], i: usize, size: Sized)
+#[tactic(auto, unfolding(format::specs::Said::said))]
+pub fn put_noted(noted: &mut [u64], i: usize, size: Result<u32, Refusal>)
     requires { i * noted_width + noted_width ≤ length noted.old }
-    ensures { PutNoted i (said_sized size) noted.old noted.new }
+    ensures { PutNoted i (said size) noted.old noted.new }
 {
     match size {
-        Sized::Is(size) => put_size(noted, i, size),
-        Sized::Refused(why) => put_refusal(noted, i, why),
+        Ok(size) => put_size(noted, i, size),
+        Err(why) => put_refusal(noted, i, why),
     }
 }

@@ -1,34 +1,34 @@
 // What an entry's size takes before any other size is asked for: the row's kind, an array's subscripts, a structure's members and every record are read whole.
+ghost use Rattle.format.specs.Said.{said};
 ghost use Rattle.std.specs.Prelude.{◌≡◌};
 ghost use Rattle.links.specs.Inside.Children.{Asked};
 ghost use Rattle.records.specs.Inside.Enumeration.{AskedShort};
-ghost use Rattle.sizes.specs.Size.{is_structure, shape_of, subscript_block};
+ghost use Rattle.sizes.specs.Size.{is_structure, shape_of, subscript_block, subscripts_at};
 ghost use Rattle.links.specs.Inside.EachChild.{children_at};
-ghost use Rattle.records.specs.Inside.Scan.{said_fault};
 ghost use Rattle.records.specs.Inside.Unions.{EndsAt};
 ghost use Rattle.sizes.specs.Inside.Kept.{fault_kept, FaultsKept, RowsKept, StructureAsked};
 ghost use Rattle.sizes.specs.Inside.Prepare.{SmallPlace, member_fault, members_fault, structure_fault, prepared_array, prepared_structure};
 ghost use Rattle.sizes.specs.Inside.Prepare.{said_prepared, prepared_enumeration, prepared_union, prepared_pointer, prepared_row};
+ghost use Rattle.sizes.specs.Inside.Lent.{over, over_rows};
 
 use crate::kept::{KEPT, kept_sibling};
 use crate::noted::noted_at;
-use crate::sized::Sized;
 use attributes::decode::block2;
-use blocks::subscripts::{ArrayRead, count_subscripts};
+use blocks::subscripts::{Array, count_subscripts};
 use blocks::types::Type;
 use format::attribute_kind::{BYTE_SIZE, SUBSCR_DATA};
 use format::refusal::{Reason, Refusal};
-use format::settings::Settings;
-use links::any_child::{Walked, any_child};
+use links::any_child::any_child;
 use links::each_child::child_from;
 use links::link::next_row;
-use records::enumeration::{EnumerationWhole, enumeration_at};
-use records::fields::{Word, last_word};
-use records::member::{MemberRead, member_at};
-use records::ptr_to_member::{PtrToMemberRead, ptr_to_member_at};
-use records::scan::{Fault, Run, attribute_at, placed, refused, run_of};
-use records::unions::{UnionWhole, union_at};
+use records::enumeration::enumeration_at;
+use records::fields::last_word;
+use records::member::member_at;
+use records::ptr_to_member::ptr_to_member_at;
+use records::scan::{Run, attribute_at, placed, refused, run_of};
+use records::unions::union_at;
 use tables::row::row_at;
+use tables::table::Table;
 
 // How a row comes to its size.
 #[derive(Clone, Copy)]
@@ -49,7 +49,6 @@ pub enum Prepared {
     Size(u32),
     Element { of: Type, at: usize },
     Ends,
-    Refused(Refusal),
 }
 
 // How a row of this kind comes to its size.
@@ -90,6 +89,7 @@ pub fn is_structure(kind: u32) -> bool
 // ---- arrays
 
 // The block of subscripts that is attribute k of the table.
+#[tactic(auto, unfolding(crate::specs::Size::subscript_block))]
 pub(crate) fn subscript_block<'a>(s: &'a [u8], attrs: &[u32], run: Run, k: usize) -> &'a [u8]
     ensures { result.now ≡ subscript_block s.now attrs.now run k }
 {
@@ -98,255 +98,156 @@ pub(crate) fn subscript_block<'a>(s: &'a [u8], attrs: &[u32], run: Run, k: usize
     block2(s, attribute.value, ends)
 }
 
-// Every SubscrData is read; the last counts, and one is needed.
-fn prepare_array(s: &[u8], attrs: &[u32], run: Run) -> Prepared
-    ensures { said_prepared result ≡ prepared_array s.now attrs.now run }
+// The array that attribute k says; what is wrong with it is told at the row.
+fn subscripts_at(s: &[u8], attrs: &[u32], run: Run, k: usize) -> Result<Array, Refusal>
+    ensures { said result ≡ subscripts_at s.now attrs.now run k }
 {
     let ends = run.ends;
-    let e = ends.section;
-    let count = run.count as usize;
-    let mut last = Prepared::Refused(refused(Reason::Missing, run.key));
-    let mut j: usize = 0;
-    while j < count {
+    let block = subscript_block(s, attrs, run, k);
+    count_subscripts(block, ends.section).map_err(|why| placed(why, run.key))
+}
+
+// Every SubscrData is read; the last counts, and one is needed.
+fn prepare_array(s: &[u8], attrs: &[u32], run: Run) -> Result<Prepared, Refusal>
+    ensures { said_prepared result ≡ prepared_array s.now attrs.now run }
+{
+    let mut last = None;
+    for j in 0..run.count as usize {
         let k = run.first as usize + j;
         let attribute = attribute_at(attrs, k);
         if attribute.number == SUBSCR_DATA {
-            match count_subscripts(subscript_block(s, attrs, run, k), e) {
-                ArrayRead::Are {
-                    element,
-                    dimensions: _,
-                } => {
-                    last = Prepared::Element { of: element, at: k };
-                    j += 1;
-                }
-                ArrayRead::Refused(why) => return Prepared::Refused(placed(why, run.key)),
-            }
-        } else {
-            j += 1;
+            let array = subscripts_at(s, attrs, run, k)?;
+            last = Some(Prepared::Element {
+                of: array.element,
+                at: k,
+            });
         }
     }
-    last
+    last.ok_or(refused(Reason::Missing, run.key))
 }
 
 // ---- structures and classes
 
 // The fault of a row as it is kept.
-fn fault_kept(kept: &[u64], c: usize) -> Fault
+fn fault_kept(kept: &[u64], c: usize) -> Result<(), Refusal>
     requires { SmallPlace c }
-    ensures { said_fault result ≡ fault_kept kept.now c }
+    ensures { said result ≡ fault_kept kept.now c }
 {
-    match noted_at(kept, c * KEPT) {
-        Sized::Is(_) => Fault::Clear,
-        Sized::Refused(why) => Fault::Refused(why),
-    }
+    noted_at(kept, c * KEPT)?;
+    Ok(())
 }
 
 // A child: a member must be read whole, any other is passed over.
-fn member_fault(
-    s: &[u8],
-    settings: Settings,
-    rows: &[u32],
-    attrs: &[u32],
-    n: usize,
-    kept: &[u64],
-    c: usize,
-) -> Fault
-    requires { Asked rows.now n c × FaultsKept settings s.now rows.now attrs.now n kept.now }
-    ensures { said_fault result ≡ member_fault settings s.now rows.now attrs.now n c }
+fn member_fault(t: &Table<'_>, kept: &[u64], c: usize) -> Result<(), Refusal>
+    requires { Asked t.now.rows.now t.now.counts.rows c × over FaultsKept t.now kept.now }
+    ensures { said result ≡ over member_fault t.now c }
 {
-    let row = row_at(rows, c);
+    let row = row_at(t.rows, c);
     if row.kind != 0x0d {
-        return Fault::Clear;
+        return Ok(());
     }
     if kept.len() > 0 {
         return fault_kept(kept, c);
     }
-    match member_at(s, settings, rows, attrs, n, c) {
-        MemberRead::Is(_) => Fault::Clear,
-        MemberRead::Refused(why) => Fault::Refused(why),
-    }
+    member_at(t, c)?;
+    Ok(())
 }
 
 // The children of row i, whose walk ends, one at a time.
-fn members_fault(
-    s: &[u8],
-    settings: Settings,
-    rows: &[u32],
-    attrs: &[u32],
-    n: usize,
-    kept: &[u64],
-    i: usize,
-) -> Fault
-    requires { EndsAt settings.endian s.now rows.now attrs.now n i × FaultsKept settings s.now rows.now attrs.now n kept.now }
-    ensures { said_fault result ≡ members_fault settings s.now rows.now attrs.now n
-        (children_at settings.endian s.now rows.now attrs.now n i) }
+fn members_fault(t: &Table<'_>, kept: &[u64], i: usize) -> Result<(), Refusal>
+    requires { over_rows EndsAt t.now i × over FaultsKept t.now kept.now }
+    ensures { said result ≡ over members_fault t.now (over_rows children_at t.now i) }
 {
-    let e = settings.endian;
-    let end = kept_sibling(s, e, rows, attrs, n, kept, i);
-    let mut c = child_from(s, e, rows, attrs, n, end, next_row(rows, n, i));
-    while c < n {
-        match member_fault(s, settings, rows, attrs, n, kept, c) {
-            Fault::Clear => {
-                c = child_from(
-                    s,
-                    e,
-                    rows,
-                    attrs,
-                    n,
-                    end,
-                    kept_sibling(s, e, rows, attrs, n, kept, c),
-                );
-            }
-            Fault::Refused(why) => return Fault::Refused(why),
-        }
+    let end = kept_sibling(t, kept, i);
+    let mut c = child_from(t, end, next_row(t.rows, t.counts.rows, i));
+    while c < t.counts.rows {
+        member_fault(t, kept, c)?;
+        c = child_from(t, end, kept_sibling(t, kept, c));
     }
-    Fault::Clear
+    Ok(())
 }
 
 // 9 where the walk never ends.
-pub fn structure_fault(
-    s: &[u8],
-    settings: Settings,
-    rows: &[u32],
-    attrs: &[u32],
-    n: usize,
-    kept: &[u64],
-    i: usize,
-) -> Fault
-    requires { Asked rows.now n i × FaultsKept settings s.now rows.now attrs.now n kept.now }
-    ensures { said_fault result ≡ structure_fault settings s.now rows.now attrs.now n i }
+pub fn structure_fault(t: &Table<'_>, kept: &[u64], i: usize) -> Result<(), Refusal>
+    requires { Asked t.now.rows.now t.now.counts.rows i × over FaultsKept t.now kept.now }
+    ensures { said result ≡ over structure_fault t.now i }
 {
-    let e = settings.endian;
-    let row = row_at(rows, i);
-    match any_child(s, e, rows, attrs, n, i) {
-        Walked::Ended(_) => members_fault(s, settings, rows, attrs, n, kept, i),
-        Walked::Endless => Fault::Refused(refused(Reason::Link, row.key)),
+    match any_child(t, i) {
+        Some(_) => members_fault(t, kept, i),
+        None => {
+            let row = row_at(t.rows, i);
+            Err(refused(Reason::Link, row.key))
+        }
     }
 }
 
 // The same of a structure, if it is kept.
-pub fn kept_fault(
-    s: &[u8],
-    settings: Settings,
-    rows: &[u32],
-    attrs: &[u32],
-    n: usize,
-    kept: &[u64],
-    i: usize,
-) -> Fault
-    requires { StructureAsked settings s.now rows.now attrs.now n kept.now i }
-    ensures { said_fault result ≡ structure_fault settings s.now rows.now attrs.now n i }
+pub fn kept_fault(t: &Table<'_>, kept: &[u64], i: usize) -> Result<(), Refusal>
+    requires { over StructureAsked t.now kept.now i }
+    ensures { said result ≡ over structure_fault t.now i }
 {
     if kept.len() > 0 {
         fault_kept(kept, i)
     } else {
-        structure_fault(s, settings, rows, attrs, n, kept, i)
+        structure_fault(t, kept, i)
     }
 }
 
 // ByteSize, or else the largest member end.
-fn prepare_structure(
-    s: &[u8],
-    settings: Settings,
-    rows: &[u32],
-    attrs: &[u32],
-    n: usize,
-    kept: &[u64],
-    i: usize,
-) -> Prepared
-    requires { StructureAsked settings s.now rows.now attrs.now n kept.now i }
-    ensures { said_prepared result ≡ prepared_structure settings s.now rows.now attrs.now n i }
+fn prepare_structure(t: &Table<'_>, kept: &[u64], i: usize) -> Result<Prepared, Refusal>
+    requires { over StructureAsked t.now kept.now i }
+    ensures { said_prepared result ≡ over prepared_structure t.now i }
 {
-    match kept_fault(s, settings, rows, attrs, n, kept, i) {
-        Fault::Clear => {
-            let e = settings.endian;
-            let run = run_of(e, rows, i);
-            match last_word(s, attrs, run, BYTE_SIZE) {
-                Word::Is(size) => Prepared::Size(size),
-                Word::Nothing => Prepared::Ends,
-            }
-        }
-        Fault::Refused(why) => Prepared::Refused(why),
+    kept_fault(t, kept, i)?;
+    let run = run_of(t.settings.endian, t.rows, i);
+    match last_word(t.section, t.attrs, run, BYTE_SIZE) {
+        Some(size) => Ok(Prepared::Size(size)),
+        None => Ok(Prepared::Ends),
     }
 }
 
 // ---- the others: read whole
 
-fn prepare_enumeration(
-    s: &[u8],
-    settings: Settings,
-    rows: &[u32],
-    attrs: &[u32],
-    n: usize,
-    i: usize,
-) -> Prepared
-    requires { AskedShort s.now rows.now n i }
-    ensures { said_prepared result ≡ prepared_enumeration settings s.now rows.now attrs.now n i }
+fn prepare_enumeration(t: &Table<'_>, i: usize) -> Result<Prepared, Refusal>
+    requires { AskedShort t.now.section.now t.now.rows.now t.now.counts.rows i }
+    ensures { said_prepared result ≡ over prepared_enumeration t.now i }
 {
-    match enumeration_at(s, settings, rows, attrs, n, i) {
-        EnumerationWhole::Is(found) => Prepared::Size(found.byte_size),
-        EnumerationWhole::Refused(why) => Prepared::Refused(why),
-    }
+    let found = enumeration_at(t, i)?;
+    Ok(Prepared::Size(found.byte_size))
 }
 
-fn prepare_union(
-    s: &[u8],
-    settings: Settings,
-    rows: &[u32],
-    attrs: &[u32],
-    n: usize,
-    i: usize,
-) -> Prepared
-    requires { Asked rows.now n i }
-    ensures { said_prepared result ≡ prepared_union settings s.now rows.now attrs.now n i }
+fn prepare_union(t: &Table<'_>, i: usize) -> Result<Prepared, Refusal>
+    requires { Asked t.now.rows.now t.now.counts.rows i }
+    ensures { said_prepared result ≡ over prepared_union t.now i }
 {
-    match union_at(s, settings, rows, attrs, n, i) {
-        UnionWhole::Is(found) => Prepared::Size(found.byte_size),
-        UnionWhole::Refused(why) => Prepared::Refused(why),
-    }
+    let found = union_at(t, i)?;
+    Ok(Prepared::Size(found.byte_size))
 }
 
-fn prepare_pointer(
-    s: &[u8],
-    settings: Settings,
-    rows: &[u32],
-    attrs: &[u32],
-    n: usize,
-    i: usize,
-) -> Prepared
-    requires { Asked rows.now n i }
-    ensures { said_prepared result ≡ prepared_pointer settings s.now rows.now attrs.now n i }
+fn prepare_pointer(t: &Table<'_>, i: usize) -> Result<Prepared, Refusal>
+    requires { Asked t.now.rows.now t.now.counts.rows i }
+    ensures { said_prepared result ≡ over prepared_pointer t.now i }
 {
-    match ptr_to_member_at(s, settings, rows, attrs, n, i) {
-        PtrToMemberRead::Is(_) => Prepared::Size(4),
-        PtrToMemberRead::Refused(why) => Prepared::Refused(why),
-    }
+    ptr_to_member_at(t, i)?;
+    Ok(Prepared::Size(4))
 }
 
 // Row i of a tested table.
-pub(crate) fn prepare_row(
-    s: &[u8],
-    settings: Settings,
-    rows: &[u32],
-    attrs: &[u32],
-    n: usize,
-    kept: &[u64],
-    i: usize,
-) -> Prepared
-    requires { AskedShort s.now rows.now n i × RowsKept settings s.now rows.now attrs.now n kept.now }
-    ensures { said_prepared result ≡ prepared_row settings s.now rows.now attrs.now n i }
+pub(crate) fn prepare_row(t: &Table<'_>, kept: &[u64], i: usize) -> Result<Prepared, Refusal>
+    requires { AskedShort t.now.section.now t.now.rows.now t.now.counts.rows i × over RowsKept t.now kept.now }
+    ensures { said_prepared result ≡ over prepared_row t.now i }
 {
-    let row = row_at(rows, i);
+    let row = row_at(t.rows, i);
     match shape_of(row.kind) {
         Shape::Array => {
-            let e = settings.endian;
-            prepare_array(s, attrs, run_of(e, rows, i))
+            let run = run_of(t.settings.endian, t.rows, i);
+            prepare_array(t.section, t.attrs, run)
         }
-        Shape::Structure => prepare_structure(s, settings, rows, attrs, n, kept, i),
-        Shape::Enumeration => prepare_enumeration(s, settings, rows, attrs, n, i),
-        Shape::Union => prepare_union(s, settings, rows, attrs, n, i),
-        Shape::PtrToMember => prepare_pointer(s, settings, rows, attrs, n, i),
-        Shape::Subroutine => Prepared::Size(0),
-        Shape::Other => Prepared::Refused(refused(Reason::Kind, row.key)),
+        Shape::Structure => prepare_structure(t, kept, i),
+        Shape::Enumeration => prepare_enumeration(t, i),
+        Shape::Union => prepare_union(t, i),
+        Shape::PtrToMember => prepare_pointer(t, i),
+        Shape::Subroutine => Ok(Prepared::Size(0)),
+        Shape::Other => Err(refused(Reason::Kind, row.key)),
     }
 }

@@ -1,36 +1,34 @@
 // A row's size in stages: each comes to the size, or waits for the size of a type, with which the next one goes on. So no record stands on the stack while
 // a type's size is taken.
+ghost use Rattle.tables.specs.Table.{table_of, table_rows};
 ghost use Rattle.std.specs.Prelude.{suc, length};
-ghost use Rattle.tables.specs.Table.{lent_rows};
 ghost use Rattle.links.specs.Inside.Children.{Asked};
 ghost use Rattle.records.specs.Inside.Enumeration.{AskedShort};
 ghost use Rattle.sizes.specs.Size.{row_size};
 ghost use Rattle.sizes.specs.Inside.Size.{array_product, ends_over};
 ghost use Rattle.sizes.specs.Inside.Stage.{PartSays, FromAsked, Awaits, MemberStaged, Staged, children_on, children_after, stage_size, stage_turns};
 ghost use Rattle.sizes.specs.declared.stage.Stage.TheVariants.{Member};
+ghost use Rattle.sizes.specs.Inside.Lent.{over};
 
 use crate::prepare::{Prepared, prepare_row};
 use crate::size::{array_product, grown};
-use crate::sized::Sized;
 use blocks::types::Type;
 use format::refusal::Refusal;
-use format::settings::Settings;
 use links::each_child::child_from;
 use links::link::{next_row, sibling_row};
-use records::fields::Word;
-use records::member::{MemberRead, member_at};
+use records::member::member_at;
 use tables::row::row_at;
+use tables::table::Table;
 
 // The largest end with that of a child: it is known, or the size of the member's type is wanted.
 #[derive(Clone, Copy)]
 pub enum Part {
     Ends(u32),
     Typed { offset: u32, of: Type },
-    Refused(Refusal),
 }
 
-// Where a row's size goes on: at the beginning; an array at its attribute; a structure at a member's row, with the largest end before it. The row has 32 bits here,
-// which keeps a stage at 16 bytes.
+// Where a row's size goes on: at the beginning; an array at its attribute; a structure at a member's row, with the largest end before it. The row has 32 bits
+// here, which keeps a stage at 16 bytes.
 #[derive(Clone, Copy)]
 pub enum Stage {
     Begin,
@@ -43,204 +41,115 @@ pub enum Stage {
 pub enum Wait {
     Nothing(u32),
     Type { of: Type, stage: Stage },
-    Refused(Refusal),
 }
 
 // Child c: a member has a size of its own or its type's, any other child is passed over.
-fn child_part(
-    s: &[u8],
-    settings: Settings,
-    rows: &[u32],
-    attrs: &[u32],
-    n: usize,
-    c: usize,
-    largest: u32,
-) -> Part
-    requires { Asked rows.now n c }
-    ensures { PartSays settings s.now rows.now attrs.now n c largest result }
+fn child_part(t: &Table<'_>, c: usize, largest: u32) -> Result<Part, Refusal>
+    requires { Asked t.now.rows.now t.now.counts.rows c }
+    ensures { over PartSays t.now c largest result }
 {
-    let row = row_at(rows, c);
+    let row = row_at(t.rows, c);
     if row.kind != 0x0d {
-        return Part::Ends(largest);
+        return Ok(Part::Ends(largest));
     }
-    match member_at(s, settings, rows, attrs, n, c) {
-        MemberRead::Is(member) => {
-            let own = member.byte_size;
-            let of = member.of;
-            match own {
-                Word::Is(size) => match grown(rows, c, largest, member.offset, size) {
-                    Sized::Is(next) => Part::Ends(next),
-                    Sized::Refused(why) => Part::Refused(why),
-                },
-                Word::Nothing => Part::Typed {
-                    offset: member.offset,
-                    of,
-                },
-            }
+    let member = member_at(t, c)?;
+    match member.byte_size {
+        Some(size) => {
+            let next = grown(t.rows, c, largest, member.offset, size)?;
+            Ok(Part::Ends(next))
         }
-        MemberRead::Refused(why) => Part::Refused(why),
+        None => Ok(Part::Typed {
+            offset: member.offset,
+            of: member.of,
+        }),
     }
 }
 
 // The children of row i from a row on, up to the first whose type's size is wanted; `most` is the largest end before them.
-fn members_from(
-    s: &[u8],
-    settings: Settings,
-    rows: &[u32],
-    attrs: &[u32],
-    n: usize,
-    i: usize,
-    from: usize,
-    most: u32,
-) -> Wait
-    requires { FromAsked settings s.now rows.now attrs.now n i from }
-    ensures { Awaits settings s.now rows.now attrs.now n i
-        (λ size_of. ends_over settings s.now rows.now attrs.now n size_of most
-        (children_on settings s.now rows.now attrs.now n i from))
-        (length (children_on settings s.now rows.now attrs.now n i from)) result }
+fn members_from(t: &Table<'_>, i: usize, from: usize, most: u32) -> Result<Wait, Refusal>
+    requires { over FromAsked t.now i from }
+    ensures { over Awaits t.now i
+        (λ size_of. over ends_over t.now size_of most (over children_on t.now i from)) (length (over children_on t.now i from)) result }
 {
-    let e = settings.endian;
-    let end = sibling_row(s, e, rows, attrs, n, i);
-    let mut c = child_from(s, e, rows, attrs, n, end, from);
+    let end = sibling_row(t, i);
+    let mut c = child_from(t, end, from);
     let mut largest = most;
-    while c < n {
-        match child_part(s, settings, rows, attrs, n, c, largest) {
+    while c < t.counts.rows {
+        match child_part(t, c, largest)? {
             Part::Ends(next) => {
                 largest = next;
-                c = child_from(
-                    s,
-                    e,
-                    rows,
-                    attrs,
-                    n,
-                    end,
-                    sibling_row(s, e, rows, attrs, n, c),
-                );
+                c = child_from(t, end, sibling_row(t, c));
             }
             Part::Typed { offset, of } => {
-                return Wait::Type {
+                return Ok(Wait::Type {
                     of,
                     stage: Stage::Member {
                         at: c as u32,
                         offset,
                         largest,
                     },
-                };
+                });
             }
-            Part::Refused(why) => return Wait::Refused(why),
         }
     }
-    Wait::Nothing(largest)
+    Ok(Wait::Nothing(largest))
 }
 
 // The first stage: all of the row is read before any size is taken.
-fn begun(s: &[u8], settings: Settings, rows: &[u32], attrs: &[u32], n: usize, i: usize) -> Wait
-    requires { AskedShort s.now rows.now n i }
-    ensures { Awaits settings s.now rows.now attrs.now n i
-        (λ size_of. row_size settings (lent_rows settings.endian s.now rows.now attrs.now n) size_of i) (suc n) result }
+fn begun(t: &Table<'_>, i: usize) -> Result<Wait, Refusal>
+    requires { AskedShort t.now.section.now t.now.rows.now t.now.counts.rows i }
+    ensures { over Awaits t.now i
+        (λ size_of. row_size t.now.settings (table_rows (table_of t.now)) size_of i) (suc t.now.counts.rows) result }
 {
     let none = [0u64; 0];
-    match prepare_row(s, settings, rows, attrs, n, &none, i) {
-        Prepared::Size(size) => Wait::Nothing(size),
-        Prepared::Element { of, at } => Wait::Type {
+    match prepare_row(t, &none, i)? {
+        Prepared::Size(size) => Ok(Wait::Nothing(size)),
+        Prepared::Element { of, at } => Ok(Wait::Type {
             of,
             stage: Stage::Element(at),
-        },
-        Prepared::Ends => { members_from(s, settings, rows, attrs, n, i, next_row(rows, n, i), 0) }
-        Prepared::Refused(why) => Wait::Refused(why),
+        }),
+        Prepared::Ends => members_from(t, i, next_row(t.rows, t.counts.rows, i), 0),
     }
 }
 
 // The element's size times the dimensions.
-fn multiplied(
-    s: &[u8],
-    settings: Settings,
-    rows: &[u32],
-    attrs: &[u32],
-    n: usize,
-    i: usize,
-    at: usize,
-    size: u32,
-) -> Wait
-    ensures { Awaits settings s.now rows.now attrs.now n i
-        (λ size_of. array_product settings s.now rows.now attrs.now i at size) 0 result }
+fn multiplied(t: &Table<'_>, i: usize, at: usize, size: u32) -> Result<Wait, Refusal>
+    ensures { over Awaits t.now i
+        (λ size_of. array_product t.now.settings t.now.section.now t.now.rows.now t.now.attrs.now i at size) 0 result }
 {
-    match array_product(s, settings, rows, attrs, i, at, size) {
-        Sized::Is(product) => Wait::Nothing(product),
-        Sized::Refused(why) => Wait::Refused(why),
-    }
+    let product = array_product(t, i, at, size)?;
+    Ok(Wait::Nothing(product))
 }
 
 // The member's end, then the children behind it.
 fn grown_on(
-    s: &[u8],
-    settings: Settings,
-    rows: &[u32],
-    attrs: &[u32],
-    n: usize,
+    t: &Table<'_>,
     i: usize,
     c: usize,
     offset: u32,
     largest: u32,
     size: u32,
-) -> Wait
-    requires { MemberStaged settings s.now rows.now attrs.now n i c }
-    ensures { Awaits settings s.now rows.now attrs.now n i
-        (λ size_of. stage_size settings s.now rows.now attrs.now n i size_of (Member c offset largest) size)
-        (length (children_after settings s.now rows.now attrs.now n i c)) result }
+) -> Result<Wait, Refusal>
+    requires { over MemberStaged t.now i c }
+    ensures { over Awaits t.now i
+        (λ size_of. over stage_size t.now i size_of (Member c offset largest) size) (length (over children_after t.now i c)) result }
 {
-    match grown(rows, c, largest, offset, size) {
-        Sized::Is(next) => {
-            let e = settings.endian;
-            members_from(
-                s,
-                settings,
-                rows,
-                attrs,
-                n,
-                i,
-                sibling_row(s, e, rows, attrs, n, c),
-                next,
-            )
-        }
-        Sized::Refused(why) => Wait::Refused(why),
-    }
+    let next = grown(t.rows, c, largest, offset, size)?;
+    members_from(t, i, sibling_row(t, c), next)
 }
 
 // The next stage of row i, with the size that was waited for.
-pub(crate) fn next_stage(
-    s: &[u8],
-    settings: Settings,
-    rows: &[u32],
-    attrs: &[u32],
-    n: usize,
-    i: usize,
-    stage: Stage,
-    size: u32,
-) -> Wait
-    requires { Staged settings s.now rows.now attrs.now n i stage }
-    ensures { Awaits settings s.now rows.now attrs.now n i
-        (λ size_of. stage_size settings s.now rows.now attrs.now n i size_of stage size)
-        (stage_turns settings s.now rows.now attrs.now n i stage) result }
+pub(crate) fn next_stage(t: &Table<'_>, i: usize, stage: Stage, size: u32) -> Result<Wait, Refusal>
+    requires { over Staged t.now i stage }
+    ensures { over Awaits t.now i (λ size_of. over stage_size t.now i size_of stage size) (over stage_turns t.now i stage) result }
 {
     match stage {
-        Stage::Begin => begun(s, settings, rows, attrs, n, i),
-        Stage::Element(at) => multiplied(s, settings, rows, attrs, n, i, at, size),
+        Stage::Begin => begun(t, i),
+        Stage::Element(at) => multiplied(t, i, at, size),
         Stage::Member {
             at,
             offset,
             largest,
-        } => grown_on(
-            s,
-            settings,
-            rows,
-            attrs,
-            n,
-            i,
-            at as usize,
-            offset,
-            largest,
-            size,
-        ),
+        } => grown_on(t, i, at as usize, offset, largest, size),
     }
 }

@@ -1,4 +1,9 @@
 -- What follows from `All` and its ways, for each way that the code comes to an answer.
+use Rattle.std.specs.Prelude.{Option, Result, Ok, Err, IsErrAnd}
+use Rattle.std.proofs.lemmas.Result.{err_from_is_err_and}
+use Rattle.format.specs.declared.refusal.Refusal.{Refusal}
+use Rattle.format.specs.declared.refusal.Unfilled.{Unfilled}
+use Rattle.format.specs.declared.refusal.Unfilled.TheVariants as unfilled
 use Prim.Native.Nat.{ℕ, suc, ◌+◌, ◌-◌, ◌*◌, ◌/◌, ◌≤◌, ◌<◌}
 use native.Mathlib.Nat.{add-zero, zero-add, add_assoc}
 use native.Mathlib.Decide.{dec_le}
@@ -15,8 +20,8 @@ use Rattle.numbers.proofs.Laws.Tests.{cond-all}
 use Rattle.format.specs.Limits.{entry_limit}
 use Rattle.format.specs.TagKind as tag
 use Rattle.format.specs.AttributeKind as attribute
-use Rattle.format.specs.Said.{Said, gives, refuses, refuse, wanting, ◌>>=◌, ◌>>◌, fills_rooms}
-use Rattle.format.proofs.Laws.Said.{Of, of-next, of_test, given_is, given-refused, step-gave}
+use Rattle.format.specs.Said.{Said, said, gives, refuses, refuse, wanting, ◌>>=◌, ◌>>◌, in_rooms, fills_rooms}
+use Rattle.format.proofs.Laws.Said.{Of, of-next, of_test, given_is, given-refused, step-gave, refused-there}
 use Rattle.format.specs.declared.settings.Settings.{Settings}
 use Rattle.format.specs.declared.refusal.Reason.TheVariants as reason
 use Rattle.blocks.specs.declared.types.Type.{«Type»}
@@ -29,10 +34,10 @@ use Rattle.links.specs.Links.{sibling_row, next_row, child_walk, non_null}
 use Rattle.links.specs.Inside.EachChild.{rows_met, walk_on, children_from}
 use Rattle.links.proofs.Laws.EachChild.{few-children}
 use Rattle.records.specs.Scan.{run_of}
+use Rattle.records.specs.declared.fields.Text.{Text}
 use Rattle.records.specs.Fields.{name_of}
 use Rattle.records.specs.MemberWords.{name_place, name_length}
 use Rattle.records.specs.declared.scan.Run.{Run}
-use Rattle.records.specs.declared.fields.Name.{Name}
 use Rattle.records.specs.Member.{member_at}
 use Rattle.records.specs.Unions.{RowMember, member_then}
 use Rattle.records.specs.declared.member.Member.{Member}
@@ -49,9 +54,7 @@ use Rattle.layout.proofs.Laws.Layout.{words_long}
 use Rattle.layout.specs.All.{said_all_layouts, Structure, laid_of, also_if, structure_at, structures_from, answer_words, structure_width, structure_words, all_member_words, member_count, counts_of, layouts_into}
 use Rattle.layout.specs.Inside.All.{row_structures, eight_words, counted_on, counted_with, OneMore, CountAsked, whole_told, WholesTold, RowCounted, PutAsked, Puts, PutsAsked, PutAll}
 use Rattle.layout.specs.declared.one.Layout.{Layout}
-use Rattle.layout.specs.declared.one.LayoutWhole.{LayoutWhole}
 use Rattle.layout.specs.declared.all.LayoutCounts.{LayoutCounts}
-use Rattle.layout.specs.declared.all.AllLayouts.TheVariants as all
 
 -- ---- how many members there are at most
 
@@ -148,7 +151,7 @@ structure-append first (x ∷ xs) ys =
     ∙ sym (append_assoc (answer_words x.row x.name first x.answer) (structure_words (first + length x.members) xs)
     (structure_words (first + (length x.members + member_count xs)) ys))
 
-pub answer-long : (row first : ℕ) (name : Name) (d : Said Layout) → length (answer_words row name first d) ≡ structure_width
+pub answer-long : (row first : ℕ) (name : (Option Text)) (d : Said Layout) → length (answer_words row name first d) ≡ structure_width
 unfolding answer_words
 answer-long row first name (gives x) = refl
 answer-long row first name (refuses number place counts) = refl
@@ -257,7 +260,7 @@ module _ (settings : Settings) (s rows attrs : List ℕ) (n : ℕ) (size_of : «
         }
 
     module _ (t : b ≡ true) (counts : LayoutCounts) where
-      name-is : {run : Run} {name : Name} → run ≡ run_of settings.endian rows i → name ≡ name_of s attrs run attribute.name
+      name-is : {run : Run} {name : (Option Text)} → run ≡ run_of settings.endian rows i → name ≡ name_of s attrs run attribute.name
           → name ≡ name_of s attrs (run_of settings.endian rows i) attribute.name
       name-is p q = q ∙ ap (λ (r : Run). name_of s attrs r attribute.name) p
 
@@ -312,7 +315,7 @@ module _ (settings : Settings) (s rows attrs : List ℕ) (n : ℕ) (size_of : «
             → size ≡ whole_told told → PutNoted i size table table' → r ≡ counted_on counts x.members → RowCounted settings s rows attrs n size_of i counts r table table'
         count-given a z g q = counted-told (given_counted q) a z g
 
-        pub puts-given : {run : Run} {name : Name} {r : LayoutCounts} {structures structures' room part' : List ℕ} {again : LayoutWhole}
+        pub puts-given : {run : Run} {name : (Option Text)} {r : LayoutCounts} {structures structures' room part' : List ℕ} {again : (Result Layout Refusal)}
             → run ≡ run_of settings.endian rows i → name ≡ name_of s attrs run attribute.name → WholeLaid (layout_at settings (lent_rows settings.endian s rows attrs n) size_of i) (row_lay settings (lent_rows settings.endian s rows attrs n) size_of i) again
             (take (length room - counts.members * laid_width) (drop (counts.members * laid_width) room)) part'
             → structures' ≡ sets structures (counts.structures * structure_width) (eight_words i 0 x.size 0 counts.members x.members name)
@@ -326,7 +329,7 @@ module _ (settings : Settings) (s rows attrs : List ℕ) (n : ℕ) (size_of : «
             in
             record {
               counts_are = given_counted q;
-              structures_are = put_one structures (ap₂ (λ (y : Name) (d : Said Layout). answer_words i y counts.members d) (name-is at' is') p) e;
+              structures_are = put_one structures (ap₂ (λ (y : (Option Text)) (d : Said Layout). answer_words i y counts.members d) (name-is at' is') p) e;
               members_are =
                   members-one room (ap laid_of these.1) (sets-rest room (counts.members * laid_width) (laid_words these.0.members) (g.room_is these.0 these.1));
             }
@@ -343,7 +346,7 @@ module _ (settings : Settings) (s rows attrs : List ℕ) (n : ℕ) (size_of : «
             → size ≡ whole_told told → PutNoted i size table table' → r ≡ counted_on counts 0 → RowCounted settings s rows attrs n size_of i counts r table table'
         count-refused a z g q = counted-told (refused-counted q) a z g
 
-        pub puts-refused : {run : Run} {name : Name} {r : LayoutCounts} {structures structures' room : List ℕ} {told : ℕ}
+        pub puts-refused : {run : Run} {name : (Option Text)} {r : LayoutCounts} {structures structures' room : List ℕ} {told : ℕ}
             → run ≡ run_of settings.endian rows i → name ≡ name_of s attrs run attribute.name → told ≡ number
             → structures' ≡ sets structures (counts.structures * structure_width) (eight_words i told 0 place counts.members 0 name)
             → r ≡ counted_on counts 0 → Puts (row_structures settings s rows attrs n size_of i) counts r structures structures' room room
@@ -354,7 +357,7 @@ module _ (settings : Settings) (s rows attrs : List ℕ) (n : ℕ) (size_of : «
               structures_are =
                   put_one structures
                   (ap (λ (k : ℕ). eight_words i k 0 place counts.members 0 name) m
-                  ∙ ap₂ (λ (y : Name) (d : Said Layout). answer_words i y counts.members d) (name-is at' is') p) e;
+                  ∙ ap₂ (λ (y : (Option Text)) (d : Said Layout). answer_words i y counts.members d) (name-is at' is') p) e;
               members_are = members-one room none-given refl;
             }
 
@@ -634,7 +637,7 @@ module _ (xs : List Structure) {needed : LayoutCounts} (is : needed ≡ counts_o
       record { ready = w; fits = omega arith }
 
   module _ (structures room : List ℕ) where
-    pub rooms-unlisted : length structures / structure_width < needed.structures → BothGiven (layouts_into structures room xs) (said_all_layouts (all.Room needed)) structures room
+    pub rooms-unlisted : length structures / structure_width < needed.structures → BothGiven (layouts_into structures room xs) (said_all_layouts (Err (unfilled.Room needed))) structures room
     unfolding said_all_layouts layouts_into fills_rooms
     rooms-unlisted h =
         let many : needed.structures ≡ length xs = needed-structures in
@@ -647,7 +650,7 @@ module _ (xs : List Structure) {needed : LayoutCounts} (is : needed ≡ counts_o
           let many : needed.structures ≡ length xs = needed-structures in
           le-leb (length xs) (length structures / structure_width) (omega arith)
 
-      pub rooms-unfit : length room / laid_width < needed.members → BothGiven (layouts_into structures room xs) (said_all_layouts (all.Room needed)) structures room
+      pub rooms-unfit : length room / laid_width < needed.members → BothGiven (layouts_into structures room xs) (said_all_layouts (Err (unfilled.Room needed))) structures room
       unfolding said_all_layouts layouts_into fills_rooms
       rooms-unfit l =
           let many : needed.members ≡ member_count xs = needed-members in
@@ -655,7 +658,7 @@ module _ (xs : List Structure) {needed : LayoutCounts} (is : needed ≡ counts_o
           given-as (wanted structures room ∙ sym (rw (listed, test)))
 
       pub rooms-filled : needed.members ≤ length room / laid_width → {structures' room' : List ℕ} → PutAll xs structures structures' room room'
-          → BothGiven (layouts_into structures room xs) (said_all_layouts (all.Are needed)) structures' room'
+          → BothGiven (layouts_into structures room xs) (said_all_layouts (Ok needed)) structures' room'
       unfolding said_all_layouts layouts_into fills_rooms
       rooms-filled l {structures'} {room'} g =
           let many : needed.members ≡ member_count xs = needed-members in
@@ -664,6 +667,16 @@ module _ (xs : List Structure) {needed : LayoutCounts} (is : needed ≡ counts_o
           (ap (λ (c : LayoutCounts). outcomes (gives c) structures' room') is
           ∙ ap₂ (outcomes (gives (counts_of xs))) g.structures_are g.members_are
           ∙ sym (rw (listed, test)))
+
+-- a refusal of the table, by `?`
+pub gone-layouts : {told : Result Unit Refusal} {d : Said Unit} {why : Refusal} → said told ≡ d → told ≡ Err why → (z : Result LayoutCounts (Unfilled LayoutCounts))
+    → IsErrAnd z (λ e. e ≡ unfilled.Refused why) → {structures structures' room room' : List ℕ} (next : Unit → Outcomes (Said LayoutCounts) ℕ ℕ) → structures' ≡ structures
+    → room' ≡ room → BothGiven (in_rooms structures room d next) (said_all_layouts z) structures' room'
+unfolding said_all_layouts in_rooms
+gone-layouts is was z exits {structures} {structures'} {room} {room'} next h k =
+    let out = err_from_is_err_and z exits in
+    subst (λ (y : Said Unit). BothGiven (in_rooms structures room y next) (said_all_layouts z) structures' room') (sym (refused-there is was))
+    (record { answer_is = ap said_all_layouts out.1 ∙ ap (λ (e : Unfilled LayoutCounts). said_all_layouts (Err e)) out.2; first_is = h; second_is = k })
 
 -- ---- the sizes of all rows are noted
 
@@ -677,7 +690,7 @@ all_noted settings sizes s rows attrs n ready noted w some structures room {stru
 
 -- ---- the words of a structure
 
-pub eight-put : (t : List ℕ) (at a b d e f g : ℕ) (name : Name) {place long : ℕ} {t₁ t₂ t₃ t₄ t₅ t₆ t₇ t₈ : List ℕ} → t₁ ≡ set t at a → t₂ ≡ set t₁ (at + 1) b
+pub eight-put : (t : List ℕ) (at a b d e f g : ℕ) (name : (Option Text)) {place long : ℕ} {t₁ t₂ t₃ t₄ t₅ t₆ t₇ t₈ : List ℕ} → t₁ ≡ set t at a → t₂ ≡ set t₁ (at + 1) b
     → t₃ ≡ set t₂ (at + 2) d → t₄ ≡ set t₃ (at + 3) e → t₅ ≡ set t₄ (at + 4) f → t₆ ≡ set t₅ (at + 5) g → place ≡ name_place name → t₇ ≡ set t₆ (at + 6) place
     → long ≡ name_length name → t₈ ≡ set t₇ (at + 7) long → t₈ ≡ sets t at (eight_words a b d e f g name)
 unfolding eight_words
@@ -691,5 +704,5 @@ eight-put t at a b d e f g name p q r u v w x y z o =
     let seven : at + 7 ≡ suc (suc (suc (suc (suc (suc (suc at)))))) = omega arith in
     o ∙ rw (y, w, v, u, r, q, p, x, z, one, two, three, four, five, six, seven)
 
-pub eight-out : (t : List ℕ) (k a b d e f g : ℕ) (name : Name) → length t ≤ k → t ≡ sets t (k * structure_width) (eight_words a b d e f g name)
+pub eight-out : (t : List ℕ) (k a b d e f g : ℕ) (name : (Option Text)) → length t ≤ k → t ≡ sets t (k * structure_width) (eight_words a b d e f g name)
 eight-out t k a b d e f g name h = sym (sets-out t (k * structure_width) (eight_words a b d e f g name) (omega arith))

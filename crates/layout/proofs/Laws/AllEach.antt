@@ -1,5 +1,8 @@
 -- All layouts are what the keys give one by one: every structure and class of the table is there once, in file order, with the layout or refusal that
 -- `layout_of_key` has for its key.
+use Rattle.std.specs.Prelude.{Result, Ok}
+use Rattle.format.specs.declared.refusal.Refusal.{Refusal}
+use Rattle.format.specs.Said.{said}
 use Prim.Native.Nat.{ℕ, zero, suc, ◌/◌, ◌<◌}
 use mathlib.Core.Path.{◌≡◌, refl, sym, ap, ◌∙◌}
 use mathlib.Core.Bool.{Bool, true, false, cond}
@@ -11,18 +14,13 @@ use Rattle.format.specs.declared.settings.Settings.{Settings}
 use Rattle.blocks.specs.declared.types.Type.{«Type»}
 use Rattle.tables.specs.Row.{row_at}
 use Rattle.tables.proofs.Laws.Find.{row-of-own-key}
-use Rattle.tables.specs.Tests.{said_tested, Tells}
+use Rattle.tables.specs.Tests.{Tells}
 use Rattle.tables.proofs.Laws.Tests.{passed-held}
 use Rattle.tables.proofs.Laws.Held.{held-rising}
 use Rattle.tables.specs.declared.row.Counts.{Counts}
-use Rattle.tables.specs.declared.tests.Tested.{Tested}
-use Rattle.tables.specs.declared.tests.Tested.TheVariants as tests
 use Rattle.format.specs.Said.{Said, gives, refuses, ◌>>=◌, ◌>>◌, in_room, fills_room}
-use Rattle.format.proofs.Laws.Said.{goes-past}
-use Rattle.tables.specs.Keyed.{row_of}
-use Rattle.tables.specs.Inside.Keyed.{said_keyed}
-use Rattle.tables.proofs.Laws.Keyed.{key-found}
-use Rattle.tables.specs.declared.keyed.Keyed.TheVariants as keyed
+use Rattle.format.proofs.Laws.Said.{comes-past}
+use Rattle.tables.specs.Keyed.{found_row, row_of}
 use Rattle.sizes.specs.Size.{inner_size, shape_of}
 use Rattle.layout.specs.Layout.{Lay, row_lay, layout_of, layout_at, laid_words, laid_width, layout_into, layout_of_key}
 use Rattle.sizes.specs.Size.{is_structure}
@@ -73,18 +71,17 @@ module _ (settings : Settings) (s rows attrs : List ℕ) (n : ℕ) (size_of : «
   unfolding layout_into layout_at structure_at given_alone
   into-alone = laid-alone (row_lay settings (lent_rows settings.endian s rows attrs n) size_of i)
 
-module _ {settings : Settings} {vendors sizes s rows attrs : List ℕ} {counts : Counts} {told : Tested} (is : Tells (table s settings vendors sizes rows attrs counts) told)
-    (p : told ≡ tests.Passed) where
-  own_row : (i : ℕ) → i < counts.rows → said_keyed (keyed.Row i) ≡ row_of (table s settings vendors sizes rows attrs counts) (row_at rows i).key
-  unfolding row_of said_tested ◌>>◌
+module _ {settings : Settings} {vendors sizes s rows attrs : List ℕ} {counts : Counts} {told : (Result Unit Refusal)} (is : Tells (table s settings vendors sizes rows attrs counts) told)
+    (p : told ≡ Ok tt) where
+  own_row : (i : ℕ) → i < counts.rows → said (Ok i) ≡ row_of (table s settings vendors sizes rows attrs counts) (row_at rows i).key
+  unfolding row_of found_row said
   own_row i l =
-      goes-past said_tested is.told p _
-      (key-found (row_at rows i).key refl (row-of-own-key (held-rising (passed-held is p)) i l))
+      comes-past is.told p _ (ap (found_row (row_at rows i).key) (sym (row-of-own-key (held-rising (passed-held is p)) i l)))
 
   -- what all layouts tell of row i is what its key gives
   pub each_layout : (i : ℕ) → i < counts.rows → (room : List ℕ) → layout_of_key (table s settings vendors sizes rows attrs counts) (row_at rows i).key room
       ≡ given_alone room (structure_at settings (lent_rows settings.endian s rows attrs counts.rows) (inner_size (table s settings vendors sizes rows attrs counts)) i)
-  unfolding layout_of_key said_keyed in_room
+  unfolding layout_of_key said in_room
   each_layout i l room =
       ap (λ (d : Said ℕ). in_room room d (layout_into settings (lent_rows settings.endian s rows attrs counts.rows) (inner_size (table s settings vendors sizes rows attrs counts)) room))
       (sym (own_row i l))

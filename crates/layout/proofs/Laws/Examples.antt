@@ -23,11 +23,11 @@ use Rattle.tables.specs.Row.{row_at, attr_at, endian_of, erased_row, ends_of}
 use Rattle.tables.specs.Table.{table}
 use Rattle.tables.specs.Tests.{test_table}
 use Rattle.tables.specs.Unit.{unit_of, units_hold}
-use Rattle.links.specs.Attribute.{reference_of, reference_by, attribute_of, attr_from, wants, as_reference}
+use Rattle.links.specs.Attribute.{reference_of, reference_by, attribute_of, attr_from, wants}
 use Rattle.links.specs.Links.{child_walk, next_row, next_from, sibling_row, sibling_by, row_number, non_null, null_row}
-use Rattle.links.specs.Typed.{word_at, as_value}
+use Rattle.links.specs.Typed.{word_at}
 use Rattle.links.specs.Walk.{walk_from, stops, meets}
-use Rattle.records.specs.Fields.{type_of, type_by, last_of, last_from, is_sought, offset_field, word_of, word_by, word_in, as_word, name_of, name_by, attribute_needed, location_block}
+use Rattle.records.specs.Fields.{type_of, type_by, last_of, last_from, is_sought, offset_field, word_of, word_by, word_in, name_of, name_by, needed, location_block}
 use Rattle.records.specs.Front.{front_of, head_of, kind_fault, kind_taken, childless_fault}
 use Rattle.records.specs.Member.{member_at, member_fields, bits_by}
 use Rattle.records.specs.MemberWords.{name_place, name_length}
@@ -42,5 +42,5 @@ use Rattle.layout.specs.Layout.{layout_of_key, row_lay, laid_from, end_or, laid_
 pub input-a : (size_of_key (table input_a settings_a [] sizes_a rows_a attrs_a counts_a) 0 ≡ gives 4)
     × (layout_of_key (table input_a settings_a [] sizes_a rows_a attrs_a counts_a) 0 (7 ∷ 7 ∷ 7 ∷ 7 ∷ 7 ∷ [])
     ≡ record { answer = gives (record { row = 0; size = 4; members = 1 }); room = 0 ∷ 4 ∷ 0 ∷ 0 ∷ 7 ∷ [] })
-unfolding size_of_key entry_size settings_hold vendors_hold roles_hold role_holds role_form roles_differ fund_types table_holds fitting rows_hold row_holds units_hold unit_of row_at is_on tags run_holds attr_holds known attribute_kinds attr_at value_end form_of lookup fixed_end there block_end read_at value_of endian_of row_of_key row_from row_size shape_size shape_of members_of member_rows_by child_walk walk_from stops next_row next_from erased_row sibling_row sibling_by reference_of reference_by attribute_of attr_from wants as_reference row_number meets member_rows_from non_null null_row member_child_then member_then member_at front_of head_of kind_fault kind_taken faults_from run_of fault_at attribute_fault takes taken_by attribute_at plays content_fault is_type process_type fund_type fundamental number_in known_number parse_int fund_type_of ends_of modified must ◌>>=◌ ◌>>◌ process_modifiers all_known shape_operand block_at part_at childless_fault member_fields type_of type_by last_of last_from is_sought offset_field bits_by word_of word_by size_or_ends word_in as_word word_at as_value layout_of_key row_lay is_structure laid_from end_or laid_member member_size size_or has_byte_size own_size size_or_largest layout_into laid_words name_place name_length name_of name_by type_size type_size_by kind_size fundamental_size index_of any_pointer operand_at placed in_room fills_room test_table row_of found_row attribute_needed location_block fault_of location_of layout_of
+unfolding size_of_key entry_size settings_hold vendors_hold roles_hold role_holds role_form roles_differ fund_types table_holds fitting rows_hold row_holds units_hold unit_of row_at is_on tags run_holds attr_holds known attribute_kinds attr_at value_end form_of lookup fixed_end there block_end read_at value_of endian_of row_of_key row_from row_size shape_size shape_of members_of member_rows_by child_walk walk_from stops next_row next_from erased_row sibling_row sibling_by reference_of reference_by attribute_of attr_from wants row_number meets member_rows_from non_null null_row member_child_then member_then member_at front_of head_of kind_fault kind_taken faults_from run_of fault_at attribute_fault takes taken_by attribute_at plays content_fault is_type process_type fund_type fundamental number_in known_number parse_int fund_type_of ends_of modified must ◌>>=◌ ◌>>◌ process_modifiers all_known shape_operand block_at part_at childless_fault member_fields type_of type_by last_of last_from is_sought offset_field bits_by word_of word_by size_or_ends word_in word_at layout_of_key row_lay is_structure laid_from end_or laid_member member_size size_or has_byte_size own_size size_or_largest layout_into laid_words name_place name_length name_of name_by type_size type_size_by kind_size fundamental_size index_of any_pointer operand_at placed in_room fills_room test_table row_of found_row needed location_block fault_of location_of layout_of
 input-a = (refl, refl)

@@ -1,4 +1,6 @@
 -- What follows from `Kept` for the code that keeps: what is told of a member, and that a row's answers stay while those of others are put.
+use Rattle.std.specs.Prelude.{Option, Some, None, Result, Ok, Err}
+use Rattle.format.specs.Said.{said}
 use Prim.Native.Nat.{ℕ, zero, suc, ◌+◌, ◌-◌, ◌*◌, ◌%◌, ◌≤◌, ◌<◌}
 use native.Mathlib.Nat.{le_refl}
 use native.Mathlib.Decide.{ℕ_discrete, dec_le}
@@ -22,46 +24,38 @@ use Rattle.tables.proofs.Laws.Find.{row-found}
 use Rattle.tables.specs.Inside.Keyed.{refused_at}
 use Rattle.tables.specs.Keyed.{found_row}
 use Rattle.tables.specs.declared.row.Row.{Row}
-use Rattle.tables.specs.declared.find.Found.{Found}
-use Rattle.tables.specs.declared.find.Found.TheVariants as found
 use Rattle.links.specs.Links.{next_from, next_row, row_number, sibling_by, sibling_row}
 use Rattle.links.specs.Attribute.{sibling_number, reference_of}
 use Rattle.links.specs.Inside.Children.{Asked}
-use Rattle.links.specs.declared.lookup.Reference.{Reference}
-use Rattle.links.specs.declared.lookup.Reference.TheVariants as reference
-use Rattle.records.specs.Member.{said_member_read, member_at}
-use Rattle.records.specs.declared.fields.Word.TheVariants as word
+use Rattle.records.specs.Member.{member_at}
 use Rattle.records.specs.declared.member.Member.{Member}
-use Rattle.records.specs.declared.member.MemberRead.{MemberRead}
-use Rattle.records.specs.declared.member.MemberRead.TheVariants as read
-use Rattle.sizes.specs.Size.{said_sized, type_size_by, size_or, shapes, shape_of}
+use Rattle.sizes.specs.Size.{type_size_by, size_or, shapes, shape_of}
 use Rattle.sizes.specs.Inside.Noted.{noted_at, PutNoted}
 use Rattle.sizes.specs.Inside.Prepare.{structure_fault}
 use Rattle.sizes.specs.Size.{is_structure}
 use Rattle.sizes.specs.Inside.Kept.{kept_width, row_named, size_named, first_of, second_of, fault_size, SecondKept, MembersKept, PartsKept, PutTwo, PutRow, PutFault, KeepAsked}
 use Rattle.sizes.proofs.Laws.Kept.{structure-test}
-use Rattle.sizes.specs.declared.sized.Sized.TheVariants.{Is, Refused}
 
 -- ---- a size, or the row of the entry that has it
 
-module _ (rows : List ℕ) (n key : ℕ) {told : Found} (is : told ≡ row_of_key rows n key) where
-  abbrev named : Found → Said ℕ
+module _ (rows : List ℕ) (n key : ℕ) {told : (Option ℕ)} (is : told ≡ row_of_key rows n key) where
+  abbrev named : Option ℕ → Said ℕ
   named f = found_row key f >>= λ i. refuse reason.Depth i
 
-  pub named-at : {i : ℕ} → told ≡ found.At i → said_sized (Refused (refused_at i reason.Depth)) ≡ row_named rows n key
-  unfolding said_sized row_named found_row ◌>>=◌
+  pub named-at : {i : ℕ} → told ≡ Some i → said (Err (refused_at i reason.Depth)) ≡ row_named rows n key
+  unfolding said row_named found_row ◌>>=◌
   named-at p = ap named (sym p ∙ is)
 
-  pub named_none : {why : Refusal} → told ≡ found.Nothing → why ≡ refused_at key reason.Entry → said_sized (Refused why) ≡ row_named rows n key
-  unfolding said_sized row_named found_row ◌>>=◌
+  pub named_none : {why : Refusal} → told ≡ None → why ≡ refused_at key reason.Entry → said (Err why) ≡ row_named rows n key
+  unfolding said row_named found_row ◌>>=◌
   named_none p q = ap refusal q ∙ ap named (sym p ∙ is)
 
 module _ (sizes rows : List ℕ) (n : ℕ) (m : Member) where
-  pub size-own : {size : ℕ} → m.byte_size ≡ word.Is size → said_sized (Is size) ≡ size_named sizes rows n m
-  unfolding said_sized size_named size_or
+  pub size-own : {size : ℕ} → m.byte_size ≡ Some size → said (Ok size) ≡ size_named sizes rows n m
+  unfolding said size_named size_or
   size-own p = ap (size_or (type_size_by sizes (row_named rows n)) m.of) (sym p)
 
-  pub size-typed : {r : Said ℕ} → m.byte_size ≡ word.Nothing → r ≡ type_size_by sizes (row_named rows n) m.of → r ≡ size_named sizes rows n m
+  pub size-typed : {r : Said ℕ} → m.byte_size ≡ None → r ≡ type_size_by sizes (row_named rows n) m.of → r ≡ size_named sizes rows n m
   unfolding size_named size_or
   size-typed p q = q ∙ ap (size_or (type_size_by sizes (row_named rows n)) m.of) (sym p)
 
@@ -73,15 +67,15 @@ next-within rows asking i zero n h = omega arith
 next-within rows asking i (suc k) n h =
     cond-all (λ r. r ≤ n) (asking || not (erased_row (row_at rows i).flags)) (λ t. omega arith) (λ t. next-within rows asking (suc i) k n (omega arith))
 
-number-within : (rows : List ℕ) (n key : ℕ) (f : Found) → row_of_key rows n key ≡ f → row_number n f ≤ n
+number-within : (rows : List ℕ) (n key : ℕ) (f : (Option ℕ)) → row_of_key rows n key ≡ f → row_number n f ≤ n
 unfolding row_number
-number-within rows n key (found.At j) p = let there : (j < n) × ((row_at rows j).key ≡ key) = row-found rows n key p in omega (arith, there.0)
-number-within rows n key found.Nothing p = le_refl n
+number-within rows n key (Some j) p = let there : (j < n) × ((row_at rows j).key ≡ key) = row-found rows n key p in omega (arith, there.0)
+number-within rows n key None p = le_refl n
 
-named-within : (rows : List ℕ) (n c : ℕ) → c < n → (r : Reference) → sibling_by rows n c r ≤ n
+named-within : (rows : List ℕ) (n c : ℕ) → c < n → (r : (Option ℕ)) → sibling_by rows n c r ≤ n
 unfolding sibling_by next_row
-named-within rows n c l (reference.To key) = number-within rows n key (row_of_key rows n key) refl
-named-within rows n c l reference.Nothing = next-within rows (erased_row (row_at rows c).flags) (suc c) (n - suc c) n (omega arith)
+named-within rows n c l (Some key) = number-within rows n key (row_of_key rows n key) refl
+named-within rows n c l None = next-within rows (erased_row (row_at rows c).flags) (suc c) (n - suc c) n (omega arith)
 
 pub sibling-within : (e : Endian) (s rows attrs : List ℕ) (n c : ℕ) → c < n → sibling_row (lent_rows e s rows attrs n) c ≤ n
 unfolding sibling_row
@@ -101,18 +95,18 @@ two-put c a b =
 
 -- as what was read tells them
 module _ (sizes rows : List ℕ) (n c : ℕ) {kept kept' : List ℕ} where
-  read-put : {told r : MemberRead} → told ≡ r → PutTwo c (first_of (said_member_read r)) (second_of sizes rows n (said_member_read r)) kept kept'
-      → PutTwo c (first_of (said_member_read told)) (second_of sizes rows n (said_member_read told)) kept kept'
-  read-put p g = subst (λ (x : MemberRead). PutTwo c (first_of (said_member_read x)) (second_of sizes rows n (said_member_read x)) kept kept') (sym p) g
+  read-put : {told r : (Result Member Refusal)} → told ≡ r → PutTwo c (first_of (said r)) (second_of sizes rows n (said r)) kept kept'
+      → PutTwo c (first_of (said told)) (second_of sizes rows n (said told)) kept kept'
+  read-put p g = subst (λ (x : (Result Member Refusal)). PutTwo c (first_of (said x)) (second_of sizes rows n (said x)) kept kept') (sym p) g
 
-  pub member-put : {told : MemberRead} {m : Member} {size : Said ℕ} → told ≡ read.Is m → size ≡ size_named sizes rows n m → PutTwo c (said_sized (Is m.offset)) size kept kept'
-      → PutTwo c (first_of (said_member_read told)) (second_of sizes rows n (said_member_read told)) kept kept'
-  unfolding said_sized said_member_read first_of second_of ◌>>=◌
+  pub member-put : {told : (Result Member Refusal)} {m : Member} {size : Said ℕ} → told ≡ Ok m → size ≡ size_named sizes rows n m → PutTwo c (said (Ok m.offset)) size kept kept'
+      → PutTwo c (first_of (said told)) (second_of sizes rows n (said told)) kept kept'
+  unfolding said first_of second_of ◌>>=◌
   member-put {m = m} p q g = read-put p (subst (λ (x : Said ℕ). PutTwo c (gives m.offset) x kept kept') q g)
 
-  pub refused-put : {told : MemberRead} {why : Refusal} → told ≡ read.Refused why → PutTwo c (said_sized (Refused why)) (said_sized (Is 0)) kept kept'
-      → PutTwo c (first_of (said_member_read told)) (second_of sizes rows n (said_member_read told)) kept kept'
-  unfolding said_sized said_member_read first_of second_of ◌>>=◌
+  pub refused-put : {told : (Result Member Refusal)} {why : Refusal} → told ≡ Err why → PutTwo c (said (Err why)) (said (Ok 0)) kept kept'
+      → PutTwo c (first_of (said told)) (second_of sizes rows n (said told)) kept kept'
+  unfolding said first_of second_of ◌>>=◌
   refused-put p g = read-put p g
 
 -- ---- a row
@@ -123,10 +117,10 @@ pub row_fits : {rows kept kept' : List ℕ} {n c i : ℕ} {size : Said ℕ} → 
 row_fits a w g = omega (arith, a.there, w.fits, g.same_long)
 
 module _ (settings : Settings) (sizes s rows attrs : List ℕ) (n c : ℕ) (asked : Asked rows n c) {kept kept₁ : List ℕ} {sibling : ℕ}
-    (is : sibling ≡ sibling_row (lent_rows settings.endian s rows attrs n) c) (g : PutNoted (c * 3 + 2) (said_sized (Is (sibling % 4294967296))) kept kept₁) where
+    (is : sibling ≡ sibling_row (lent_rows settings.endian s rows attrs n) c) (g : PutNoted (c * 3 + 2) (said (Ok (sibling % 4294967296))) kept kept₁) where
   -- a row's number fits a word
   sibling-kept : noted_at kept₁ (c * 3 + 2) ≡ gives (sibling_row (lent_rows settings.endian s rows attrs n) c)
-  unfolding said_sized
+  unfolding said
   sibling-kept =
       let within : sibling_row (lent_rows settings.endian s rows attrs n) c ≤ n = sibling-within settings.endian s rows attrs n c asked.there in
       let small : sibling % 4294967296 ≡ sibling_row (lent_rows settings.endian s rows attrs n) c = omega (arith, within, is, asked.table.few) in

@@ -1,4 +1,7 @@
 -- What follows from `Layout` and its ways, for each way that the code comes to an answer.
+use Rattle.std.specs.Prelude.{Option, Result, Ok, Err, IsErrAnd}
+use Rattle.std.proofs.lemmas.Result.{err_from_is_err_and}
+use Rattle.format.specs.Said.{said, said_counted}
 use Prim.Native.Nat.{ℕ, suc, ◌+◌, ◌-◌, ◌*◌, ◌/◌, ◌≤◌, ◌<◌}
 use native.Mathlib.Nat.{add-zero, zero-add}
 use native.Mathlib.Omega.{arith}
@@ -17,26 +20,26 @@ use Rattle.format.specs.Limits.{entry_limit, section_limit, depth_limit}
 use Rattle.format.specs.AttributeKind as attribute
 use Rattle.format.specs.TagKind as tag
 use Rattle.format.specs.Said.{Said, gives, refuses, refusal, wanting, ◌>>=◌, ◌>>◌, in_room, fills_room}
-use Rattle.format.proofs.Laws.Said.{case-said, goes_on, goes-past, goes_in, must-passed, must-failed, fills, wants, Of, of-next, given_is, given-refused, past-gave, step-gave}
+use Rattle.format.proofs.Laws.Said.{case-said, goes_on, goes-past, goes_in, comes_in, refused-room, must-passed, must-failed, fills, wants, Of, of-next, given_is, given-refused, past-gave, step-gave}
 use Rattle.format.specs.declared.settings.Settings.{Settings}
 use Rattle.format.specs.declared.refusal.Refusal.{Refusal}
 use Rattle.format.specs.declared.refusal.Reason.TheVariants as reason
+use Rattle.format.specs.declared.refusal.Unfilled.{Unfilled}
+use Rattle.format.specs.declared.refusal.Unfilled.TheVariants as unfilled
 use Rattle.blocks.specs.declared.types.Type.{«Type»}
 use Rattle.lent.proofs.Laws.Stores.{sets-append, sets-out}
 use Rattle.tables.specs.Row.{row_at}
-use Rattle.tables.specs.Inside.Keyed.{refused_at, said_keyed}
+use Rattle.tables.specs.Inside.Keyed.{refused_at}
 use Rattle.tables.specs.declared.row.Row.{Row}
 use Rattle.tables.specs.declared.row.Counts.{Counts}
 use Rattle.links.specs.Links.{sibling_row, next_row, child_walk}
 use Rattle.links.specs.Inside.EachChild.{walk_on, children_from, children_at, first_or, is_ending}
 use Rattle.links.proofs.Laws.EachChild.{few-children, children-more}
 use Rattle.tables.specs.Keyed.{row_of}
-use Rattle.tables.specs.declared.keyed.Keyed.{Keyed}
-use Rattle.tables.specs.declared.keyed.Keyed.TheVariants as keyed
 use Rattle.records.specs.Inside.Enumeration.{AskedShort}
 use Rattle.records.proofs.Laws.Taken.{test-passed, test-failed}
 use Rattle.records.specs.Scan.{run_of}
-use Rattle.records.specs.Inside.Scan.{said_fault}
+use Rattle.records.specs.declared.fields.Text.{Text}
 use Rattle.records.specs.Fields.{name_of, type_of, offset_field, word_of}
 use Rattle.records.specs.Front.{front_of}
 use Rattle.records.specs.Member.{bits_by, member_fields, member_at}
@@ -44,34 +47,27 @@ use Rattle.records.specs.MemberWords.{name_place, name_length}
 use Rattle.records.specs.Unions.{RowMember, member_then}
 use Rattle.records.specs.declared.taken.Record.TheVariants as record'
 use Rattle.records.specs.declared.scan.Run.{Run}
-use Rattle.records.specs.declared.scan.Fault.{Fault}
-use Rattle.records.specs.declared.scan.Fault.TheVariants as fault
-use Rattle.records.specs.declared.fields.Word.{Word}
-use Rattle.records.specs.declared.fields.Name.{Name}
 use Rattle.records.specs.declared.member.Member.{Member}
-use Rattle.sizes.specs.Size.{said_sized, shape_of, is_structure, member_child_then, member_rows_from, members_of, size_or, member_size, type_size}
+use Rattle.sizes.specs.Size.{shape_of, is_structure, member_child_then, member_rows_from, members_of, size_or, member_size, type_size}
 use Rattle.sizes.specs.Inside.Prepare.{structure_fault}
 use Rattle.sizes.specs.Inside.Size.{Extent, EndsShort, said_added, with_size, grown, member_added, entry_size_from, type_size_from}
 use Rattle.sizes.specs.Inside.Kept.{AllKept, LayoutAsked}
-use Rattle.layout.specs.Layout.{Laid, Lay, lay, said_layout_read, laid_member, end_or, laid_from, has_byte_size, size_or_largest, own_size, row_lay, layout_of, layout_at, laid_words, laid_width, layout_into, layout_of_key}
-use Rattle.layout.specs.Inside.Layout.{laid_at, sized_laid, added_laid, LayAsked, lay_before, lay_on, read_laid, child_laid, children_laid, structure_laid, Progress, said_laying, said_layout_whole, laying_of, Lays, WholeLaid}
+use Rattle.layout.specs.Layout.{Laid, Lay, lay, laid_member, end_or, laid_from, has_byte_size, size_or_largest, own_size, row_lay, layout_of, layout_at, laid_words, laid_width, layout_into, layout_of_key}
+use Rattle.layout.specs.Inside.Layout.{laid_at, sized_laid, added_laid, LayAsked, lay_before, lay_on, read_laid, child_laid, children_laid, structure_laid, Progress, said_laying, laying_of, Lays, WholeLaid}
 use Rattle.sizes.proofs.Laws.Walking.{Walking, walking-begins, walking-ends, walking-stops, walking-asked, walking-less, walking_on}
 use Rattle.sizes.proofs.Laws.Prepare.{AllRead, fault-members, refused-members}
 use Rattle.sizes.proofs.Laws.Size.{walk-ending, walk-members}
 use Rattle.sizes.specs.declared.kept.Added.{Added}
-use Rattle.sizes.specs.declared.kept.Added.TheVariants as added
-use Rattle.sizes.specs.declared.sized.Sized.{Sized}
-use Rattle.sizes.specs.declared.sized.Sized.TheVariants.{Is, Refused}
 use Rattle.layout.specs.declared.one.Layout.{Layout}
-use Rattle.layout.specs.declared.one.LayoutWhole.{LayoutWhole}
-use Rattle.layout.specs.declared.one.LayoutWhole.TheVariants as whole
-use Rattle.layout.specs.declared.one.LayoutRead.TheVariants as layout
 use Rattle.layout.specs.declared.one.Laying.{Laying}
-use Rattle.layout.specs.declared.one.Laying.TheVariants as laying
 
 -- so many are laid, with this largest end
 abbrev progress : ℕ → ℕ → Progress
 progress count largest = record { count = count; largest = largest }
+
+-- the same, as the code has it
+abbrev laying : ℕ → ℕ → Laying
+laying count largest = record { count = count; largest = largest }
 
 -- a member at a row
 abbrev placed : ℕ → Member → RowMember
@@ -79,8 +75,8 @@ placed c m = record { row = c; member = m }
 
 -- ---- a member's end
 
-pub end-bounded : {bounded : Bool} (key largest end : ℕ) → bounded ≡ true → said_sized (Is largest) ≡ end_or bounded key largest end
-unfolding end_or said_sized
+pub end-bounded : {bounded : Bool} (key largest end : ℕ) → bounded ≡ true → said (Ok largest) ≡ end_or bounded key largest end
+unfolding end_or said
 end-bounded key largest end t = test-passed refl _ t refl
 
 pub end-grown : {bounded : Bool} (rows : List ℕ) (c largest offset size : ℕ) {z : Said ℕ} → bounded ≡ false → z ≡ grown rows c largest offset size
@@ -90,7 +86,7 @@ end-grown rows c largest offset size t h = test-failed refl _ t h
 
 -- ---- a member's words
 
-pub laid-put : (e : Endian) (s rows attrs : List ℕ) (c offset size : ℕ) (t : List ℕ) (at : ℕ) {run : Run} {name : Name} {place long : ℕ} {t₁ t₂ t₃ t₄ : List ℕ}
+pub laid-put : (e : Endian) (s rows attrs : List ℕ) (c offset size : ℕ) (t : List ℕ) (at : ℕ) {run : Run} {name : (Option Text)} {place long : ℕ} {t₁ t₂ t₃ t₄ : List ℕ}
     → run ≡ run_of e rows c → name ≡ name_of s attrs run attribute.name → t₁ ≡ set t at offset → t₂ ≡ set t₁ (at + 1) size
     → place ≡ name_place name → t₃ ≡ set t₂ (at + 2) place → long ≡ name_length name → t₄ ≡ set t₃ (at + 3) long
     → t₄ ≡ sets t at (laid_words (laid_at e s rows attrs c offset size ∷ []))
@@ -124,7 +120,7 @@ words_long (x ∷ xs) =
 
 module _ {d : Said Lay} {k : ℕ} {room room' : List ℕ} where
   lays-laid : {l : Lay} {count : ℕ} → gives l ≡ d → count ≡ k + length l.members → room' ≡ sets room (k * laid_width) (laid_words l.members)
-      → Lays d k (laying.Is count l.largest) room room'
+      → Lays d k (Ok (laying count l.largest)) room room'
   unfolding said_laying laying_of ◌>>=◌
   lays-laid {l} p c q =
       record {
@@ -133,9 +129,16 @@ module _ {d : Said Lay} {k : ℕ} {room room' : List ℕ} where
         same_room = ap length q ∙ length-sets room (k * laid_width) (laid_words l.members);
       }
 
-  lays-unlaid : {why : Refusal} → refusal why ≡ d → length room' ≡ length room → Lays d k (laying.Refused why) room room'
+  -- at an exit
+  lays-unlaid : (why : Refusal) (z : Result Laying Refusal) → IsErrAnd z (λ e. e ≡ why) → refusal why ≡ d → length room' ≡ length room → Lays d k z room room'
   unfolding said_laying laying_of ◌>>=◌
-  lays-unlaid p q = record { answer_is = ap (laying_of k) p; room_is = λ m e. absurd (given-refused (sym (p ∙ e))); same_room = q }
+  lays-unlaid why z exits p q =
+      let out = err_from_is_err_and z exits in
+      record {
+        answer_is = ap said_laying out.1 ∙ ap refusal out.2 ∙ ap (laying_of k) p;
+        room_is = λ m e. absurd (given-refused (sym (p ∙ e)));
+        same_room = q;
+      }
 
 -- ---- a member whose size is noted
 
@@ -143,16 +146,16 @@ module _ (e : Endian) (s rows attrs : List ℕ) (bounded : Bool) (largest c offs
   abbrev ending : ℕ → Lay
   ending next = lay (laid_at e s rows attrs c offset size ∷ []) next
 
-  module _ {end : Sized} (is : said_sized end ≡ end_or bounded (row_at rows c).key largest (offset + size)) where
-    pub sized-laid : {next k : ℕ} {room room' : List ℕ} → end ≡ Is next → room' ≡ sets room (k * laid_width) (laid_words (laid_at e s rows attrs c offset size ∷ []))
-        → Lays (sized_laid e s rows attrs bounded largest c offset size) k (laying.Is (k + 1) next) room room'
-    unfolding sized_laid said_sized ◌>>=◌
-    sized-laid {next} p h = lays-laid {l = ending next} (goes_on said_sized is p (λ x. gives (ending x)) refl) refl h
+  module _ {end : (Result ℕ Refusal)} (is : said end ≡ end_or bounded (row_at rows c).key largest (offset + size)) where
+    pub sized-laid : {next k : ℕ} {room room' : List ℕ} → end ≡ Ok next → room' ≡ sets room (k * laid_width) (laid_words (laid_at e s rows attrs c offset size ∷ []))
+        → Lays (sized_laid e s rows attrs bounded largest c offset size) k (Ok (laying (k + 1) next)) room room'
+    unfolding sized_laid said ◌>>=◌
+    sized-laid {next} p h = lays-laid {l = ending next} (goes_on said is p (λ x. gives (ending x)) refl) refl h
 
-    pub sized-endless : {why : Refusal} {k : ℕ} {room : List ℕ} → end ≡ Refused why
-        → Lays (sized_laid e s rows attrs bounded largest c offset size) k (laying.Refused why) room room
-    unfolding sized_laid said_sized ◌>>=◌
-    sized-endless p = lays-unlaid (goes_on said_sized is p (λ x. gives (ending x)) refl) refl
+    pub sized-endless : {why : Refusal} {k : ℕ} {room : List ℕ} → end ≡ Err why → (z : Result Laying Refusal) → IsErrAnd z (λ e. e ≡ why)
+        → Lays (sized_laid e s rows attrs bounded largest c offset size) k z room room
+    unfolding sized_laid said ◌>>=◌
+    sized-endless {why} p z exits = lays-unlaid why z exits (goes_on said is p (λ x. gives (ending x)) refl) refl
 
 -- ---- a member's name is what its row says
 
@@ -178,7 +181,7 @@ module _ (settings : Settings) (s rows attrs : List ℕ) (n : ℕ) (size_of : «
       → adds (with_size m.offset x) ≡ laid_from rows size_of bounded largest (placed c m ∷ [])
   unfolding with_size added_laid sized_laid laid_from laid_at laid_member ◌>>=◌
   sized-adds m p (gives size) q =
-      ap (λ (name : Name). end_or bounded (row_at rows c).key largest (m.offset + size) >>= λ next.
+      ap (λ (name : (Option Text)). end_or bounded (row_at rows c).key largest (m.offset + size) >>= λ next.
       gives (lay (record { offset = m.offset; size = size; place = name_place name; length = name_length name } ∷ []) next)) (sym p)
       ∙ ap (λ (x : Said ℕ). x >>= λ size. end_or bounded (row_at rows c).key largest (m.offset + size) >>= λ next. gives (lay (laid_member (placed c m) size ∷ []) next)) (sym q)
   sized-adds m p (refuses number place counts) q =
@@ -191,26 +194,26 @@ module _ (settings : Settings) (s rows attrs : List ℕ) (n : ℕ) (size_of : «
   read-adds (refuses number place counts) p = refl
 
   module _ {row : Row} (at : row ≡ row_at rows c) where
-    module _ (h : row.kind ≡ tag.member) {told : Added} (is : said_added told ≡ member_added settings s rows attrs n size_of c) where
-      child-adds : {x : Added} → told ≡ x → adds (said_added x) ≡ child_laid settings s rows attrs n size_of bounded largest c
+    module _ (h : row.kind ≡ tag.member) {told : Result Added Refusal} (is : said_added told ≡ member_added settings s rows attrs n size_of c) where
+      child-adds : {x : Result Added Refusal} → told ≡ x → adds (said_added x) ≡ child_laid settings s rows attrs n size_of bounded largest c
       unfolding child_laid member_added
       child-adds p =
           let test : eqb (row_at rows c).kind tag.member ≡ true = eq-eqb (row_at rows c).kind tag.member (ap (λ (r : Row). r.kind) (sym at) ∙ h) in
           ap adds (case-said said_added is p) ∙ read-adds (member_at settings (lent_rows settings.endian s rows attrs n) c) refl ∙ sym (rw test)
 
-      pub child-sized : {offset size k : ℕ} {r : Laying} {room room' : List ℕ} → told ≡ added.Is offset size
-          → Lays (sized_laid settings.endian s rows attrs bounded largest c offset size) k r room room'
+      pub child-sized : {x : Added} {k : ℕ} {r : Result Laying Refusal} {room room' : List ℕ} → told ≡ Ok x
+          → Lays (sized_laid settings.endian s rows attrs bounded largest c x.offset x.size) k r room room'
           → Lays (child_laid settings s rows attrs n size_of bounded largest c) k r room room'
       unfolding added_laid said_added ◌>>=◌
       child-sized {k = k} {r = r} {room = room} {room' = room'} p g = subst (λ (d : Said Lay). Lays d k r room room') (child-adds p) g
 
-      pub child-refused : {why : Refusal} {k : ℕ} {room : List ℕ} → told ≡ added.Refused why
-          → Lays (child_laid settings s rows attrs n size_of bounded largest c) k (laying.Refused why) room room
+      pub child-refused : {why : Refusal} {k : ℕ} {room : List ℕ} → told ≡ Err why → (z : Result Laying Refusal) → IsErrAnd z (λ e. e ≡ why)
+          → Lays (child_laid settings s rows attrs n size_of bounded largest c) k z room room
       unfolding added_laid said_added ◌>>=◌
-      child-refused p = lays-unlaid (child-adds p) refl
+      child-refused {why} p z exits = lays-unlaid why z exits (child-adds p) refl
 
     pub child-other : {k : ℕ} {room : List ℕ} → (row.kind ≡ tag.member → ⊥)
-        → Lays (child_laid settings s rows attrs n size_of bounded largest c) k (laying.Is k largest) room room
+        → Lays (child_laid settings s rows attrs n size_of bounded largest c) k (Ok (laying k largest)) room room
     unfolding child_laid laid_words
     child-other {k} h =
         let test : eqb (row_at rows c).kind tag.member ≡ false = ne_eqb (row_at rows c).kind tag.member (λ z. h (ap (λ (r : Row). r.kind) at ∙ z)) in
@@ -237,13 +240,13 @@ few-child settings s rows attrs n size_of bounded largest c =
     (λ t. of-next FewLaid (member_at settings (lent_rows settings.endian s rows attrs n) c) _ (λ m. few-from rows size_of bounded largest (placed c m)))
     (λ t. omega arith)
 
-one_more : (k count largest : ℕ) (d : Said Lay) → Of FewLaid d → said_laying (laying.Is count largest) ≡ laying_of k d → count ≤ k + 1
+one_more : (k : ℕ) (x : Laying) (d : Said Lay) → Of FewLaid d → said_laying (Ok x) ≡ laying_of k d → x.count ≤ k + 1
 unfolding said_laying laying_of ◌>>=◌
-one_more k count largest (gives l) few p =
-    let many : count ≡ k + length l.members = ap (λ (x : Progress). x.count) (given_is p) in
+one_more k x (gives l) few p =
+    let many : x.count ≡ k + length l.members = ap (λ (x : Progress). x.count) (given_is p) in
     let one : length l.members ≤ 1 = few in
     omega arith
-one_more k count largest (refuses number place counts) few p = absurd (given-refused p)
+one_more k x (refuses number place counts) few p = absurd (given-refused p)
 
 -- ---- the loop over children
 
@@ -274,16 +277,15 @@ before-filled k room xs (gives l) =
 before-filled k room xs (refuses number place counts) = refl
 
 module _ {k : ℕ} {room room' : List ℕ} (next : ℕ → Said Lay) where
-  on-laid : (d : Said Lay) {count largest : ℕ} → Lays d k (laying.Is count largest) room room'
-      → filled count room' (next largest) ≡ filled k room (lay_on next d)
+  on-laid : (d : Said Lay) {x : Laying} → Lays d k (Ok x) room room' → filled x.count room' (next x.largest) ≡ filled k room (lay_on next d)
   unfolding lay_on said_laying laying_of ◌>>=◌
-  on-laid (gives l) {count} {largest} g =
+  on-laid (gives l) g =
       ap (λ (x : Progress). filled x.count room' (next x.largest)) (given_is g.answer_is)
       ∙ ap (λ (x : List ℕ). filled (k + length l.members) x (next l.largest)) (g.room_is l refl)
       ∙ before-filled k room l.members (next l.largest)
   on-laid (refuses number place counts) g = absurd (given-refused g.answer_is)
 
-  on-refused : (d : Said Lay) {why : Refusal} → Lays d k (laying.Refused why) room room' → filling (refusal why) [] ≡ filled k room (lay_on next d)
+  on-refused : (d : Said Lay) {why : Refusal} → Lays d k (Err why) room room' → filling (refusal why) [] ≡ filled k room (lay_on next d)
   unfolding lay_on said_laying laying_of filled room_of ◌>>=◌
   on-refused (gives l) g = absurd (given-refused (sym g.answer_is))
   on-refused (refuses number place counts) g = ap (λ (x : Said Progress). filling x []) g.answer_is
@@ -313,7 +315,7 @@ laying-begins settings s rows attrs n size_of bounded i room {end} {from} {c} p 
 module _ {settings : Settings} {s rows attrs : List ℕ} {n end : ℕ} {size_of : «Type» → Said ℕ} {bounded : Bool} {all : Said Lay} {room₀ room : List ℕ} {c k most : ℕ}
     (w : Laying' settings s rows attrs n end size_of bounded all room₀ room c k most) where
   -- no child is left
-  pub laying-ends : n ≤ c → Lays all 0 (laying.Is k most) room₀ room
+  pub laying-ends : n ≤ c → Lays all 0 (Ok (laying k most)) room₀ room
   unfolding children_laid said_laying filled laying_of room_of laid_words ◌>>=◌
   laying-ends l =
       let done : filled k room (gives (lay [] most)) ≡ filled 0 room₀ all = walking-ends w.walking l in
@@ -332,18 +334,18 @@ module _ {settings : Settings} {s rows attrs : List ℕ} {n end : ℕ} {size_of 
         let few : n ≤ entry_limit = w.walking.on.table.few in
         record { asked = record { asked = walking-asked w.walking l; short = w.short }; count_small = omega arith }
 
-    module _ {told : Laying} {room' : List ℕ} (g : Lays (child_laid settings s rows attrs n size_of bounded most c) k told room room') where
-      module _ {count largest : ℕ} (q : told ≡ laying.Is count largest) {d c' : ℕ} (p : d ≡ sibling_row (lent_rows settings.endian s rows attrs n) c)
+    module _ {told : Result Laying Refusal} {room' : List ℕ} (g : Lays (child_laid settings s rows attrs n size_of bounded most c) k told room room') where
+      module _ {x : Laying} (q : told ≡ Ok x) {d c' : ℕ} (p : d ≡ sibling_row (lent_rows settings.endian s rows attrs n) c)
           (is : c' ≡ first_or n (children_from settings.endian s rows attrs n end d)) where
-        pub laying-on : Laying' settings s rows attrs n end size_of bounded all room₀ room' c' count largest
+        pub laying-on : Laying' settings s rows attrs n end size_of bounded all room₀ room' c' x.count x.largest
         unfolding children_laid
         laying-on =
-            let child : Lays (child_laid settings s rows attrs n size_of bounded most c) k (laying.Is count largest) room room' =
-            subst (λ (x : Laying). Lays (child_laid settings s rows attrs n size_of bounded most c) k x room room') q g in
+            let child : Lays (child_laid settings s rows attrs n size_of bounded most c) k (Ok x) room room' =
+            subst (λ (x : Result Laying Refusal). Lays (child_laid settings s rows attrs n size_of bounded most c) k x room room') q g in
             let less : length (children_from settings.endian s rows attrs n end c') < length (children_from settings.endian s rows attrs n end c) =
             walking-less w.walking l p is in
-            let one : count ≤ k + 1 =
-            one_more k count largest (child_laid settings s rows attrs n size_of bounded most c) (few-child settings s rows attrs n size_of bounded most c) child.answer_is in
+            let one : x.count ≤ k + 1 =
+            one_more k x (child_laid settings s rows attrs n size_of bounded most c) (few-child settings s rows attrs n size_of bounded most c) child.answer_is in
             let many : k + length (children_from settings.endian s rows attrs n end c) ≤ n = w.counted in
             record {
               walking =
@@ -355,17 +357,18 @@ module _ {settings : Settings} {s rows attrs : List ℕ} {n end : ℕ} {size_of 
             }
 
       -- a child is refused
-      pub laying_refused : {why : Refusal} → told ≡ laying.Refused why → Lays all 0 (laying.Refused why) room₀ room'
+      pub laying_refused : {why : Refusal} → told ≡ Err why → (z : Result Laying Refusal) → IsErrAnd z (λ e. e ≡ why) → Lays all 0 z room₀ room'
       unfolding children_laid said_laying filled laying_of ◌>>=◌
-      laying_refused {why} q =
-          let child : Lays (child_laid settings s rows attrs n size_of bounded most c) k (laying.Refused why) room room' =
-          subst (λ (x : Laying). Lays (child_laid settings s rows attrs n size_of bounded most c) k x room room') q g in
+      laying_refused {why} q z exits =
+          let child : Lays (child_laid settings s rows attrs n size_of bounded most c) k (Err why) room room' =
+          subst (λ (x : Result Laying Refusal). Lays (child_laid settings s rows attrs n size_of bounded most c) k x room room') q g in
           let done : filling (refusal why) [] ≡ filled 0 room₀ all =
           walking-stops w.walking l
           (λ cs. on-refused (λ next. children_laid settings s rows attrs n size_of bounded next cs) (child_laid settings s rows attrs n size_of bounded most c) child) in
           let answer : refusal why ≡ laying_of 0 all = ap (λ (o : Outcome (Said Progress) ℕ). o.answer) done in
+          let out = err_from_is_err_and z exits in
           record {
-            answer_is = answer;
+            answer_is = ap said_laying out.1 ∙ ap refusal out.2 ∙ answer;
             room_is = λ x e. absurd (given-refused (sym (answer ∙ ap (laying_of 0) e)));
             same_room = g.same_room ∙ w.same_room;
           }
@@ -447,24 +450,25 @@ module _ (settings : Settings) (s rows attrs : List ℕ) (n i : ℕ) where
   abbrev children : («Type» → Said ℕ) → Bool → Said Lay
   children size_of bounded = children_laid settings s rows attrs n size_of bounded 0 (children_at settings.endian s rows attrs n i)
 
-  module _ {told : Fault} (is : said_fault told ≡ structure_fault settings s rows attrs n i) where
-    pub clear-asked : told ≡ fault.Clear → AskedShort s rows n i → EndsShort settings s rows attrs n i
-    unfolding walk_on child_walk said_fault
+  module _ {told : (Result Unit Refusal)} (is : said told ≡ structure_fault settings s rows attrs n i) where
+    pub clear-asked : told ≡ Ok tt → AskedShort s rows n i → EndsShort settings s rows attrs n i
+    unfolding walk_on child_walk said
     clear-asked p w =
         record {
-          ends_at = record { asked = w.asked; ending = record { table = w.asked.table; ending = clear-ending (sym (case-said said_fault is p)) } };
+          ends_at = record { asked = w.asked; ending = record { table = w.asked.table; ending = clear-ending (sym (case-said said is p)) } };
           short = w.short;
         }
 
     module _ (size_of : «Type» → Said ℕ) (bounded : Bool) {room : List ℕ} where
-      pub structure-laid : {r : Laying} {room' : List ℕ} → told ≡ fault.Clear → Lays (children size_of bounded) 0 r room room'
+      pub structure-laid : {r : Result Laying Refusal} {room' : List ℕ} → told ≡ Ok tt → Lays (children size_of bounded) 0 r room room'
           → Lays (structure_laid settings s rows attrs n size_of bounded i) 0 r room room'
-      unfolding structure_laid said_fault ◌>>◌
-      structure-laid {r = r} {room' = room'} p g = subst (λ (d : Said Lay). Lays d 0 r room room') (goes-past said_fault is p (children size_of bounded) refl) g
+      unfolding structure_laid said ◌>>◌
+      structure-laid {r = r} {room' = room'} p g = subst (λ (d : Said Lay). Lays d 0 r room room') (goes-past said is p (children size_of bounded) refl) g
 
-      pub structure-faulty : {why : Refusal} → told ≡ fault.Refused why → Lays (structure_laid settings s rows attrs n size_of bounded i) 0 (laying.Refused why) room room
-      unfolding structure_laid said_fault ◌>>◌
-      structure-faulty p = lays-unlaid (goes-past said_fault is p (children size_of bounded) refl) refl
+      pub structure-faulty : {why : Refusal} → told ≡ Err why → (z : Result Laying Refusal) → IsErrAnd z (λ e. e ≡ why)
+          → Lays (structure_laid settings s rows attrs n size_of bounded i) 0 z room room
+      unfolding structure_laid said ◌>>◌
+      structure-faulty {why} p z exits = lays-unlaid why z exits (goes-past said is p (children size_of bounded) refl) refl
 
   -- a structure or class of a table that was tested
   pub layout-asked : {sizes noted kept : List ℕ} {row : Row} {b : Bool} → AskedShort s rows n i → AllKept settings sizes s rows attrs n noted kept → row ≡ row_at rows i
@@ -474,7 +478,7 @@ module _ (settings : Settings) (s rows attrs : List ℕ) (n i : ℕ) where
 
   -- the members of a row, however they came
   module _ (size_of : «Type» → Said ℕ) where
-    abbrev own : Word
+    abbrev own : (Option ℕ)
     own = own_size settings s rows attrs i
 
     abbrev laid_members : List RowMember → Said Lay
@@ -498,15 +502,15 @@ module _ (settings : Settings) (s rows attrs : List ℕ) (n i : ℕ) where
     laying-layout (gives l) = ap (λ (k : ℕ). gives (as_layout (progress k l.largest))) (zero-add (length l.members))
     laying-layout (refuses number place counts) = refl
 
-    abbrev RowAnswer : LayoutWhole → List ℕ → List ℕ → Type 0
+    abbrev RowAnswer : Result Layout Refusal → List ℕ → List ℕ → Type 0
     RowAnswer r room room' = WholeLaid (layout_at settings (lent_rows settings.endian s rows attrs n) size_of i) (row_lay settings (lent_rows settings.endian s rows attrs n) size_of i) r room room'
 
     module _ {row : Row} {b : Bool} (at : row ≡ row_at rows i) (is : b ≡ is_structure (shape_of row.kind)) where
       kind_is : b ≡ is_structure (shape_of (row_at rows i).kind)
       kind_is = is ∙ ap (λ (r : Row). is_structure (shape_of r.kind)) at
 
-      pub whole-other : {why : Refusal} {room : List ℕ} → b ≡ false → why ≡ refused_at row.key reason.Kind → RowAnswer (whole.Refused why) room room
-      unfolding layout_at row_lay said_layout_whole ◌>>=◌
+      pub whole-other : {why : Refusal} {room : List ℕ} → b ≡ false → why ≡ refused_at row.key reason.Kind → RowAnswer (Err why) room room
+      unfolding layout_at row_lay said ◌>>=◌
       whole-other {why} t q =
           let other : refusal why ≡ row_lay settings (lent_rows settings.endian s rows attrs n) size_of i =
           must-failed kind_is reason.Kind (row_at rows i).key (members_of settings (lent_rows settings.endian s rows attrs n) i >>= laid_members) t
@@ -517,7 +521,7 @@ module _ (settings : Settings) (s rows attrs : List ℕ) (n i : ℕ) where
             room_is = λ l e. absurd (given-refused (sym (other ∙ e)));
           }
 
-      module _ (t : b ≡ true) {run : Run} {word : Word} {bounded : Bool} (at' : run ≡ run_of settings.endian rows i)
+      module _ (t : b ≡ true) {run : Run} {word : (Option ℕ)} {bounded : Bool} (at' : run ≡ run_of settings.endian rows i)
           (own_is : word ≡ word_of s attrs run attribute.byte_size) (bounded-is : bounded ≡ has_byte_size word) where
         own-size : word ≡ own
         unfolding own_size
@@ -530,8 +534,8 @@ module _ (settings : Settings) (s rows attrs : List ℕ) (n i : ℕ) where
             (ap (λ (x : Bool). structure_laid settings s rows attrs n size_of x i) (bounded-is ∙ ap has_byte_size own-size)
             ∙ fault-laid (structure_fault settings s rows attrs n i) refl)
 
-        module _ {told : Laying} {room room' : List ℕ} (g : Lays (structure_laid settings s rows attrs n size_of bounded i) 0 told room room') where
-          row-answer : {x : Laying} {r : LayoutWhole} → told ≡ x → said_layout_whole r ≡ (said_laying x >>= λ y. gives (as_layout y)) → RowAnswer r room room'
+        module _ {told : Result Laying Refusal} {room room' : List ℕ} (g : Lays (structure_laid settings s rows attrs n size_of bounded i) 0 told room room') where
+          row-answer : {x : Result Laying Refusal} {r : (Result Layout Refusal)} → told ≡ x → said r ≡ (said_laying x >>= λ y. gives (as_layout y)) → RowAnswer r room room'
           unfolding layout_at
           row-answer p h =
               record {
@@ -541,15 +545,15 @@ module _ (settings : Settings) (s rows attrs : List ℕ) (n i : ℕ) where
                 room_is = λ l e. g.room_is l (row_laid ∙ e);
               }
 
-          pub whole-laid : {count largest size : ℕ} → told ≡ laying.Is count largest → size ≡ size_or_largest largest word
-              → RowAnswer (whole.Is (record { row = i; size = size; members = count })) room room'
-          unfolding said_layout_whole said_laying ◌>>=◌
-          whole-laid {count} {largest} p q =
-              row-answer p (ap (λ (x : ℕ). gives (record { row = i; size = x; members = count })) (q ∙ ap (size_or_largest largest) own-size))
+          pub whole-laid : {x : Laying} {size : ℕ} → told ≡ Ok x → size ≡ size_or_largest x.largest word
+              → RowAnswer (Ok (record { row = i; size = size; members = x.count })) room room'
+          unfolding said said_laying ◌>>=◌
+          whole-laid {x} p q =
+              row-answer p (ap (λ (size : ℕ). gives (record { row = i; size = size; members = x.count })) (q ∙ ap (size_or_largest x.largest) own-size))
 
-          pub whole-refused : {why : Refusal} → told ≡ laying.Refused why → RowAnswer (whole.Refused why) room room'
-          unfolding said_layout_whole said_laying ◌>>=◌
-          whole-refused p = row-answer p refl
+          pub whole-refused : {why : Refusal} → told ≡ Err why → (z : Result Layout Refusal) → IsErrAnd z (λ e. e ≡ why) → RowAnswer z room room'
+          unfolding said said_laying ◌>>=◌
+          whole-refused p z exits = let out = err_from_is_err_and z exits in row-answer p (ap said out.1 ∙ ap refusal out.2)
 
 -- ---- into lent room
 
@@ -590,11 +594,11 @@ module _ (settings : Settings) (s rows attrs : List ℕ) (n : ℕ) (size_of : «
     refused-in (gives l) p = absurd (given-refused (sym p))
     refused-in (refuses other elsewhere more) p = record { answer_is = p; room_is = refl }
 
-    module _ {told : LayoutWhole} (is : said_layout_whole told ≡ layout_at settings (lent_rows settings.endian s rows attrs n) size_of i) where
-      module _ {x : Layout} (p : told ≡ whole.Is x) where
+    module _ {told : (Result Layout Refusal)} (is : said told ≡ layout_at settings (lent_rows settings.endian s rows attrs n) size_of i) where
+      module _ {x : Layout} (p : told ≡ Ok x) where
         these : LaidAs (row_lay settings (lent_rows settings.endian s rows attrs n) size_of i) whole_of x
-        unfolding said_layout_whole
-        these = laid_as (sym (case-said said_layout_whole is p))
+        unfolding said
+        these = laid_as (sym (case-said said is p))
 
         many : length these.laid.members ≡ x.members
         unfolding layout_of
@@ -605,31 +609,33 @@ module _ (settings : Settings) (s rows attrs : List ℕ) (n : ℕ) (size_of : «
         unfolding layout_into in_room
         give-in g = goes_in (λ (d : Said Lay). d) refl these.are room into_room g
 
-        pub give-laid : {r : LayoutWhole} {room' : List ℕ} → x.members ≤ length room / laid_width
-            → WholeLaid (layout_at settings (lent_rows settings.endian s rows attrs n) size_of i) (row_lay settings (lent_rows settings.endian s rows attrs n) size_of i) r room room' → given (said_layout_read (layout.Is x)) room'
-        unfolding said_layout_read
+        pub give-laid : {r : (Result Layout Refusal)} {room' : List ℕ} → x.members ≤ length room / laid_width
+            → WholeLaid (layout_at settings (lent_rows settings.endian s rows attrs n) size_of i) (row_lay settings (lent_rows settings.endian s rows attrs n) size_of i) r room room' → given (said_counted (Ok x)) room'
+        unfolding said_counted
         give-laid h g =
             let as_many : length these.laid.members ≡ x.members = many in
             give-in
             (fills (whole_of these.laid) (length these.laid.members ∷ []) (laid_words these.laid.members) room
             (le-leb (length these.laid.members) (length room / laid_width) (omega arith)) (ap gives (sym these.same)) (g.room_is these.laid these.are))
 
-        pub give-unfit : length room / laid_width < x.members → given (said_layout_read (layout.Room x.members)) room
-        unfolding said_layout_read
+        pub give-unfit : length room / laid_width < x.members → given (said_counted {A = Layout} (Err (unfilled.Room x.members))) room
+        unfolding said_counted
         give-unfit h =
             let as_many : length these.laid.members ≡ x.members = many in
             give-in
             (wants (whole_of these.laid) (length these.laid.members ∷ []) (laid_words these.laid.members) room
             (lt-leb (length these.laid.members) (length room / laid_width) (omega arith)) (ap (λ (k : ℕ). wanting (k ∷ [])) (sym many)) refl)
 
-      pub give-unlaid : {why : Refusal} → told ≡ whole.Refused why → given (said_layout_read (layout.Refused why)) room
-      unfolding layout_into layout_at said_layout_whole said_layout_read
-      give-unlaid p = refused-in (row_lay settings (lent_rows settings.endian s rows attrs n) size_of i) (case-said said_layout_whole is p)
+      pub give-unlaid : {why : Refusal} → told ≡ Err why → (z : Result Layout (Unfilled ℕ)) → IsErrAnd z (λ e. e ≡ unfilled.Refused why) → given (said_counted z) room
+      unfolding layout_into layout_at said
+      give-unlaid p z exits =
+          let refused = refused-in (row_lay settings (lent_rows settings.endian s rows attrs n) size_of i) (case-said said is p) in
+          record { answer_is = refused-room is p z exits ∙ refused.answer_is; room_is = refused.room_is }
 
 -- no sizes are noted
-pub layout-there : (settings : Settings) (vendors sizes s rows attrs : List ℕ) (counts : Counts) (key : ℕ) (room : List ℕ) {told : Keyed}
-    → said_keyed told ≡ row_of (table s settings vendors sizes rows attrs counts) key → {i : ℕ} {z : Said Layout} {room' : List ℕ} → told ≡ keyed.Row i
+pub layout-there : (settings : Settings) (vendors sizes s rows attrs : List ℕ) (counts : Counts) (key : ℕ) (room : List ℕ) {told : (Result ℕ Refusal)}
+    → said told ≡ row_of (table s settings vendors sizes rows attrs counts) key → {i : ℕ} {z : Said Layout} {room' : List ℕ} → told ≡ Ok i
     → Given (layout_into settings (lent_rows settings.endian s rows attrs counts.rows) (type_size_from settings sizes s rows attrs counts.rows [] (depth_limit - 1)) room i) z room'
     → Given (layout_of_key (table s settings vendors sizes rows attrs counts) key room) z room'
-unfolding layout_of_key type_size_from type_size entry_size_from said_keyed in_room
-layout-there settings vendors sizes s rows attrs counts key room is p g = goes_in said_keyed is p room _ g
+unfolding layout_of_key type_size_from type_size entry_size_from
+layout-there settings vendors sizes s rows attrs counts key room is p g = comes_in is p room _ g

@@ -1,4 +1,5 @@
 -- Without ByteSize every member of a layout ends at or before its size: so say the members, and so say the words in the room.
+use Rattle.std.specs.Prelude.{Option, Some, None}
 use Prim.Native.Nat.{ℕ, zero, suc, ◌+◌, ◌*◌, ◌≤◌, ◌<◌}
 use native.Mathlib.Nat.{le_refl, le_trans}
 use native.Mathlib.Omega.{arith}
@@ -20,8 +21,6 @@ use Rattle.blocks.specs.declared.types.Type.{«Type»}
 use Rattle.tables.specs.Row.{row_at}
 use Rattle.tables.specs.declared.row.Counts.{Counts}
 use Rattle.records.specs.Unions.{RowMember}
-use Rattle.records.specs.declared.fields.Word.{Word}
-use Rattle.records.specs.declared.fields.Word.TheVariants as word
 use Rattle.sizes.specs.Size.{inner_size, size_limit, members_of, member_size, larger, with_end, shape_of, is_structure}
 use Rattle.layout.specs.Layout.{Laid, Lay, lay, laid_member, end_or, laid_from, has_byte_size, size_or_largest, own_size, row_lay, layout_of, layout_at, laid_words, laid_width, layout_of_key}
 use Rattle.layout.specs.LayoutFilled.{LayoutFilled}
@@ -91,16 +90,16 @@ module _ (settings : Settings) (s rows attrs : List ℕ) (n : ℕ) (size_of : «
   members-inside p = (subst (Of (Inside 0)) p row_inside).1
 
   -- which is the size
-  largest_size : (w : Word) (largest : ℕ) → has_byte_size w ≡ false → size_or_largest largest w ≡ largest
+  largest_size : (w : (Option ℕ)) (largest : ℕ) → has_byte_size w ≡ false → size_or_largest largest w ≡ largest
   unfolding has_byte_size size_or_largest
-  largest_size (word.Is size) largest t = absurd (true≢false t)
-  largest_size word.Nothing largest t = refl
+  largest_size (Some size) largest t = absurd (true≢false t)
+  largest_size None largest t = refl
 
   pub layout-inside : {x : Layout} → layout_at settings (lent_rows settings.endian s rows attrs n) size_of i ≡ gives x
       → {xs : List Laid} {largest : ℕ} → row_lay settings (lent_rows settings.endian s rows attrs n) size_of i ≡ gives (lay xs largest) → EndInside x.size xs
   unfolding layout_of
   layout-inside {x} p {xs} {largest} q =
-      let own : Word = own_size settings s rows attrs i in
+      let own : (Option ℕ) = own_size settings s rows attrs i in
       let these : LaidAs (row_lay settings (lent_rows settings.endian s rows attrs n) size_of i) (layout_of settings (lent_rows settings.endian s rows attrs n) size_of i) x = laid_as settings s rows attrs n size_of i p in
       let size_is : largest ≡ x.size =
       sym (largest_size own largest unbounded)

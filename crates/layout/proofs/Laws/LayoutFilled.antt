@@ -1,5 +1,7 @@
 -- Where a layout is given, it is that of the key's row, and its members are there: as many as it says, their words one after the other at the front of the room,
 -- and what lies behind is as it was.
+use Rattle.std.specs.Prelude.{Ok}
+use Rattle.format.specs.Said.{said}
 use Prim.Native.Nat.{ℕ, ◌*◌, ◌/◌, ◌≤◌, ◌<◌}
 use native.Mathlib.Omega.{arith}
 use mathlib.Core.Path.{◌≡◌, refl, sym, ap, ◌∙◌, subst}
@@ -17,9 +19,7 @@ use Rattle.format.specs.declared.settings.Settings.{Settings}
 use Rattle.tables.specs.Row.{row_at}
 use Rattle.tables.specs.declared.row.Counts.{Counts}
 use Rattle.tables.specs.Keyed.{row_of}
-use Rattle.tables.specs.Inside.Keyed.{said_keyed}
 use Rattle.tables.proofs.Laws.Keyed.{keyed-there, keyed-key}
-use Rattle.tables.specs.declared.keyed.Keyed.TheVariants as keyed
 use Rattle.sizes.specs.Size.{inner_size}
 use Rattle.layout.specs.Layout.{Lay, row_lay, layout_of, layout_at, laid_words, laid_width, layout_into, layout_of_key}
 use Rattle.layout.proofs.Laws.Layout.{words_long, fitting, into_room}
@@ -77,7 +77,7 @@ module _ (settings : Settings) (vendors sizes s rows attrs : List ℕ) (counts :
 
   pub layout-filled : {x : Layout} {room' : List ℕ} → Given (layout_of_key (table s settings vendors sizes rows attrs counts) key room) (gives x) room'
       → LayoutFilled (table s settings vendors sizes rows attrs counts) key x room room'
-  unfolding layout_at layout_of said_keyed ◌>>=◌
+  unfolding layout_at layout_of said ◌>>=◌
   layout-filled {x} {room'} g =
       let f : Fits x room' = fits g in
       let row_is : x.row ≡ f.row = ap (λ (y : Layout). y.row) f.same in
@@ -85,8 +85,8 @@ module _ (settings : Settings) (vendors sizes s rows attrs : List ℕ) (counts :
       let room_for : length f.laid.members ≤ length room / laid_width = f.room_enough in
       let enough : x.members * laid_width ≤ length room = omega arith in
       record {
-        there = subst (λ (j : ℕ). j < counts.rows) (sym row_is) (keyed-there settings vendors sizes s rows attrs counts key {told = keyed.Row f.row} (sym f.found) refl);
-        key_is = ap (λ (j : ℕ). (row_at rows j).key) row_is ∙ keyed-key settings vendors sizes s rows attrs counts key {told = keyed.Row f.row} (sym f.found) refl;
+        there = subst (λ (j : ℕ). j < counts.rows) (sym row_is) (keyed-there settings vendors sizes s rows attrs counts key {told = Ok f.row} (sym f.found) refl);
+        key_is = ap (λ (j : ℕ). (row_at rows j).key) row_is ∙ keyed-key settings vendors sizes s rows attrs counts key {told = Ok f.row} (sym f.found) refl;
         layout_is = ap whole row_is ∙ ap (λ (d : Said Lay). d >>= λ l. gives (whole_of f.row l)) f.are ∙ ap gives (sym f.same);
         list = f.laid.members;
         largest = f.laid.largest;

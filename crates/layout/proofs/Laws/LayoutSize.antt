@@ -1,5 +1,6 @@
 -- A layout's size is what the size call answers. A structure whose size is refused has no layout, for the same reason; without ByteSize a structure whose layout
 -- is refused has no size, for the same reason. With ByteSize a layout still takes the size of every member, so it may be refused where the size is not.
+use Rattle.std.specs.Prelude.{Option, Some, None}
 use Prim.Native.Nat.{ℕ, ◌+◌, ◌-◌}
 use native.Mathlib.Omega.{arith}
 use mathlib.Core.Path.{◌≡◌, refl, sym, ap, ◌∙◌}
@@ -19,11 +20,7 @@ use Rattle.tables.specs.Find.{row_of_key}
 use Rattle.tables.specs.Tests.{test_table}
 use Rattle.tables.specs.Keyed.{found_row, row_of}
 use Rattle.tables.specs.declared.row.Counts.{Counts}
-use Rattle.tables.specs.declared.find.Found.{Found}
-use Rattle.tables.specs.declared.find.Found.TheVariants as found
 use Rattle.records.specs.Unions.{RowMember}
-use Rattle.records.specs.declared.fields.Word.{Word}
-use Rattle.records.specs.declared.fields.Word.TheVariants as word
 use Rattle.sizes.specs.Size.{inner_size, members_of, member_size, with_end, ends_from, size_or_ends, shape_of, is_structure, shape_size, row_size, size_of_key}
 use Rattle.sizes.proofs.Laws.Size.{entry_more}
 use Rattle.layout.specs.Layout.{Laid, Lay, lay, laid_member, end_or, laid_from, has_byte_size, size_or_largest, own_size, row_lay, layout_of, laid_words, layout_into, layout_of_key}
@@ -76,24 +73,24 @@ module _ (rows : List ℕ) (size_of : «Type» → Said ℕ) where
       (λ next. and-end (laid_member m size) (laid_from rows size_of false next ms) ∙ ends_same next ms))
 
   -- with a ByteSize or without one
-  laid-sized : (w : Word) (ms : List RowMember) {l : Lay} → laid_from rows size_of (has_byte_size w) 0 ms ≡ gives l
+  laid-sized : (w : (Option ℕ)) (ms : List RowMember) {l : Lay} → laid_from rows size_of (has_byte_size w) 0 ms ≡ gives l
       → size_or_ends rows size_of ms w ≡ gives (size_or_largest l.largest w)
   unfolding has_byte_size size_or_ends size_or_largest ◌>>=◌
-  laid-sized (word.Is size) ms p = refl
-  laid-sized word.Nothing ms p = sym (ends_same 0 ms) ∙ ap end_in p
+  laid-sized (Some size) ms p = refl
+  laid-sized None ms p = sym (ends_same 0 ms) ∙ ap end_in p
 
   module _ {number place : ℕ} {counts : List ℕ} where
-    sized-unlaid : (w : Word) (ms : List RowMember) → size_or_ends rows size_of ms w ≡ refuses number place counts
+    sized-unlaid : (w : (Option ℕ)) (ms : List RowMember) → size_or_ends rows size_of ms w ≡ refuses number place counts
         → laid_from rows size_of (has_byte_size w) 0 ms ≡ refuses number place counts
     unfolding has_byte_size size_or_ends
-    sized-unlaid (word.Is size) ms p = absurd (given-refused p)
-    sized-unlaid word.Nothing ms p = unlaid-end (laid_from rows size_of false 0 ms) (ends_same 0 ms ∙ p)
+    sized-unlaid (Some size) ms p = absurd (given-refused p)
+    sized-unlaid None ms p = unlaid-end (laid_from rows size_of false 0 ms) (ends_same 0 ms ∙ p)
 
-    unlaid-sized : (w : Word) (ms : List RowMember) → has_byte_size w ≡ false → laid_from rows size_of (has_byte_size w) 0 ms ≡ refuses number place counts
+    unlaid-sized : (w : (Option ℕ)) (ms : List RowMember) → has_byte_size w ≡ false → laid_from rows size_of (has_byte_size w) 0 ms ≡ refuses number place counts
         → size_or_ends rows size_of ms w ≡ refuses number place counts
     unfolding has_byte_size size_or_ends ◌>>=◌
-    unlaid-sized (word.Is size) ms t p = absurd (true≢false t)
-    unlaid-sized word.Nothing ms t p = sym (ends_same 0 ms) ∙ ap end_in p
+    unlaid-sized (Some size) ms t p = absurd (true≢false t)
+    unlaid-sized None ms t p = sym (ends_same 0 ms) ∙ ap end_in p
 
 -- ---- a row
 
@@ -108,7 +105,7 @@ shape_is shape.Subroutine t = absurd (true≢false (sym t))
 shape_is shape.Other t = absurd (true≢false (sym t))
 
 module _ (settings : Settings) (s rows attrs : List ℕ) (n : ℕ) (size_of : «Type» → Said ℕ) (i : ℕ) where
-  abbrev own : Word
+  abbrev own : (Option ℕ)
   own = own_size settings s rows attrs i
 
   abbrev all : Said (List RowMember)
@@ -168,10 +165,10 @@ past_next (gives x) e f = refl
 past_next (refuses number place counts) e f = refl
 
 -- the row that a found one gave
-row-found : (key : ℕ) (f : Found) {i : ℕ} → found_row key f ≡ gives i → f ≡ found.At i
+row-found : (key : ℕ) (f : (Option ℕ)) {i : ℕ} → found_row key f ≡ gives i → f ≡ Some i
 unfolding found_row
-row-found key (found.At j) p = ap found.At (given_is p)
-row-found key found.Nothing p = absurd (given-refused (sym p))
+row-found key (Some j) p = ap Some (given_is p)
+row-found key None p = absurd (given-refused (sym p))
 
 -- so many counts are told
 abbrev counts_in : {A : Type 0} → Said A → ℕ
@@ -221,12 +218,12 @@ module _ (settings : Settings) (vendors sizes s rows attrs : List ℕ) (counts :
       size_there ∙ ap (λ (d : Said ℕ). d >>= size_at) f.found ∙ row-laid-size settings s rows attrs counts.rows (inner_size t) f.row f.are
       ∙ ap (λ (y : Layout). gives y.size) (sym f.same)
 
-  found_at : {i : ℕ} → row_of t key ≡ gives i → row_of_key rows counts.rows key ≡ found.At i
+  found_at : {i : ℕ} → row_of t key ≡ gives i → row_of_key rows counts.rows key ≡ Some i
   unfolding row_of
   found_at p = row-found key (row_of_key rows counts.rows key) (past-gave (test_table t) (found_row key (row_of_key rows counts.rows key)) p)
 
   -- an entry that the key has, if it has any, is a structure or a class
-  module _ (structure : (i : ℕ) → row_of_key rows counts.rows key ≡ found.At i → is_structure (shape_of (row_at rows i).kind) ≡ true) where
+  module _ (structure : (i : ℕ) → row_of_key rows counts.rows key ≡ Some i → is_structure (shape_of (row_at rows i).kind) ≡ true) where
     module _ {number place : ℕ} {more : List ℕ} where
       row-sizeless : (d : Said ℕ) → row_of t key ≡ d → (d >>= size_at) ≡ refuses number place more → (in_room room d into).answer ≡ refuses number place more
       unfolding layout_into in_room ◌>>=◌
@@ -242,7 +239,7 @@ module _ (settings : Settings) (vendors sizes s rows attrs : List ℕ) (counts :
       size-refused p = row-sizeless (row_of t key) refl (sym size_there ∙ p)
 
     -- and it has no ByteSize
-    module _ (unbounded : (i : ℕ) → row_of_key rows counts.rows key ≡ found.At i → has_byte_size (own_size settings s rows attrs i) ≡ false) {number place : ℕ} where
+    module _ (unbounded : (i : ℕ) → row_of_key rows counts.rows key ≡ Some i → has_byte_size (own_size settings s rows attrs i) ≡ false) {number place : ℕ} where
       -- a refusal is never one for want of room
       into-refused : (i : ℕ) (d : Said Lay) → (in_room room d (filling i)).answer ≡ refuses number place [] → d ≡ refuses number place []
       unfolding in_room

@@ -1,4 +1,6 @@
 -- What follows from the levels: the sizes of one level are noted from those of the level below, and a level where all are settled, or that changes nothing, is the last.
+use Rattle.std.specs.Prelude.{Option, Some, None, Err}
+use Rattle.format.specs.Said.{said}
 use Prim.Native.Nat.{ℕ, zero, suc, ◌+◌, ◌-◌, ◌*◌, ◌≤◌, ◌<◌}
 use native.Mathlib.Nat.{zero-add}
 use native.Mathlib.Decide.{dec_le}
@@ -22,9 +24,7 @@ use Rattle.tables.specs.Find.{row_of_key}
 use Rattle.tables.proofs.Laws.Find.{row-found, row-of-own-key}
 use Rattle.tables.specs.Inside.Keyed.{refused_at}
 use Rattle.tables.specs.Keyed.{found_row}
-use Rattle.tables.specs.declared.find.Found.{Found}
-use Rattle.tables.specs.declared.find.Found.TheVariants as found
-use Rattle.sizes.specs.Size.{said_sized, type_size_by, shape_of, shape_size, row_size, entry_size, type_size}
+use Rattle.sizes.specs.Size.{type_size_by, shape_of, shape_size, row_size, entry_size, type_size}
 use Rattle.sizes.specs.Inside.Noted.{noted_width, noted_at, PutNoted}
 use Rattle.sizes.proofs.Laws.Noted.{noted-same}
 use Rattle.sizes.specs.Inside.Kept.{PartsKept, AllKept}
@@ -36,7 +36,6 @@ use Rattle.records.proofs.Laws.Fields.{by-told}
 use Rattle.layout.specs.Inside.Levels.{deepest, last_level, settled, next_level, size_left, NotedUpTo, LevelFilled, TakenOver}
 use Rattle.sizes.specs.declared.prepare.Shape.{Shape}
 use Rattle.sizes.specs.declared.prepare.Shape.TheVariants as shape
-use Rattle.sizes.specs.declared.sized.Sized.TheVariants.{Refused}
 
 -- ---- row after row
 
@@ -106,8 +105,8 @@ module _ (noted : List ℕ) (i : ℕ) {size : Said ℕ} {b : Bool} (at : size �
 
   -- a row whose kind has no size
   pub next-other : b ≡ false → {row : Row} {x : Shape} {why : Refusal} → row ≡ row_at rows i → x ≡ shape_of row.kind → x ≡ shape.Other
-      → why ≡ refused_at row.key reason.Kind → said_sized (Refused why) ≡ next_level settings sizes s rows attrs n noted i
-  unfolding said_sized row_size shape_size
+      → why ≡ refused_at row.key reason.Kind → said (Err why) ≡ next_level settings sizes s rows attrs n noted i
+  unfolding said row_size shape_size
   next-other t p is o q =
       next-taken t
       (by-told (shape_size settings (lent_rows settings.endian s rows attrs n) (type_size_from settings sizes s rows attrs n noted 0) i) (is ∙ ap (λ (r : Row). shape_of r.kind) p) o
@@ -116,21 +115,21 @@ module _ (noted : List ℕ) (i : ℕ) {size : Said ℕ} {b : Bool} (at : size �
 -- ---- the sizes of a level are those that the next asks for
 
 module _ (settings : Settings) (sizes s rows attrs : List ℕ) (n : ℕ) (ready : TableReady s rows n) where
-  own_key : (i : ℕ) → i < n → row_of_key rows n (row_at rows i).key ≡ found.At i
+  own_key : (i : ℕ) → i < n → row_of_key rows n (row_at rows i).key ≡ Some i
   own_key i l = row-of-own-key ready.table.rising i l
 
   -- what holds of each row's size holds of every key's
   key-sizes : {entry : ℕ → Said ℕ} (levels : ℕ) → ((i : ℕ) → i < n → entry (row_at rows i).key ≡ size_left settings sizes s rows attrs n levels i)
-      → ((key : ℕ) → row_of_key rows n key ≡ found.Nothing → entry key ≡ refuse reason.Entry key)
+      → ((key : ℕ) → row_of_key rows n key ≡ None → entry key ≡ refuse reason.Entry key)
       → entry ≡ entry_size settings sizes (lent_rows settings.endian s rows attrs n) levels
   unfolding size_left
   key-sizes {entry} levels each none = fun_ext (λ key. by-found key (row_of_key rows n key) refl)
     where
-      by-found : (key : ℕ) (f : Found) → row_of_key rows n key ≡ f → entry key ≡ entry_size settings sizes (lent_rows settings.endian s rows attrs n) levels key
-      by-found key (found.At i) p =
+      by-found : (key : ℕ) (f : (Option ℕ)) → row_of_key rows n key ≡ f → entry key ≡ entry_size settings sizes (lent_rows settings.endian s rows attrs n) levels key
+      by-found key (Some i) p =
           let here : (i < n) × ((row_at rows i).key ≡ key) = row-found rows n key p in
           subst (λ (k : ℕ). entry k ≡ entry_size settings sizes (lent_rows settings.endian s rows attrs n) levels k) here.1 (each i here.0)
-      by-found key found.Nothing p = none key p ∙ sym (entry-none settings sizes s rows attrs n levels key p)
+      by-found key None p = none key p ∙ sym (entry-none settings sizes s rows attrs n levels key p)
 
   module _ {noted : List ℕ} (levels : ℕ) (w : NotedUpTo (size_left settings sizes s rows attrs n levels) n n noted) (some : 0 < length noted) where
     noted-entries : (left : ℕ) → entry_size_from settings sizes s rows attrs n noted left ≡ entry_size settings sizes (lent_rows settings.endian s rows attrs n) levels
@@ -142,7 +141,7 @@ module _ (settings : Settings) (sizes s rows attrs : List ℕ) (n : ℕ) (ready 
         noted-row : (i : ℕ) → i < n → noted_found noted (row_at rows i).key (row_of_key rows n (row_at rows i).key) ≡ size_left settings sizes s rows attrs n levels i
         noted-row i l = ap (noted_found noted (row_at rows i).key) (own_key i l) ∙ w.each i l
 
-        noted-none : (key : ℕ) → row_of_key rows n key ≡ found.Nothing → noted_found noted key (row_of_key rows n key) ≡ refuse reason.Entry key
+        noted-none : (key : ℕ) → row_of_key rows n key ≡ None → noted_found noted key (row_of_key rows n key) ≡ refuse reason.Entry key
         noted-none key p = ap (noted_found noted key) p
 
     -- with noted sizes a type has the size that it has with the levels left

@@ -1,4 +1,5 @@
 -- No call that reads records, sizes or layouts is refused by 14, and no structure's words in the room of all layouts say it.
+use Rattle.std.specs.Prelude.{Option}
 use Prim.Native.Nat.{ℕ, zero, suc, ◌+◌, ◌-◌, ◌*◌, ◌<◌}
 use native.Mathlib.Omega.{arith}
 use mathlib.Core.Path.{◌≡◌, refl, sym, ap, ◌∙◌}
@@ -17,7 +18,7 @@ use Rattle.tables.specs.Table.{Table, Rows, table_rows}
 use Rattle.tables.specs.Row.{row_at}
 use Rattle.tables.proofs.Laws.Never.{tests-never, row-never}
 use Rattle.records.specs.Unions.{RowMember}
-use Rattle.records.specs.declared.fields.Name.{Name}
+use Rattle.records.specs.declared.fields.Text.{Text}
 use Rattle.records.proofs.Laws.Never.{member-never, union-never, enumeration-never, typedef-never, variable-never, label-never, ptr-to-member-never, overlay-branch-never}
 use Rattle.sizes.specs.Size.{inner_size, is_structure, shape_of}
 use Rattle.sizes.proofs.Laws.Never.{member-size-never, end-never, members-of-never, type-never, size-of-key-never, size-of-type-never}
@@ -70,7 +71,7 @@ module _ (settings : Settings) (t : Rows) (size_of : «Type» → Said ℕ) (h :
 
   -- ---- their words
 
-  answer-never : (row first : ℕ) (name : Name) (d : Said Layout) → Never 14 d → (rest : List ℕ) → get_or (answer_words row name first d ++ rest) 1 0 ≡ 14 → ⊥
+  answer-never : (row first : ℕ) (name : (Option Text)) (d : Said Layout) → Never 14 d → (rest : List ℕ) → get_or (answer_words row name first d ++ rest) 1 0 ≡ 14 → ⊥
   unfolding answer_words
   answer-never row first name (gives x) never rest p = absurd (omega (arith, p))
   answer-never row first name (refuses number place told) never rest p = never-is never p

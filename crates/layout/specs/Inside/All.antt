@@ -1,4 +1,5 @@
 -- How the layouts of all structures are given: row by row, counted first.
+use Rattle.std.specs.Prelude.{Option}
 use Rattle.std.specs.Prelude.{ℕ, ◌+◌, ◌*◌, ◌^◌, ◌≤◌, ◌<◌, ◌≡◌, true, List, [], ◌∷◌, length}
 use Rattle.std.proofs.lemmas.List.Edits.{sets}
 use Rattle.format.specs.Limits.{entry_limit}
@@ -8,8 +9,8 @@ use Rattle.blocks.specs.declared.types.Type.{«Type»}
 use Rattle.tables.specs.Table.{lent_rows}
 use Rattle.tables.specs.Row.{row_at}
 use Rattle.records.specs.Inside.Enumeration.{AskedShort}
+use Rattle.records.specs.declared.fields.Text.{Text}
 use Rattle.records.specs.MemberWords.{name_place, name_length}
-use Rattle.records.specs.declared.fields.Name.{Name}
 use Rattle.sizes.specs.Size.{shape_of}
 use Rattle.sizes.specs.Inside.Size.{TableReady}
 use Rattle.sizes.specs.Inside.Noted.{noted_width, noted_at}
@@ -23,7 +24,7 @@ use Rattle.layout.specs.declared.all.LayoutCounts.{LayoutCounts}
 unfoldable pub row_structures : Settings → List ℕ → List ℕ → List ℕ → ℕ → («Type» → Said ℕ) → ℕ → List Structure
 row_structures settings s rows attrs n size_of i = also_if (is_structure (shape_of (row_at rows i).kind)) (structure_at settings (lent_rows settings.endian s rows attrs n) size_of i) []
 
-unfoldable pub eight_words : ℕ → ℕ → ℕ → ℕ → ℕ → ℕ → Name → List ℕ
+unfoldable pub eight_words : ℕ → ℕ → ℕ → ℕ → ℕ → ℕ → (Option Text) → List ℕ
 eight_words row number size place first many name = row ∷ number ∷ size ∷ place ∷ first ∷ many ∷ name_place name ∷ name_length name ∷ []
 
 -- ---- counting

@@ -1,4 +1,8 @@
 -- How the code lays out a structure: children one at a time, into room as far as they fit.
+use Rattle.std.specs.Prelude.{Result, Ok, Err}
+use Rattle.std.specs.Prelude.{Result}
+use Rattle.format.specs.declared.refusal.Refusal.{Refusal}
+use Rattle.format.specs.Said.{said}
 use Rattle.std.specs.Prelude.{ℕ, ◌+◌, ◌*◌, ◌^◌, ◌<◌, ◌≡◌, Bool, cond, List, [], ◌∷◌, ◌++◌, length, eqb}
 use Rattle.std.proofs.lemmas.List.Edits.{sets}
 use Rattle.numbers.specs.declared.Endian.{Endian}
@@ -20,10 +24,7 @@ use Rattle.sizes.specs.Inside.Prepare.{structure_fault}
 use Rattle.sizes.specs.Inside.Size.{Extent}
 use Rattle.layout.specs.Layout.{Laid, Lay, lay, end_or, laid_from, laid_words, laid_width}
 use Rattle.layout.specs.declared.one.Layout.{Layout}
-use Rattle.layout.specs.declared.one.LayoutWhole.{LayoutWhole}
-use Rattle.layout.specs.declared.one.LayoutWhole.TheVariants as whole
 use Rattle.layout.specs.declared.one.Laying.{Laying}
-use Rattle.layout.specs.declared.one.Laying.TheVariants as laying
 
 -- the member at row c, its name being what its row says
 unfoldable pub laid_at : Endian → List ℕ → List ℕ → List ℕ → ℕ → ℕ → ℕ → Laid
@@ -95,14 +96,9 @@ pub record Progress : Type 0 where
   pub largest : ℕ
 
 -- what an answer says
-unfoldable pub said_laying : Laying → Said Progress
-said_laying (laying.Is count largest) = gives (record { count = count; largest = largest })
-said_laying (laying.Refused why) = refusal why
-
--- what a layout says, before any room is looked at
-unfoldable pub said_layout_whole : LayoutWhole → Said Layout
-said_layout_whole (whole.Is x) = gives x
-said_layout_whole (whole.Refused why) = refusal why
+unfoldable pub said_laying : Result Laying Refusal → Said Progress
+said_laying (Ok laying) = gives (record { count = laying.count; largest = laying.largest })
+said_laying (Err why) = refusal why
 
 -- what is laid after k others
 unfoldable pub laying_of : ℕ → Said Lay → Said Progress
@@ -111,12 +107,12 @@ laying_of k d = do
   gives (record { count = k + length l.members; largest = l.largest })
 
 -- of the room something is said only where there was no refusal
-pub record Lays (d : Said Lay) (k : ℕ) (r : Laying) (room room' : List ℕ) : Type 0 where
+pub record Lays (d : Said Lay) (k : ℕ) (r : Result Laying Refusal) (room room' : List ℕ) : Type 0 where
   pub answer_is : said_laying r ≡ laying_of k d
   pub room_is : (l : Lay) → d ≡ gives l → room' ≡ sets room (k * laid_width) (laid_words l.members)
   pub same_room : length room' ≡ length room
 
 -- the whole structure
-pub record WholeLaid (answer : Said Layout) (d : Said Lay) (r : LayoutWhole) (room room' : List ℕ) : Type 0 where
-  pub answer_is : said_layout_whole r ≡ answer
+pub record WholeLaid (answer : Said Layout) (d : Said Lay) (r : (Result Layout Refusal)) (room room' : List ℕ) : Type 0 where
+  pub answer_is : said r ≡ answer
   pub room_is : (l : Lay) → d ≡ gives l → room' ≡ sets room 0 (laid_words l.members)

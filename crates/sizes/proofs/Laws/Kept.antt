@@ -1,4 +1,5 @@
 -- What is kept of a row says what the row says.
+use Rattle.std.specs.Prelude.{Option, Some, None, Result, Ok, Err}
 use Prim.Native.Nat.{ℕ, ◌+◌, ◌*◌, ◌<◌}
 use native.Mathlib.Omega.{arith}
 use mathlib.Core.Path.{◌≡◌, refl, sym, ap, ◌∙◌, fun_ext}
@@ -10,7 +11,7 @@ use borrow.Author.Tests.{ne_eqb, eq-eqb}
 use Rattle.numbers.specs.declared.Endian.{Endian}
 use Rattle.format.specs.TagKind as tag
 use Rattle.format.specs.Refusal.{number_of}
-use Rattle.format.specs.Said.{Said, gives, refuses, refuse, must, ◌>>=◌, ◌>>◌}
+use Rattle.format.specs.Said.{Said, gives, refuses, refuse, must, ◌>>=◌, ◌>>◌, said}
 use Rattle.format.proofs.Laws.Said.{case-said, goes_on, given_is, given-refused}
 use Rattle.format.specs.declared.settings.Settings.{Settings}
 use Rattle.format.specs.declared.refusal.Refusal.{Refusal}
@@ -25,59 +26,53 @@ use Rattle.tables.specs.Row.{row_at}
 use Rattle.tables.specs.Find.{row_of_key}
 use Rattle.tables.specs.Keyed.{found_row}
 use Rattle.tables.specs.declared.row.Row.{Row}
-use Rattle.tables.specs.declared.find.Found.{Found}
-use Rattle.tables.specs.declared.find.Found.TheVariants as found
 use Rattle.links.specs.Links.{sibling_row}
 use Rattle.records.proofs.Laws.Taken.{by-case, test-passed, test-failed}
 use Rattle.records.specs.Member.{member_at}
-use Rattle.records.specs.declared.fields.Word.{Word}
-use Rattle.records.specs.declared.fields.Word.TheVariants as word
 use Rattle.records.specs.declared.member.Member.{Member}
-use Rattle.sizes.specs.Size.{said_sized, fundamental_size, kind_size, type_size_by, size_or, shape_of, is_structure}
+use Rattle.sizes.specs.Size.{fundamental_size, kind_size, type_size_by, size_or, shape_of, is_structure}
 use Rattle.sizes.specs.Inside.Noted.{noted_at}
 use Rattle.sizes.specs.Inside.Prepare.{member_fault, structure_fault}
 use Rattle.sizes.specs.Inside.Size.{Extent, with_size, member_added, noted_found, entry_size_from, type_size_from}
 use Rattle.sizes.specs.Inside.Kept.{row_named, size_named, first_of, second_of, size_kept, added_by, added_kept, fault_size, size_fault, fault_kept, SiblingsKept, FaultsKept, AllKept, MemberAsked, StructureAsked}
 use Rattle.sizes.specs.declared.prepare.Shape.{Shape}
 use Rattle.sizes.specs.declared.prepare.Shape.TheVariants as shape
-use Rattle.sizes.specs.declared.sized.Sized.{Sized}
-use Rattle.sizes.specs.declared.sized.Sized.TheVariants.{Is, Refused}
 
 -- ---- a size, an offset with it
 
-module _ (noted : List ℕ) {told : Sized} where
-  size-as : {x : Sized} {z : Said ℕ} → told ≡ x → z ≡ size_kept noted (said_sized x) → z ≡ size_kept noted (said_sized told)
-  size-as p h = by-case (λ (x : Sized). size_kept noted (said_sized x)) p h
+module _ (noted : List ℕ) {told : Result ℕ Refusal} where
+  size-as : {x : Result ℕ Refusal} {z : Said ℕ} → told ≡ x → z ≡ size_kept noted (said x) → z ≡ size_kept noted (said told)
+  size-as p h = by-case (λ (x : Result ℕ Refusal). size_kept noted (said x)) p h
 
-  pub size-given : {size : ℕ} → told ≡ Is size → said_sized (Is size) ≡ size_kept noted (said_sized told)
-  unfolding size_kept said_sized
+  pub size-given : {size : ℕ} → told ≡ Ok size → said (Ok size) ≡ size_kept noted (said told)
+  unfolding size_kept said
   size-given p = size-as p refl
 
-  module _ {why : Refusal} (p : told ≡ Refused why) {number : ℕ} (is : number ≡ number_of why.reason) where
-    pub size-noted : number ≡ 10 → {z : Said ℕ} → z ≡ noted_at noted why.place → z ≡ size_kept noted (said_sized told)
-    unfolding size_kept said_sized
+  module _ {why : Refusal} (p : told ≡ Err why) {number : ℕ} (is : number ≡ number_of why.reason) where
+    pub size-noted : number ≡ 10 → {z : Said ℕ} → z ≡ noted_at noted why.place → z ≡ size_kept noted (said told)
+    unfolding size_kept said
     size-noted h q = size-as p (test-passed (ap (λ (k : ℕ). eqb k 10) is) _ (eq-eqb number 10 h) q)
 
-    pub size-refused : (number ≡ 10 → ⊥) → said_sized (Refused why) ≡ size_kept noted (said_sized told)
-    unfolding size_kept said_sized
+    pub size-refused : (number ≡ 10 → ⊥) → said (Err why) ≡ size_kept noted (said told)
+    unfolding size_kept said
     size-refused h = size-as p (test-failed (ap (λ (k : ℕ). eqb k 10) is) _ (ne_eqb number 10 h) refl)
 
-pub kept-offset : (noted kept : List ℕ) (c : ℕ) {told : Sized} → said_sized told ≡ noted_at kept (c * 3) → {offset : ℕ} {second size : Said ℕ} {z : Said Extent}
-    → told ≡ Is offset → second ≡ noted_at kept (c * 3 + 1) → size ≡ size_kept noted second → z ≡ with_size offset size → z ≡ added_kept noted kept c
-unfolding added_kept added_by said_sized ◌>>=◌
-kept-offset noted kept c at {offset} p q h k = goes_on said_sized at p _ (k ∙ ap (with_size offset) (h ∙ ap (size_kept noted) q))
+pub kept-offset : (noted kept : List ℕ) (c : ℕ) {told : Result ℕ Refusal} → said told ≡ noted_at kept (c * 3) → {offset : ℕ} {second size : Said ℕ} {z : Said Extent}
+    → told ≡ Ok offset → second ≡ noted_at kept (c * 3 + 1) → size ≡ size_kept noted second → z ≡ with_size offset size → z ≡ added_kept noted kept c
+unfolding added_kept added_by said ◌>>=◌
+kept-offset noted kept c at {offset} p q h k = goes_on said at p _ (k ∙ ap (with_size offset) (h ∙ ap (size_kept noted) q))
 
 -- ---- siblings
 
 module _ {e : Endian} {s rows attrs : List ℕ} {n : ℕ} {kept : List ℕ} (w : SiblingsKept e s rows attrs n kept) (c : ℕ) (l : c < n) (h : 0 < length kept)
-    {told : Sized} (at : said_sized told ≡ noted_at kept (c * 3 + 2)) where
-  pub sibling-kept : {r : ℕ} → told ≡ Is r → r ≡ sibling_row (lent_rows e s rows attrs n) c
-  unfolding said_sized
-  sibling-kept p = given_is (case-said said_sized at p ∙ w.sibling c l h)
+    {told : Result ℕ Refusal} (at : said told ≡ noted_at kept (c * 3 + 2)) where
+  pub sibling-kept : {r : ℕ} → told ≡ Ok r → r ≡ sibling_row (lent_rows e s rows attrs n) c
+  unfolding said
+  sibling-kept p = given_is (case-said said at p ∙ w.sibling c l h)
 
-  pub sibling-there : {why : Refusal} {r : ℕ} → told ≡ Refused why → r ≡ sibling_row (lent_rows e s rows attrs n) c
-  unfolding said_sized
-  sibling-there p = absurd (given-refused (sym (case-said said_sized at p ∙ w.sibling c l h)))
+  pub sibling-there : {why : Refusal} {r : ℕ} → told ≡ Err why → r ≡ sibling_row (lent_rows e s rows attrs n) c
+  unfolding said
+  sibling-there p = absurd (given-refused (sym (case-said said at p ∙ w.sibling c l h)))
 
 -- ---- members
 
@@ -85,10 +80,10 @@ module _ (sizes rows : List ℕ) (n : ℕ) (noted : List ℕ) where
   abbrev entry_noted : ℕ → Said ℕ
   entry_noted key = noted_found noted key (row_of_key rows n key)
 
-  found-kept : (key : ℕ) (f : Found) → size_kept noted (found_row key f >>= λ i. refuse reason.Depth i) ≡ noted_found noted key f
+  found-kept : (key : ℕ) (f : Option ℕ) → size_kept noted (found_row key f >>= λ i. refuse reason.Depth i) ≡ noted_found noted key f
   unfolding size_kept found_row noted_found number_of ◌>>=◌
-  found-kept key (found.At i) = refl
-  found-kept key found.Nothing = refl
+  found-kept key (Some i) = refl
+  found-kept key None = refl
 
   line_kept : (b : Bool) (size : ℕ) → size_kept noted (must b reason.Number 0 >> gives size) ≡ (must b reason.Number 0 >> gives size)
   unfolding size_kept number_of must ◌>>◌
@@ -109,10 +104,10 @@ module _ (sizes rows : List ℕ) (n : ℕ) (noted : List ℕ) where
   pointer-kept true k = refl
   pointer-kept false k = kind-kept k
 
-  or_kept : (t : «Type») (w : Word) → size_kept noted (size_or (type_size_by sizes (row_named rows n)) t w) ≡ size_or (type_size_by sizes entry_noted) t w
+  or_kept : (t : «Type») (w : Option ℕ) → size_kept noted (size_or (type_size_by sizes (row_named rows n)) t w) ≡ size_or (type_size_by sizes entry_noted) t w
   unfolding size_or type_size_by size_kept
-  or_kept t (word.Is size) = refl
-  or_kept t word.Nothing = pointer-kept t.pointer t.kind
+  or_kept t (Some size) = refl
+  or_kept t None = pointer-kept t.pointer t.kind
 
   -- what a member that was read adds
   abbrev added_of : (ℕ → Said ℕ) → Member → Said Extent

@@ -1,4 +1,5 @@
 -- No size is refused by 14, on any section, table and settings.
+use Rattle.std.specs.Prelude.{Option, Some, None}
 use Prim.Native.Nat.{ℕ, zero, suc, ◌+◌, ◌*◌}
 use mathlib.Core.Bool.{true, false}
 use mathlib.Core.List.{List, [], ◌∷◌}
@@ -21,15 +22,11 @@ use Rattle.blocks.proofs.Laws.Never.{subscript-never, subscripts-never}
 use Rattle.tables.specs.Table.{Table, Rows, table_rows}
 use Rattle.tables.specs.Row.{row_at}
 use Rattle.tables.proofs.Laws.Never.{tests-never, found-never}
-use Rattle.tables.specs.declared.find.Found.{Found}
-use Rattle.tables.specs.declared.find.Found.TheVariants as found
 use Rattle.links.specs.Walk.{Walk, ends, endless}
 use Rattle.links.specs.Links.{child_walk, non_null}
 use Rattle.records.specs.Scan.{attribute_at}
 use Rattle.records.specs.Unions.{RowMember}
 use Rattle.records.specs.declared.scan.Run.{Run}
-use Rattle.records.specs.declared.fields.Word.{Word}
-use Rattle.records.specs.declared.fields.Word.TheVariants as word
 use Rattle.records.proofs.Laws.Never.{faults-never, member-then-never, union-at-never, enumeration-at-never, ptr-at-never}
 use Rattle.sizes.specs.Size.{fundamental_size, kind_size, type_size_by, times, part_then, product_from, product_of, needed_at, subscripts_at, subscript_fault, array_size}
 use Rattle.sizes.specs.Size.{member_child_then, member_rows_from, member_rows_by, members_of, size_or, member_size, with_end, ends_from, size_or_ends, shape_of, shape_size}
@@ -66,10 +63,10 @@ product-never e key (suc turns) size block =
           (λ part. part-never e key next (λ used product. product-never e key turns product (drop used block)) size part)
     ]
 
-needed-never : (key : ℕ) (f : Found) → Never 14 (needed_at key f)
+needed-never : (key : ℕ) (f : Option ℕ) → Never 14 (needed_at key f)
 unfolding needed_at
-needed-never key (found.At k) = never-gives k
-needed-never key found.Nothing = never-refuse reason.Missing key
+needed-never key (Some k) = never-gives k
+needed-never key None = never-refuse reason.Missing key
 
 module _ (s attrs : List ℕ) (run : Run) where
   array-read-never : (k : ℕ) → Never 14 (subscripts_at s attrs run k)
@@ -95,9 +92,9 @@ pub member-size-never : (size : «Type» → Said ℕ) → ((t : «Type») → N
 unfolding member_size size_or
 member-size-never size h m = own m.member.byte_size
   where
-    own : (w : Word) → Never 14 (size_or size m.member.of w)
-    own (word.Is n) = never-gives n
-    own word.Nothing = h m.member.of
+    own : (w : Option ℕ) → Never 14 (size_or size m.member.of w)
+    own (Some n) = never-gives n
+    own None = h m.member.of
 
 pub end-never : (key largest end : ℕ) → Never 14 (with_end key largest end)
 unfolding with_end
@@ -110,10 +107,10 @@ module _ (rows : List ℕ) (size : «Type» → Said ℕ) (h : (t : «Type») �
   ends-never largest (m ∷ ms) =
       never-then _ _ (member-size-never size h m) (λ n. never-then _ _ (end-never _ largest _) (λ next. ends-never next ms))
 
-  size-or-ends-never : (ms : List RowMember) (w : Word) → Never 14 (size_or_ends rows size ms w)
+  size-or-ends-never : (ms : List RowMember) (w : Option ℕ) → Never 14 (size_or_ends rows size ms w)
   unfolding size_or_ends
-  size-or-ends-never ms (word.Is n) = never-gives n
-  size-or-ends-never ms word.Nothing = ends-never 0 ms
+  size-or-ends-never ms (Some n) = never-gives n
+  size-or-ends-never ms None = ends-never 0 ms
 
 -- ---- rows
 

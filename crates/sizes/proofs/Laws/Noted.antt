@@ -1,4 +1,5 @@
 -- What follows from `Noted`, for each way that the code comes to an answer.
+use Rattle.std.specs.Prelude.{Result}
 use Prim.Native.Nat.{ℕ, suc, ◌+◌, ◌*◌, ◌%◌, ◌≤◌, ◌<◌}
 use native.Mathlib.Nat.{add-zero}
 use native.Mathlib.Decide.{dec_le}
@@ -13,13 +14,11 @@ use lib.Dec.{eqb}
 use borrow.Author.Tests.{eq-eqb, ne_eqb}
 use Rattle.format.specs.Refusal.{number_of, reason_of}
 use Rattle.format.proofs.Laws.Refusal.{reason-of-number, number-some}
-use Rattle.format.specs.Said.{Said, gives, refuse, refusal}
+use Rattle.format.specs.Said.{Said, gives, refuse, refusal, said}
 use Rattle.format.specs.declared.refusal.Refusal.{Refusal}
 use Rattle.format.specs.declared.refusal.Reason.{Reason}
 use Rattle.lent.proofs.Laws.Stores.{sets-before, sets-after, sets-back}
-use Rattle.sizes.specs.Size.{said_sized}
 use Rattle.sizes.specs.Inside.Noted.{noted_width, noted_at, PutNoted}
-use Rattle.sizes.specs.declared.sized.Sized.{Sized}
 
 module _ (noted : List ℕ) (i : ℕ) where
   -- past the end a size is 0
@@ -104,6 +103,6 @@ put-refusal noted {noted'} i number why fits is p =
     let less : number % 4294967296 ≡ number_of why.reason = omega arith in
     put_as noted i number 0 why.place fits p (rw (head, test, last, less, reason-of-number why.reason))
 
-pub put_same : {i : ℕ} {size size' : Sized} {noted noted' : List ℕ} → size ≡ size' → PutNoted i (said_sized size') noted noted'
-    → PutNoted i (said_sized size) noted noted'
-put_same {i} {size} {size'} {noted} {noted'} p g = subst (λ (x : Sized). PutNoted i (said_sized x) noted noted') (sym p) g
+pub put_same : {i : ℕ} {size size' : Result ℕ Refusal} {noted noted' : List ℕ} → size ≡ size' → PutNoted i (said size') noted noted'
+    → PutNoted i (said size) noted noted'
+put_same {i} {size} {size'} {noted} {noted'} p g = subst (λ (x : Result ℕ Refusal). PutNoted i (said x) noted noted') (sym p) g

@@ -1,4 +1,6 @@
 -- What follows from an array's product, for each way that the code comes to an answer: one factor, and what a walk over subscripts has still to read.
+use Rattle.std.specs.Prelude.{Result, Ok, Err, IsErrAnd}
+use Rattle.std.specs.Result.{MatchResult}
 use Prim.Native.Nat.{ℕ, zero, suc, ◌*◌, ◌-◌, ◌^◌, ◌≤◌, ◌<◌}
 use native.Mathlib.Nat.{le_refl, le_of_lt, lt_of_le_of_lt, mul-le-mul_left, mul-lt-mul_of_pos_right}
 use native.Mathlib.Omega.{arith}
@@ -11,7 +13,7 @@ use lib.Dec.{eqb}
 use lib.Pow.{pow_pos}
 use borrow.Author.Tests.{eq-eqb, ne_eqb, le-leb, lt-leb}
 use Rattle.numbers.specs.declared.Endian.{Endian}
-use Rattle.format.specs.Said.{Said, gives, refusal, placed, ◌>>=◌}
+use Rattle.format.specs.Said.{Said, gives, refusal, placed, ◌>>=◌, said}
 use Rattle.format.proofs.Laws.Said.{case-said, must-passed, must-failed}
 use Rattle.format.specs.declared.refusal.Refusal.{Refusal}
 use Rattle.format.specs.declared.refusal.Reason.TheVariants as reason
@@ -21,9 +23,8 @@ use Rattle.blocks.specs.declared.types.Type.{«Type»}
 use Rattle.blocks.specs.declared.subscript.Subscript.{Subscript}
 use Rattle.blocks.specs.declared.subscript.Subscript.TheVariants as subscript
 use Rattle.tables.specs.Inside.Keyed.{refused_at}
-use Rattle.sizes.specs.Size.{size_limit, said_sized, times, part_then, product_from, product_of}
-use Rattle.sizes.specs.declared.sized.Sized.{Sized}
-use Rattle.sizes.specs.declared.sized.Sized.TheVariants.{Is, Refused}
+use Rattle.sizes.proofs.Laws.Exit.{placed_by, placed-gave}
+use Rattle.sizes.specs.Size.{size_limit, times, part_then, product_from, product_of}
 
 -- ---- one factor
 
@@ -41,6 +42,17 @@ module _ (key size many : ℕ) where
   times-big h p = must-failed refl reason.Big key _ (lt-leb (size * many) size_limit h) (ap refusal p)
 
 -- ---- a turn of the walk
+
+-- a subscript that was read, told at the array
+pub subscript-placed : (key : ℕ) (told z : Result Subscript Refusal) {d : Said Part} → said_subscript told ≡ d → (Q : Refusal → Refusal → Type 0)
+    → MatchResult told (λ x. z ≡ Ok x) (λ e. IsErrAnd z (Q e)) → ((e w : Refusal) → Q e w → w ≡ refused_at key e.reason)
+    → said_subscript z ≡ placed key d
+unfolding said_subscript placed
+subscript-placed key told z is Q cases at = placed_by said_subscript (λ e. refl) key values told z Q cases at ∙ ap (placed key) is
+  where
+    values : (x : Subscript) → said_subscript (Ok x) ≡ placed key (said_subscript (Ok x))
+    values (subscript.Dimension index many used) = refl
+    values (subscript.Element t used) = refl
 
 module _ (e : Endian) (key size : ℕ) (block : List ℕ) where
   -- at the end nothing is read
@@ -97,54 +109,59 @@ module _ {e : Endian} {key : ℕ} {block : List ℕ} {element : ℕ} {rest : Lis
       subst (λ (u : List ℕ). Left e key block element u product) (is-after used)
       (record { turns = l.turns - 1; enough = omega (arith, l.enough); left = p })
 
-  module _ (more : 0 < length rest) {told : Subscript} (is : said_subscript told ≡ next_subscript e rest) where
-    turned : {r : Subscript} → told ≡ r → (placed key (said_subscript r) >>= part_then e key goes_on size) ≡ product_of e key block element
+  -- a subscript that was read, its refusal placed at the array
+  module _ (more : 0 < length rest) {told : Result Subscript Refusal} (is : said_subscript told ≡ placed key (next_subscript e rest)) where
+    turned : {r : Result Subscript Refusal} → told ≡ r → (said_subscript r >>= part_then e key goes_on size) ≡ product_of e key block element
     turned p =
-        ap (λ (d : Said Part). placed key d >>= part_then e key goes_on size) (case-said said_subscript is p)
+        ap (λ (d : Said Part). d >>= part_then e key goes_on size) (case-said said_subscript is p)
         ∙ sym (one-turn e key size rest l.turns more l.enough) ∙ l.left
 
-    inside : {r : Subscript} {part : Part} → told ≡ r → said_subscript r ≡ gives part → UsesInside rest part
-    inside p q = used-inside e rest (sym (case-said said_subscript is p) ∙ q)
+    inside : {r : Result Subscript Refusal} {part : Part} → told ≡ r → said_subscript r ≡ gives part → UsesInside rest part
+    inside p q = used-inside e rest (placed-gave key (next_subscript e rest) (sym (case-said said_subscript is p) ∙ q))
 
-    module _ {index many used : ℕ} (p : told ≡ subscript.Dimension index many used) where
-      dimension-used : (1 ≤ used) × (used ≤ length rest)
-      unfolding said_subscript
-      dimension-used = inside p refl
+    module _ {x : Subscript} (came : told ≡ Ok x) where
+      read : {y : Subscript} → x ≡ y → told ≡ Ok y
+      read p = came ∙ ap Ok p
 
-      pub dimension-inside : used ≤ length rest
-      dimension-inside = dimension-used.1
+      module _ {index many used : ℕ} (p : x ≡ subscript.Dimension index many used) where
+        dimension-used : (1 ≤ used) × (used ≤ length rest)
+        unfolding said_subscript
+        dimension-used = inside (read p) refl
 
-      pub dimension-less : length (after used) < length rest
-      dimension-less = less dimension-used
+        pub dimension-inside : used ≤ length rest
+        dimension-inside = dimension-used.1
 
-      module _ {sized : Sized} (q : said_sized sized ≡ times key size many) where
-        multiplied : {r : Sized} → sized ≡ r → (said_sized r >>= goes_on used) ≡ product_of e key block element
-        unfolding said_subscript placed part_then ◌>>=◌
-        multiplied h = ap (λ (d : Said ℕ). d >>= goes_on used) (case-said said_sized q h) ∙ turned p
+        pub dimension-less : length (after used) < length rest
+        dimension-less = less dimension-used
 
-        pub again-dimension : {product : ℕ} → sized ≡ Is product → Left e key block element (after used) product
-        unfolding said_sized ◌>>=◌
-        again-dimension h = again dimension-used (multiplied h)
+        module _ {sized : Result ℕ Refusal} (q : said sized ≡ times key size many) where
+          multiplied : {r : Result ℕ Refusal} → sized ≡ r → (said r >>= goes_on used) ≡ product_of e key block element
+          unfolding said_subscript part_then ◌>>=◌
+          multiplied h = ap (λ (d : Said ℕ). d >>= goes_on used) (case-said said q h) ∙ turned (read p)
 
-        pub product-big : {why : Refusal} → sized ≡ Refused why → refusal why ≡ product_of e key block element
-        unfolding said_sized ◌>>=◌
-        product-big h = multiplied h
+          pub again-dimension : {product : ℕ} → sized ≡ Ok product → Left e key block element (after used) product
+          unfolding said ◌>>=◌
+          again-dimension h = again dimension-used (multiplied h)
 
-    module _ {t : «Type»} {used : ℕ} (p : told ≡ subscript.Element t used) where
-      element-used : (1 ≤ used) × (used ≤ length rest)
-      unfolding said_subscript
-      element-used = inside p refl
+          pub product-big : {why : Refusal} → sized ≡ Err why → refusal why ≡ product_of e key block element
+          unfolding said ◌>>=◌
+          product-big h = multiplied h
 
-      pub element-inside : used ≤ length rest
-      element-inside = element-used.1
+      module _ {t : «Type»} {used : ℕ} (p : x ≡ subscript.Element t used) where
+        element-used : (1 ≤ used) × (used ≤ length rest)
+        unfolding said_subscript
+        element-used = inside (read p) refl
 
-      pub element-less : length (after used) < length rest
-      element-less = less element-used
+        pub element-inside : used ≤ length rest
+        element-inside = element-used.1
 
-      pub again-element : Left e key block element (after used) size
-      unfolding said_subscript placed part_then ◌>>=◌
-      again-element = again element-used (turned p)
+        pub element-less : length (after used) < length rest
+        element-less = less element-used
 
-    pub product-refused : {why why' : Refusal} → told ≡ subscript.Refused why → why' ≡ refused_at key why.reason → refusal why' ≡ product_of e key block element
-    unfolding said_subscript placed ◌>>=◌
-    product-refused p q = ap refusal q ∙ turned p
+        pub again-element : Left e key block element (after used) size
+        unfolding said_subscript part_then ◌>>=◌
+        again-element = again element-used (turned (read p))
+
+    pub product-refused : {why : Refusal} → told ≡ Err why → refusal why ≡ product_of e key block element
+    unfolding said_subscript ◌>>=◌
+    product-refused p = turned p

@@ -1,4 +1,5 @@
 -- What follows from `Size` and its ways, for each way that the code comes to an answer.
+use Rattle.std.specs.Prelude.{Option, Some, None, Result, Ok, Err}
 use Prim.Native.Nat.{ℕ, zero, suc, ◌+◌, ◌-◌, ◌≤◌, ◌<◌}
 use native.Mathlib.Omega.{arith}
 use mathlib.Core.Path.{◌≡◌, refl, sym, ap, ◌∙◌, subst}
@@ -12,7 +13,7 @@ use Rattle.format.specs.Lookup.{index_of}
 use Rattle.format.specs.FundType.{fund_types}
 use Rattle.format.specs.TagKind as tag
 use Rattle.format.specs.AttributeKind as attribute
-use Rattle.format.specs.Said.{Said, gives, refuse, refusal, ◌>>=◌, ◌>>◌}
+use Rattle.format.specs.Said.{Said, gives, refuse, refusal, ◌>>=◌, ◌>>◌, said}
 use Rattle.format.proofs.Laws.Said.{case-said, goes_on, must-passed, must-failed, given_is, given-refused, past-gave, step-gave, tests-gave}
 use Rattle.format.specs.declared.settings.Settings.{Settings}
 use Rattle.format.specs.declared.refusal.Refusal.{Refusal}
@@ -30,16 +31,12 @@ use Rattle.tables.proofs.Laws.Held.{held-rising, held-rows-few}
 use Rattle.tables.specs.Holds.{TableHolds}
 use Rattle.tables.specs.declared.row.Row.{Row}
 use Rattle.tables.specs.declared.row.Counts.{Counts}
-use Rattle.tables.specs.declared.tests.Tested.{Tested}
-use Rattle.tables.specs.declared.tests.Tested.TheVariants as tests
-use Rattle.tables.specs.declared.find.Found.{Found}
-use Rattle.tables.specs.declared.find.Found.TheVariants as found
 use Rattle.links.specs.Links.{child_walk, non_null}
 use Rattle.links.specs.Inside.EachChild.{rows_met, is_ending, walk_on, children_from, children_at}
 use Rattle.links.specs.Walk.{Walk, ends, endless}
 use Rattle.records.proofs.Laws.Taken.{by-case, test-passed, test-failed}
 use Rattle.records.specs.Scan.{run_of, faults_from}
-use Rattle.records.specs.Member.{said_member_read, member_at}
+use Rattle.records.specs.Member.{member_at}
 use Rattle.records.specs.Inside.Enumeration.{AskedShort}
 use Rattle.records.specs.Fields.{last_of}
 use Rattle.records.specs.Unions.{RowMember, union_at}
@@ -47,15 +44,11 @@ use Rattle.records.specs.Enumeration.{enumeration_at}
 use Rattle.records.specs.PtrToMember.{ptr_at}
 use Rattle.records.specs.declared.scan.Run.{Run}
 use Rattle.records.specs.declared.fields.Sought.TheVariants as sought
-use Rattle.records.specs.declared.fields.Word.{Word}
-use Rattle.records.specs.declared.fields.Word.TheVariants as word
 use Rattle.records.specs.declared.member.Member.{Member}
-use Rattle.records.specs.declared.member.MemberRead.{MemberRead}
-use Rattle.records.specs.declared.member.MemberRead.TheVariants as read
 use Rattle.sizes.specs.Inside.Prepare.{Ready, sized, element_of, ends_wanted, said_prepared, prepared_last, prepared_array, walk_fault, structure_fault, prepared_structure, prepared_enumeration, prepared_union, prepared_pointer, prepared_shape, prepared_row, finished}
 use Rattle.sizes.proofs.Laws.Prepare.{AllRead, fault-members, prepared-size}
 use Rattle.sizes.proofs.Laws.Ends.{ends-members}
-use Rattle.sizes.specs.Size.{said_sized, size_limit, shape_of, needed_at, subscripts_at, subscript_fault, member_rows_from, member_rows_by, members_of, size_or, type_size_by, kind_size, fundamental_size, product_of, subscript_block, larger, with_end, ends_from, row_size, entry_size, type_size}
+use Rattle.sizes.specs.Size.{size_limit, shape_of, needed_at, subscripts_at, subscript_fault, member_rows_from, member_rows_by, members_of, size_or, type_size_by, kind_size, fundamental_size, product_of, subscript_block, larger, with_end, ends_from, row_size, entry_size, type_size}
 use Rattle.sizes.specs.Inside.Noted.{noted_at}
 use Rattle.sizes.specs.Inside.Size.{TableReady, EndsShort, Extent, said_added, with_size, grown, member_added, child_end, ends_over, array_product, noted_found, entry_size_from, type_size_from}
 use Rattle.sizes.specs.declared.prepare.Shape.{Shape}
@@ -63,30 +56,27 @@ use Rattle.sizes.specs.declared.prepare.Shape.TheVariants as shape
 use Rattle.sizes.specs.declared.prepare.Prepared.{Prepared}
 use Rattle.sizes.specs.declared.prepare.Prepared.TheVariants as prepared
 use Rattle.sizes.specs.declared.kept.Added.{Added}
-use Rattle.sizes.specs.declared.kept.Added.TheVariants as added
-use Rattle.sizes.specs.declared.sized.Sized.{Sized}
-use Rattle.sizes.specs.declared.sized.Sized.TheVariants.{Is, Refused}
 
 -- ---- what a member adds
 
-module _ (settings : Settings) (s rows attrs : List ℕ) (n : ℕ) (size_of : «Type» → Said ℕ) (c : ℕ) {told : MemberRead}
-    (is : said_member_read told ≡ member_at settings (lent_rows settings.endian s rows attrs n) c) {m : Member} (p : told ≡ read.Is m) where
-  pub added-own : {size : ℕ} → m.byte_size ≡ word.Is size → said_added (added.Is m.offset size) ≡ member_added settings s rows attrs n size_of c
-  unfolding member_added said_added said_member_read with_size size_or ◌>>=◌
-  added-own q = goes_on said_member_read is p _ (by-case (λ (w : Word). with_size m.offset (size_or size_of m.of w)) q refl)
+module _ (settings : Settings) (s rows attrs : List ℕ) (n : ℕ) (size_of : «Type» → Said ℕ) (c : ℕ) {told : Result Member Refusal}
+    (is : said told ≡ member_at settings (lent_rows settings.endian s rows attrs n) c) {m : Member} (p : told ≡ Ok m) where
+  pub added-own : {size : ℕ} → m.byte_size ≡ Some size → said_added (Ok (record { offset = m.offset; size = size })) ≡ member_added settings s rows attrs n size_of c
+  unfolding member_added said_added said with_size size_or ◌>>=◌
+  added-own q = goes_on said is p _ (by-case (λ (w : Option ℕ). with_size m.offset (size_or size_of m.of w)) q refl)
 
-  pub added-typed : m.byte_size ≡ word.Nothing → {size : Said ℕ} {z : Said Extent} → size ≡ size_of m.of → z ≡ with_size m.offset size
+  pub added-typed : m.byte_size ≡ None → {size : Said ℕ} {z : Said Extent} → size ≡ size_of m.of → z ≡ with_size m.offset size
       → z ≡ member_added settings s rows attrs n size_of c
-  unfolding member_added said_member_read size_or ◌>>=◌
+  unfolding member_added said size_or ◌>>=◌
   added-typed q h k =
-      goes_on said_member_read is p _ (by-case (λ (w : Word). with_size m.offset (size_or size_of m.of w)) q (k ∙ ap (with_size m.offset) h))
+      goes_on said is p _ (by-case (λ (w : Option ℕ). with_size m.offset (size_or size_of m.of w)) q (k ∙ ap (with_size m.offset) h))
 
 -- ---- an end
 
 module _ (rows : List ℕ) (c largest offset size : ℕ) where
   pub grown-past : size_limit < offset + size → {row : Row} {why : Refusal} → row ≡ row_at rows c → why ≡ refused_at row.key reason.Big
-      → said_sized (Refused why) ≡ grown rows c largest offset size
-  unfolding grown with_end said_sized
+      → said (Err why) ≡ grown rows c largest offset size
+  unfolding grown with_end said
   grown-past h p q =
       must-failed refl reason.Big (row_at rows c).key _ (lt-leb (offset + size) size_limit h)
       (ap refusal (q ∙ ap (λ (r : Row). refused_at r.key reason.Big) p))
@@ -95,12 +85,12 @@ module _ (rows : List ℕ) (c largest offset size : ℕ) where
   unfolding grown with_end
   grown-within h p = must-passed refl reason.Big (row_at rows c).key _ (le-leb (offset + size) size_limit h) p
 
-  pub grown-more : offset + size ≤ size_limit → largest ≤ offset + size → said_sized (Is (offset + size)) ≡ grown rows c largest offset size
-  unfolding larger said_sized
+  pub grown-more : offset + size ≤ size_limit → largest ≤ offset + size → said (Ok (offset + size)) ≡ grown rows c largest offset size
+  unfolding larger said
   grown-more h l = grown-within h (ap gives (test-passed refl largest (le-leb largest (offset + size) l) refl))
 
-  pub grown-same : offset + size ≤ size_limit → offset + size < largest → said_sized (Is largest) ≡ grown rows c largest offset size
-  unfolding larger said_sized
+  pub grown-same : offset + size ≤ size_limit → offset + size < largest → said (Ok largest) ≡ grown rows c largest offset size
+  unfolding larger said
   grown-same h l = grown-within h (ap gives (test-failed refl (offset + size) (lt-leb largest (offset + size) l) refl))
 
 -- ---- a product
@@ -116,11 +106,11 @@ product-here settings s rows attrs i k size {run} {block} p q t =
 -- ---- the largest end with that of a child
 
 module _ (settings : Settings) (s rows attrs : List ℕ) (n : ℕ) (size_of : «Type» → Said ℕ) (largest c : ℕ) {row : Row} (at : row ≡ row_at rows c) where
-  pub child-other : (row.kind ≡ tag.member → ⊥) → said_sized (Is largest) ≡ child_end settings s rows attrs n size_of largest c
-  unfolding child_end said_sized
+  pub child-other : (row.kind ≡ tag.member → ⊥) → said (Ok largest) ≡ child_end settings s rows attrs n size_of largest c
+  unfolding child_end said
   child-other h = test-failed (ap (λ (r : Row). eqb r.kind tag.member) at) _ (ne_eqb row.kind tag.member h) refl
 
-  pub child-added : row.kind ≡ tag.member → {told x : Added} {z : Said ℕ} → said_added told ≡ member_added settings s rows attrs n size_of c → told ≡ x
+  pub child-added : row.kind ≡ tag.member → {told x : Result Added Refusal} {z : Said ℕ} → said_added told ≡ member_added settings s rows attrs n size_of c → told ≡ x
       → z ≡ (said_added x >>= λ e. grown rows c largest e.offset e.size) → z ≡ child_end settings s rows attrs n size_of largest c
   unfolding child_end
   child-added h is p q =
@@ -130,18 +120,18 @@ module _ (settings : Settings) (s rows attrs : List ℕ) (n : ℕ) (size_of : «
 
 module _ (settings : Settings) (s rows attrs : List ℕ) (n : ℕ) (size_of : «Type» → Said ℕ) where
   -- no child is left
-  pub ends-done : (largest : ℕ) {z : Said ℕ} → ends_over settings s rows attrs n size_of largest [] ≡ z → said_sized (Is largest) ≡ z
-  unfolding ends_over said_sized
+  pub ends-done : (largest : ℕ) {z : Said ℕ} → ends_over settings s rows attrs n size_of largest [] ≡ z → said (Ok largest) ≡ z
+  unfolding ends_over said
   ends-done largest p = p
 
-  module _ (largest c : ℕ) {told : Sized} (is : said_sized told ≡ child_end settings s rows attrs n size_of largest c) (cs : List ℕ) where
-    pub ends_next : {next : ℕ} → told ≡ Is next → ends_over settings s rows attrs n size_of next cs ≡ ends_over settings s rows attrs n size_of largest (c ∷ cs)
-    unfolding ends_over said_sized ◌>>=◌
-    ends_next p = goes_on said_sized is p (λ next. ends_over settings s rows attrs n size_of next cs) refl
+  module _ (largest c : ℕ) {told : Result ℕ Refusal} (is : said told ≡ child_end settings s rows attrs n size_of largest c) (cs : List ℕ) where
+    pub ends_next : {next : ℕ} → told ≡ Ok next → ends_over settings s rows attrs n size_of next cs ≡ ends_over settings s rows attrs n size_of largest (c ∷ cs)
+    unfolding ends_over said ◌>>=◌
+    ends_next p = goes_on said is p (λ next. ends_over settings s rows attrs n size_of next cs) refl
 
-    pub ends-refused : {why : Refusal} → told ≡ Refused why → said_sized (Refused why) ≡ ends_over settings s rows attrs n size_of largest (c ∷ cs)
-    unfolding ends_over said_sized ◌>>=◌
-    ends-refused p = goes_on said_sized is p (λ next. ends_over settings s rows attrs n size_of next cs) refl
+    pub ends-refused : {why : Refusal} → told ≡ Err why → said (Err why) ≡ ends_over settings s rows attrs n size_of largest (c ∷ cs)
+    unfolding ends_over said ◌>>=◌
+    ends-refused p = goes_on said is p (λ next. ends_over settings s rows attrs n size_of next cs) refl
 
 -- ---- a row: what was prepared, with the sizes of types
 
@@ -186,8 +176,8 @@ module _ (settings : Settings) (s rows attrs : List ℕ) (n i : ℕ) where
   walk-members key (ends cs) p = refl
   walk-members key endless p = absurd (true≢false (sym p))
 
-  module _ {told : Prepared} (is : said_prepared told ≡ prepared_row settings s rows attrs n i) where
-    module _ (p : told ≡ prepared.Ends) where
+  module _ {told : Result Prepared Refusal} (is : said_prepared told ≡ prepared_row settings s rows attrs n i) where
+    module _ (p : told ≡ Ok prepared.Ends) where
       row-clear : structure_fault settings s rows attrs n i ≡ gives tt
       unfolding prepared_row said_prepared
       row-clear = shape-clear (shape_of (row_at rows i).kind) (sym (case-said said_prepared is p))
@@ -206,16 +196,16 @@ module _ (settings : Settings) (s rows attrs : List ℕ) (n i : ℕ) where
           record { ends_at = record { asked = w.asked; ending = record { table = w.asked.table; ending = row-ending } }; short = w.short }
 
     module _ (size_of : «Type» → Said ℕ) where
-      pub row_is : {x : Prepared} {z : Said ℕ} → told ≡ x → z ≡ (said_prepared x >>= finished settings s rows attrs n size_of i)
+      pub row_is : {x : Result Prepared Refusal} {z : Said ℕ} → told ≡ x → z ≡ (said_prepared x >>= finished settings s rows attrs n size_of i)
           → z ≡ row_size settings (lent_rows settings.endian s rows attrs n) size_of i
       row_is q h = goes_on said_prepared is q _ h ∙ prepared-size settings s rows attrs n size_of i
 
-      pub row-element : {t : «Type»} {k : ℕ} → told ≡ prepared.Element t k → {size x : Sized} {z : Said ℕ} → said_sized size ≡ size_of t → size ≡ x
-          → z ≡ (said_sized x >>= array_product settings s rows attrs i k) → z ≡ row_size settings (lent_rows settings.endian s rows attrs n) size_of i
+      pub row-element : {t : «Type»} {k : ℕ} → told ≡ Ok (prepared.Element t k) → {size x : Result ℕ Refusal} {z : Said ℕ} → said size ≡ size_of t → size ≡ x
+          → z ≡ (said x >>= array_product settings s rows attrs i k) → z ≡ row_size settings (lent_rows settings.endian s rows attrs n) size_of i
       unfolding finished said_prepared array_product run_of ends_of ◌>>=◌
-      row-element {t} {k} q p u v = row_is q (goes_on said_sized p u (array_product settings s rows attrs i k) v)
+      row-element {t} {k} q p u v = row_is q (goes_on said p u (array_product settings s rows attrs i k) v)
 
-      pub row_ends : {z : Said ℕ} → told ≡ prepared.Ends → z ≡ ends_over settings s rows attrs n size_of 0 (children_at settings.endian s rows attrs n i)
+      pub row_ends : {z : Said ℕ} → told ≡ Ok prepared.Ends → z ≡ ends_over settings s rows attrs n size_of 0 (children_at settings.endian s rows attrs n i)
           → z ≡ row_size settings (lent_rows settings.endian s rows attrs n) size_of i
       unfolding finished said_prepared ◌>>=◌
       row_ends q v =
@@ -228,32 +218,32 @@ module _ (settings : Settings) (s rows attrs : List ℕ) (n i : ℕ) where
 
 module _ (settings : Settings) (sizes s rows attrs : List ℕ) (n : ℕ) where
   -- the last level: 10 for a key that is found, 11 for another
-  pub entry_zero : (key : ℕ) {f : Found} → row_of_key rows n key ≡ f → entry_size settings sizes (lent_rows settings.endian s rows attrs n) 0 key ≡ (found_row key f >> refuse reason.Depth key)
+  pub entry_zero : (key : ℕ) {f : Option ℕ} → row_of_key rows n key ≡ f → entry_size settings sizes (lent_rows settings.endian s rows attrs n) 0 key ≡ (found_row key f >> refuse reason.Depth key)
   unfolding entry_size
-  entry_zero key p = ap (λ (f : Found). found_row key f >> refuse reason.Depth key) p
+  entry_zero key p = ap (λ (f : Option ℕ). found_row key f >> refuse reason.Depth key) p
 
   -- with one more level an entry's types have those below it
-  pub entry_more : (levels key : ℕ) {f : Found} → row_of_key rows n key ≡ f
+  pub entry_more : (levels key : ℕ) {f : Option ℕ} → row_of_key rows n key ≡ f
       → entry_size settings sizes (lent_rows settings.endian s rows attrs n) (suc levels) key
       ≡ (found_row key f >>= row_size settings (lent_rows settings.endian s rows attrs n) (type_size settings sizes (lent_rows settings.endian s rows attrs n) levels))
   unfolding entry_size type_size
-  entry_more levels key p = ap (λ (f : Found). found_row key f >>= row_size settings (lent_rows settings.endian s rows attrs n) (type_size settings sizes (lent_rows settings.endian s rows attrs n) levels)) p
+  entry_more levels key p = ap (λ (f : Option ℕ). found_row key f >>= row_size settings (lent_rows settings.endian s rows attrs n) (type_size settings sizes (lent_rows settings.endian s rows attrs n) levels)) p
 
-  pub entry-none : (levels key : ℕ) → row_of_key rows n key ≡ found.Nothing → entry_size settings sizes (lent_rows settings.endian s rows attrs n) levels key ≡ refuse reason.Entry key
+  pub entry-none : (levels key : ℕ) → row_of_key rows n key ≡ None → entry_size settings sizes (lent_rows settings.endian s rows attrs n) levels key ≡ refuse reason.Entry key
   unfolding found_row ◌>>=◌ ◌>>◌
   entry-none zero key p = entry_zero key p
   entry-none (suc levels) key p = entry_more levels key p
 
-  module _ (levels key : ℕ) {f : Found} (is : f ≡ row_of_key rows n key) where
-    pub entry-missing : {why : Refusal} → f ≡ found.Nothing → why ≡ refused_at key reason.Entry
-        → said_sized (Refused why) ≡ entry_size settings sizes (lent_rows settings.endian s rows attrs n) levels key
-    unfolding said_sized
+  module _ (levels key : ℕ) {f : Option ℕ} (is : f ≡ row_of_key rows n key) where
+    pub entry-missing : {why : Refusal} → f ≡ None → why ≡ refused_at key reason.Entry
+        → said (Err why) ≡ entry_size settings sizes (lent_rows settings.endian s rows attrs n) levels key
+    unfolding said
     entry-missing p q = ap refusal q ∙ sym (entry-none levels key (sym is ∙ p))
 
-    module _ {i : ℕ} (p : f ≡ found.At i) where
+    module _ {i : ℕ} (p : f ≡ Some i) where
       pub entry-deep : levels ≡ 0 → {why : Refusal} → why ≡ refused_at key reason.Depth
-          → said_sized (Refused why) ≡ entry_size settings sizes (lent_rows settings.endian s rows attrs n) levels key
-      unfolding found_row said_sized ◌>>◌
+          → said (Err why) ≡ entry_size settings sizes (lent_rows settings.endian s rows attrs n) levels key
+      unfolding found_row said ◌>>◌
       entry-deep z q =
           ap refusal q ∙ sym (entry_zero key (sym is ∙ p)) ∙ ap (λ (l : ℕ). entry_size settings sizes (lent_rows settings.endian s rows attrs n) l key) (sym z)
 
@@ -281,18 +271,18 @@ module _ (settings : Settings) (sizes s rows attrs : List ℕ) (n : ℕ) where
     unfolding entry_size_from
     entry-left h q = test-passed refl _ (eq-eqb (length noted) 0 h) q
 
-    module _ (h : length noted ≡ 0 → ⊥) {f : Found} (is : f ≡ row_of_key rows n key) where
-      entry-by : {x : Found} {z : Said ℕ} → f ≡ x → z ≡ noted_found noted key x → z ≡ entry_size_from settings sizes s rows attrs n noted levels key
+    module _ (h : length noted ≡ 0 → ⊥) {f : Option ℕ} (is : f ≡ row_of_key rows n key) where
+      entry-by : {x : Option ℕ} {z : Said ℕ} → f ≡ x → z ≡ noted_found noted key x → z ≡ entry_size_from settings sizes s rows attrs n noted levels key
       unfolding entry_size_from
       entry-by p q = test-failed refl _ (ne_eqb (length noted) 0 h) (q ∙ ap (noted_found noted key) (sym p ∙ is))
 
-      pub entry-noted : {i : ℕ} {z : Said ℕ} → f ≡ found.At i → z ≡ noted_at noted i → z ≡ entry_size_from settings sizes s rows attrs n noted levels key
+      pub entry-noted : {i : ℕ} {z : Said ℕ} → f ≡ Some i → z ≡ noted_at noted i → z ≡ entry_size_from settings sizes s rows attrs n noted levels key
       unfolding noted_found found_row ◌>>=◌
       entry-noted p q = entry-by p q
 
-      pub entry-unnoted : {why : Refusal} → f ≡ found.Nothing → why ≡ refused_at key reason.Entry
-          → said_sized (Refused why) ≡ entry_size_from settings sizes s rows attrs n noted levels key
-      unfolding noted_found found_row said_sized ◌>>=◌
+      pub entry-unnoted : {why : Refusal} → f ≡ None → why ≡ refused_at key reason.Entry
+          → said (Err why) ≡ entry_size_from settings sizes s rows attrs n noted levels key
+      unfolding noted_found found_row said ◌>>=◌
       entry-unnoted p q = entry-by p (ap refusal q)
 
 -- ---- a type
@@ -302,18 +292,18 @@ module _ (sizes : List ℕ) (number : ℕ) {k : ℕ} (p : k ≡ index_of number 
   line-is : ltb k (length sizes) ≡ ltb (index_of number fund_types) (length sizes)
   line-is = ap (λ (j : ℕ). ltb j (length sizes)) p
 
-  pub line-there : k < length sizes → said_sized (Is (get_or sizes k 0)) ≡ fundamental_size sizes number
-  unfolding fundamental_size said_sized
+  pub line-there : k < length sizes → said (Ok (get_or sizes k 0)) ≡ fundamental_size sizes number
+  unfolding fundamental_size said
   line-there h = must-passed line-is reason.Number 0 _ (lt-ltb k (length sizes) h) (ap (λ (j : ℕ). gives (get_or sizes j 0)) p)
 
-  pub line-none : length sizes ≤ k → {why : Refusal} → why ≡ refused_at 0 reason.Number → said_sized (Refused why) ≡ fundamental_size sizes number
-  unfolding fundamental_size said_sized
+  pub line-none : length sizes ≤ k → {why : Refusal} → why ≡ refused_at 0 reason.Number → said (Err why) ≡ fundamental_size sizes number
+  unfolding fundamental_size said
   line-none h q = must-failed line-is reason.Number 0 _ (le-ltb k (length sizes) h) (ap refusal q)
 
 -- `entry` gives an entry's size
 module _ (sizes : List ℕ) (entry : ℕ → Said ℕ) (t : «Type») where
-  pub type-pointer : t.pointer ≡ true → said_sized (Is 4) ≡ type_size_by sizes entry t
-  unfolding type_size_by said_sized
+  pub type-pointer : t.pointer ≡ true → said (Ok 4) ≡ type_size_by sizes entry t
+  unfolding type_size_by said
   type-pointer h = test-passed refl _ h refl
 
   module _ (h : t.pointer ≡ false) where
@@ -330,13 +320,13 @@ module _ (sizes : List ℕ) (entry : ℕ → Said ℕ) (t : «Type») where
     type-user p q = type-kind (by-case (kind_size sizes entry) p q)
 
 -- a row that was found, of a table that was tested
-pub found-asked : {s rows : List ℕ} {n : ℕ} → TableReady s rows n → (key : ℕ) {f : Found} → f ≡ row_of_key rows n key → {i : ℕ} → f ≡ found.At i → AskedShort s rows n i
+pub found-asked : {s rows : List ℕ} {n : ℕ} → TableReady s rows n → (key : ℕ) {f : Option ℕ} → f ≡ row_of_key rows n key → {i : ℕ} → f ≡ Some i → AskedShort s rows n i
 found-asked {rows = rows} {n = n} w key is p =
     record { asked = record { table = w.table; there = (row-found rows n key (sym is ∙ p)).0 }; short = w.short }
 
 -- a table whose tests passed
-pub ready : {settings : Settings} {vendors sizes s rows attrs : List ℕ} {counts : Counts} {told : Tested}
-    → Tells (table s settings vendors sizes rows attrs counts) told → told ≡ tests.Passed → TableReady s rows counts.rows
+pub ready : {settings : Settings} {vendors sizes s rows attrs : List ℕ} {counts : Counts} {told : Result Unit Refusal}
+    → Tells (table s settings vendors sizes rows attrs counts) told → told ≡ Ok tt → TableReady s rows counts.rows
 ready {s = s} {rows = rows} {attrs = attrs} {counts = counts} is p =
     let c : TableHolds s _ rows attrs counts = passed-held is p in
     record { table = record { rising = held-rising c; few = held-rows-few c }; short = passed-short is p }

@@ -1,4 +1,5 @@
 -- What follows from `Stage`, for each way that the code comes to a wait, and for the loop that goes from one to the next.
+use Rattle.std.specs.Prelude.{Option, Some, None, Result, Ok, Err, IsErrAnd}
 use Prim.Native.Nat.{ℕ, suc, ◌≤◌, ◌<◌}
 use native.Mathlib.Omega.{arith}
 use mathlib.Core.Path.{◌≡◌, refl, sym, ap, ◌∙◌, subst}
@@ -10,7 +11,7 @@ use Rattle.tables.specs.Table.{lent_rows}
 use Rattle.tables.specs.Row.{row_at, ends_of}
 use Rattle.tables.specs.declared.row.Row.{Row}
 use Rattle.format.specs.TagKind as tag
-use Rattle.format.specs.Said.{Said, gives, refusal, ◌>>=◌}
+use Rattle.format.specs.Said.{Said, gives, refusal, ◌>>=◌, said}
 use Rattle.format.proofs.Laws.Said.{case-said, goes_on, bind-bind}
 use Rattle.format.specs.declared.settings.Settings.{Settings}
 use Rattle.format.specs.declared.refusal.Refusal.{Refusal}
@@ -20,23 +21,18 @@ use Rattle.links.specs.Inside.EachChild.{children_from, children_at, Ends, first
 use Rattle.links.proofs.Laws.EachChild.{few-children}
 use Rattle.records.proofs.Laws.Taken.{by-case, test-passed}
 use Rattle.records.specs.Scan.{run_of}
-use Rattle.records.specs.Member.{said_member_read, member_at}
+use Rattle.records.specs.Member.{member_at}
 use Rattle.records.specs.Inside.Enumeration.{AskedShort}
-use Rattle.records.specs.declared.fields.Word.{Word}
-use Rattle.records.specs.declared.fields.Word.TheVariants as word
 use Rattle.records.specs.declared.member.Member.{Member}
-use Rattle.records.specs.declared.member.MemberRead.{MemberRead}
-use Rattle.records.specs.declared.member.MemberRead.TheVariants as read
-use Rattle.sizes.specs.Size.{said_sized, size_or, row_size}
+use Rattle.sizes.specs.Size.{size_or, row_size}
 use Rattle.sizes.specs.Inside.Prepare.{said_prepared, prepared_row, finished}
 use Rattle.sizes.specs.Inside.Size.{Extent, with_size, grown, member_added, child_end, ends_over, array_product}
 use Rattle.sizes.specs.Inside.Stage.{part_end, PartSays, children_on, children_after, stage_size, wait_size, stage_turns, wait_turns, FromAsked, MemberStaged, Staged, Awaits}
+use Rattle.sizes.proofs.Laws.Exit.{exit-as}
 use Rattle.sizes.proofs.Laws.Walking.{Walking, walking-from, walking-ends, walking_here, walking-one, walking-stops, walking-ending, walking-less, walking_on}
 use Rattle.sizes.proofs.Laws.Size.{child-other, row_is, row_ends, ends_asked}
 use Rattle.sizes.specs.declared.prepare.Prepared.{Prepared}
 use Rattle.sizes.specs.declared.prepare.Prepared.TheVariants as prepared
-use Rattle.sizes.specs.declared.sized.Sized.{Sized}
-use Rattle.sizes.specs.declared.sized.Sized.TheVariants.{Is, Refused}
 use Rattle.sizes.specs.declared.stage.Part.{Part}
 use Rattle.sizes.specs.declared.stage.Part.TheVariants as part
 use Rattle.sizes.specs.declared.stage.Stage.{Stage}
@@ -55,53 +51,56 @@ abbrev ended : List ℕ → ℕ → ℕ → Extent → Said ℕ
 ended rows c largest x = grown rows c largest x.offset x.size
 
 module _ (settings : Settings) (s rows attrs : List ℕ) (n c largest : ℕ) {row : Row} (at : row ≡ row_at rows c) where
-  pub part-other : (row.kind ≡ tag.member → ⊥) → PartSays settings s rows attrs n c largest (part.Ends largest)
-  unfolding part_end said_sized
+  pub part-other : (row.kind ≡ tag.member → ⊥) → PartSays settings s rows attrs n c largest (Ok (part.Ends largest))
+  unfolding part_end said
   part-other h = record { end_is = λ size_of. child-other settings s rows attrs n size_of largest c at h }
 
-  module _ (h : row.kind ≡ tag.member) {told : MemberRead} (is : said_member_read told ≡ member_at settings (lent_rows settings.endian s rows attrs n) c) where
-    member-end : (size_of : «Type» → Said ℕ) {x : MemberRead} {z : Said ℕ} → told ≡ x → z ≡ ((said_member_read x >>= added size_of) >>= ended rows c largest)
+  module _ (h : row.kind ≡ tag.member) {told : Result Member Refusal} (is : said told ≡ member_at settings (lent_rows settings.endian s rows attrs n) c) where
+    member-end : (size_of : «Type» → Said ℕ) {x : Result Member Refusal} {z : Said ℕ} → told ≡ x → z ≡ ((said x >>= added size_of) >>= ended rows c largest)
         → z ≡ child_end settings s rows attrs n size_of largest c
     unfolding child_end member_added
     member-end size_of p q =
         test-passed (ap (λ (r : Row). eqb r.kind tag.member) at) _ (eq-eqb row.kind tag.member h)
-        (q ∙ ap (λ (d : Said Member). (d >>= added size_of) >>= ended rows c largest) (case-said said_member_read is p))
+        (q ∙ ap (λ (d : Said Member). (d >>= added size_of) >>= ended rows c largest) (case-said said is p))
 
-    pub part-refused : {why : Refusal} → told ≡ read.Refused why → PartSays settings s rows attrs n c largest (part.Refused why)
-    unfolding part_end said_member_read ◌>>=◌
-    part-refused p = record { end_is = λ size_of. member-end size_of p refl }
+    pub part-refused : {why : Refusal} → told ≡ Err why → (z : Result Part Refusal) → IsErrAnd z (λ e. e ≡ why)
+        → PartSays settings s rows attrs n c largest z
+    unfolding part_end said ◌>>=◌
+    part-refused p z exits = exit-as (PartSays settings s rows attrs n c largest) _ z exits (record { end_is = λ size_of. member-end size_of p refl })
 
-    module _ {m : Member} (p : told ≡ read.Is m) where
-      read-end : (size_of : «Type» → Said ℕ) {w : Word} {z : Said ℕ} → m.byte_size ≡ w
+    module _ {m : Member} (p : told ≡ Ok m) where
+      read-end : (size_of : «Type» → Said ℕ) {w : Option ℕ} {z : Said ℕ} → m.byte_size ≡ w
           → z ≡ (with_size m.offset (size_or size_of m.of w) >>= ended rows c largest) → z ≡ child_end settings s rows attrs n size_of largest c
-      unfolding said_member_read ◌>>=◌
+      unfolding said ◌>>=◌
       read-end size_of q k =
-          member-end size_of p (by-case (λ (w : Word). with_size m.offset (size_or size_of m.of w) >>= ended rows c largest) q k)
+          member-end size_of p (by-case (λ (w : Option ℕ). with_size m.offset (size_or size_of m.of w) >>= ended rows c largest) q k)
 
-      module _ {size : ℕ} (q : m.byte_size ≡ word.Is size) {end : Sized} (grows : said_sized end ≡ grown rows c largest m.offset size) where
-        pub part-ends : {next : ℕ} → end ≡ Is next → PartSays settings s rows attrs n c largest (part.Ends next)
-        unfolding part_end said_sized with_size size_or ◌>>=◌
-        part-ends u = record { end_is = λ size_of. read-end size_of q (case-said said_sized grows u) }
+      module _ {size : ℕ} (q : m.byte_size ≡ Some size) {end : Result ℕ Refusal} (grows : said end ≡ grown rows c largest m.offset size) where
+        pub part-ends : {next : ℕ} → end ≡ Ok next → PartSays settings s rows attrs n c largest (Ok (part.Ends next))
+        unfolding part_end said with_size size_or ◌>>=◌
+        part-ends u = record { end_is = λ size_of. read-end size_of q (case-said said grows u) }
 
-        pub part-big : {why : Refusal} → end ≡ Refused why → PartSays settings s rows attrs n c largest (part.Refused why)
-        unfolding part_end said_sized with_size size_or ◌>>=◌
-        part-big u = record { end_is = λ size_of. read-end size_of q (case-said said_sized grows u) }
+        pub part-big : {why : Refusal} → end ≡ Err why → (z : Result Part Refusal) → IsErrAnd z (λ e. e ≡ why)
+            → PartSays settings s rows attrs n c largest z
+        unfolding part_end said with_size size_or ◌>>=◌
+        part-big u z exits =
+            exit-as (PartSays settings s rows attrs n c largest) _ z exits (record { end_is = λ size_of. read-end size_of q (case-said said grows u) })
 
-      pub part-typed : m.byte_size ≡ word.Nothing → PartSays settings s rows attrs n c largest (part.Typed m.offset m.of)
+      pub part-typed : m.byte_size ≡ None → PartSays settings s rows attrs n c largest (Ok (part.Typed m.offset m.of))
       unfolding part_end with_size size_or ◌>>=◌
       part-typed q = record { end_is = λ size_of. read-end size_of q (sym (bind-bind (size_of m.of) (λ size. gives (record { offset = m.offset; size = size })) (ended rows c largest))) }
 
 -- ---- a wait for nothing more
 
-abbrev is_type : Wait → Type 0
-is_type (wait.Nothing size) = ⊥
-is_type (wait.Type t st) = Unit
-is_type (wait.Refused why) = ⊥
+abbrev is_type : Result Wait Refusal → Type 0
+is_type (Ok (wait.Nothing size)) = ⊥
+is_type (Ok (wait.Type t st)) = Unit
+is_type (Err why) = ⊥
 
-stage_of : Wait → Stage
-stage_of (wait.Nothing size) = stage.Begin
-stage_of (wait.Type t st) = st
-stage_of (wait.Refused why) = stage.Begin
+stage_of : Result Wait Refusal → Stage
+stage_of (Ok (wait.Nothing size)) = stage.Begin
+stage_of (Ok (wait.Type t st)) = st
+stage_of (Err why) = stage.Begin
 
 row_of : Stage → ℕ
 row_of stage.Begin = 0
@@ -114,20 +113,21 @@ IsMember (stage.Element k) = ⊥
 IsMember (stage.Member c offset largest) = Unit
 
 module _ {settings : Settings} {s rows attrs : List ℕ} {n i : ℕ} {whole : («Type» → Said ℕ) → Said ℕ} {turns : ℕ} where
-  done-by : (r : Wait) → (is_type r → ⊥) → ((size_of : «Type» → Said ℕ) → wait_size settings s rows attrs n i size_of r ≡ whole size_of)
+  done-by : (r : Result Wait Refusal) → (is_type r → ⊥) → ((size_of : «Type» → Said ℕ) → wait_size settings s rows attrs n i size_of r ≡ whole size_of)
       → Awaits settings s rows attrs n i whole turns r
   done-by r h is = record { size_is = is; staged = λ p. absurd (h (subst is_type (sym p) tt)); fewer = λ p. absurd (h (subst is_type (sym p) tt)) }
 
-  pub awaits-nothing : {size : ℕ} → ((size_of : «Type» → Said ℕ) → gives size ≡ whole size_of) → Awaits settings s rows attrs n i whole turns (wait.Nothing size)
+  pub awaits-nothing : {size : ℕ} → ((size_of : «Type» → Said ℕ) → gives size ≡ whole size_of) → Awaits settings s rows attrs n i whole turns (Ok (wait.Nothing size))
   unfolding wait_size
-  awaits-nothing {size} h = done-by (wait.Nothing size) (λ x. x) h
+  awaits-nothing {size} h = done-by (Ok (wait.Nothing size)) (λ x. x) h
 
-  pub awaits-refused : {why : Refusal} → ((size_of : «Type» → Said ℕ) → refusal why ≡ whole size_of) → Awaits settings s rows attrs n i whole turns (wait.Refused why)
+  pub awaits-refused : (why : Refusal) (z : Result Wait Refusal) → IsErrAnd z (λ e. e ≡ why) → ((size_of : «Type» → Said ℕ) → refusal why ≡ whole size_of)
+      → Awaits settings s rows attrs n i whole turns z
   unfolding wait_size
-  awaits-refused {why} h = done-by (wait.Refused why) (λ x. x) h
+  awaits-refused why z exits h = exit-as (Awaits settings s rows attrs n i whole turns) why z exits (done-by (Err why) (λ x. x) h)
 
   -- the same of another whole, and of more turns
-  pub awaits-as : {other : («Type» → Said ℕ) → Said ℕ} {more : ℕ} {r : Wait} → Awaits settings s rows attrs n i whole turns r
+  pub awaits-as : {other : («Type» → Said ℕ) → Said ℕ} {more : ℕ} {r : Result Wait Refusal} → Awaits settings s rows attrs n i whole turns r
       → ((size_of : «Type» → Said ℕ) → whole size_of ≡ other size_of) → turns ≤ more → Awaits settings s rows attrs n i other more r
   awaits-as a h l =
       record {
@@ -136,13 +136,13 @@ module _ {settings : Settings} {s rows attrs : List ℕ} {n i : ℕ} {whole : (�
         fewer = λ p. (let less = a.fewer p in omega arith);
       }
 
-  turns-by : (r : Wait) → Awaits settings s rows attrs n i whole turns r → wait_turns settings s rows attrs n i r ≤ turns
+  turns-by : (r : Result Wait Refusal) → Awaits settings s rows attrs n i whole turns r → wait_turns settings s rows attrs n i r ≤ turns
   unfolding wait_turns
-  turns-by (wait.Nothing size) a = omega arith
-  turns-by (wait.Type t st) a = let less : stage_turns settings s rows attrs n i st < turns = a.fewer refl in omega arith
-  turns-by (wait.Refused why) a = omega arith
+  turns-by (Ok (wait.Nothing size)) a = omega arith
+  turns-by (Ok (wait.Type t st)) a = let less : stage_turns settings s rows attrs n i st < turns = a.fewer refl in omega arith
+  turns-by (Err why) a = omega arith
 
-  pub awaits-turns : {r : Wait} → Awaits settings s rows attrs n i whole turns r → wait_turns settings s rows attrs n i r ≤ turns
+  pub awaits-turns : {r : Result Wait Refusal} → Awaits settings s rows attrs n i whole turns r → wait_turns settings s rows attrs n i r ≤ turns
   awaits-turns {r} a = turns-by r a
 
 -- ---- the children of a row, up to the first whose type's size is wanted
@@ -187,25 +187,25 @@ module _ (settings : Settings) (s rows attrs : List ℕ) (n i from end : ℕ) wh
 
 module _ {settings : Settings} {s rows attrs : List ℕ} {n i from most end c largest : ℕ} (w : MembersOn settings s rows attrs n i from most end c largest) where
   pub members-done : n ≤ c → Awaits settings s rows attrs n i
-      (λ size_of. ends_over settings s rows attrs n size_of most (children_on settings s rows attrs n i from)) (length (children_on settings s rows attrs n i from)) (wait.Nothing largest)
+      (λ size_of. ends_over settings s rows attrs n size_of most (children_on settings s rows attrs n i from)) (length (children_on settings s rows attrs n i from)) (Ok (wait.Nothing largest))
   unfolding ends_over
   members-done l = awaits-nothing (λ size_of. walking-ends (w.walks size_of) l)
 
-  module _ (l : c < n) {told : Part} (says : PartSays settings s rows attrs n c largest told) where
+  module _ (l : c < n) {told : Result Part Refusal} (says : PartSays settings s rows attrs n c largest told) where
     -- child c, then those after it
-    part_then : (size_of : «Type» → Said ℕ) {x : Part} → told ≡ x → (cs : List ℕ)
+    part_then : (size_of : «Type» → Said ℕ) {x : Result Part Refusal} → told ≡ x → (cs : List ℕ)
         → (part_end rows c largest size_of x >>= λ next. ends_over settings s rows attrs n size_of next cs) ≡ ends_over settings s rows attrs n size_of largest (c ∷ cs)
     unfolding ends_over
     part_then size_of p cs =
         ap (λ (d : Said ℕ). d >>= λ next. ends_over settings s rows attrs n size_of next cs)
         (ap (part_end rows c largest size_of) (sym p) ∙ says.end_is size_of)
 
-    pub members-refused : {why : Refusal} → told ≡ part.Refused why → Awaits settings s rows attrs n i
-        (λ size_of. ends_over settings s rows attrs n size_of most (children_on settings s rows attrs n i from)) (length (children_on settings s rows attrs n i from)) (wait.Refused why)
+    pub members-refused : {why : Refusal} → told ≡ Err why → (z : Result Wait Refusal) → IsErrAnd z (λ e. e ≡ why) → Awaits settings s rows attrs n i
+        (λ size_of. ends_over settings s rows attrs n size_of most (children_on settings s rows attrs n i from)) (length (children_on settings s rows attrs n i from)) z
     unfolding part_end ◌>>=◌
-    members-refused p = awaits-refused (λ size_of. walking-stops (w.walks size_of) l (λ cs. part_then size_of p cs))
+    members-refused p z exits = awaits-refused _ z exits (λ size_of. walking-stops (w.walks size_of) l (λ cs. part_then size_of p cs))
 
-    pub members-go : {next d c' : ℕ} → told ≡ part.Ends next → d ≡ sibling_row (lent_rows settings.endian s rows attrs n) c
+    pub members-go : {next d c' : ℕ} → told ≡ Ok (part.Ends next) → d ≡ sibling_row (lent_rows settings.endian s rows attrs n) c
         → c' ≡ first_or n (children_from settings.endian s rows attrs n end d) → MembersOn settings s rows attrs n i from most end c' next
     unfolding part_end ◌>>=◌
     members-go p q is =
@@ -243,9 +243,9 @@ module _ {settings : Settings} {s rows attrs : List ℕ} {n i from most end c la
         let most-left = w.within in
         omega arith
 
-    pub members-typed : AskedShort s rows n i → {offset : ℕ} {t : «Type»} → told ≡ part.Typed offset t → Awaits settings s rows attrs n i
+    pub members-typed : AskedShort s rows n i → {offset : ℕ} {t : «Type»} → told ≡ Ok (part.Typed offset t) → Awaits settings s rows attrs n i
         (λ size_of. ends_over settings s rows attrs n size_of most (children_on settings s rows attrs n i from)) (length (children_on settings s rows attrs n i from))
-        (wait.Type t (stage.Member c offset largest))
+        (Ok (wait.Type t (stage.Member c offset largest)))
     unfolding part_end wait_size stage_size stage_turns stage_of
     members-typed a {offset} {t} p =
         record {
@@ -261,17 +261,19 @@ module _ {settings : Settings} {s rows attrs : List ℕ} {n i from most end c la
 -- ---- the stages
 
 module _ (settings : Settings) (s rows attrs : List ℕ) (n i : ℕ) where
-  module _ {told : Prepared} (is : said_prepared told ≡ prepared_row settings s rows attrs n i) where
-    pub begun-size : {size : ℕ} → told ≡ prepared.Size size → Awaits settings s rows attrs n i (λ size_of. row_size settings (lent_rows settings.endian s rows attrs n) size_of i) (suc n) (wait.Nothing size)
+  module _ {told : Result Prepared Refusal} (is : said_prepared told ≡ prepared_row settings s rows attrs n i) where
+    pub begun-size : {size : ℕ} → told ≡ Ok (prepared.Size size)
+        → Awaits settings s rows attrs n i (λ size_of. row_size settings (lent_rows settings.endian s rows attrs n) size_of i) (suc n) (Ok (wait.Nothing size))
     unfolding finished said_prepared ◌>>=◌
     begun-size p = awaits-nothing (λ size_of. row_is settings s rows attrs n i is size_of p refl)
 
-    pub begun-refused : {why : Refusal} → told ≡ prepared.Refused why → Awaits settings s rows attrs n i (λ size_of. row_size settings (lent_rows settings.endian s rows attrs n) size_of i) (suc n) (wait.Refused why)
+    pub begun-refused : {why : Refusal} → told ≡ Err why → (z : Result Wait Refusal) → IsErrAnd z (λ e. e ≡ why)
+        → Awaits settings s rows attrs n i (λ size_of. row_size settings (lent_rows settings.endian s rows attrs n) size_of i) (suc n) z
     unfolding finished said_prepared ◌>>=◌
-    begun-refused p = awaits-refused (λ size_of. row_is settings s rows attrs n i is size_of p refl)
+    begun-refused p z exits = awaits-refused _ z exits (λ size_of. row_is settings s rows attrs n i is size_of p refl)
 
-    pub begun-element : AskedShort s rows n i → {t : «Type»} {k : ℕ} → told ≡ prepared.Element t k
-        → Awaits settings s rows attrs n i (λ size_of. row_size settings (lent_rows settings.endian s rows attrs n) size_of i) (suc n) (wait.Type t (stage.Element k))
+    pub begun-element : AskedShort s rows n i → {t : «Type»} {k : ℕ} → told ≡ Ok (prepared.Element t k)
+        → Awaits settings s rows attrs n i (λ size_of. row_size settings (lent_rows settings.endian s rows attrs n) size_of i) (suc n) (Ok (wait.Type t (stage.Element k)))
     unfolding wait_size stage_size stage_turns stage_of finished said_prepared array_product run_of ends_of ◌>>=◌
     begun-element a {t} {k} p =
         record {
@@ -280,7 +282,7 @@ module _ (settings : Settings) (s rows attrs : List ℕ) (n i : ℕ) where
           fewer = λ q. subst (λ (st : Stage). stage_turns settings s rows attrs n i st < suc n) (ap stage_of q) (omega arith);
         }
 
-    module _ (p : told ≡ prepared.Ends) where
+    module _ (p : told ≡ Ok prepared.Ends) where
       pub begun-from : AskedShort s rows n i → {from : ℕ} → from ≡ next_row rows n i → FromAsked settings s rows attrs n i from
       begun-from a q =
           record {
@@ -290,7 +292,7 @@ module _ (settings : Settings) (s rows attrs : List ℕ) (n i : ℕ) where
                 (ends_asked settings s rows attrs n i is p a).ends_at.ending;
           }
 
-      pub begun-ends : {from : ℕ} {r : Wait} → from ≡ next_row rows n i
+      pub begun-ends : {from : ℕ} {r : Result Wait Refusal} → from ≡ next_row rows n i
           → Awaits settings s rows attrs n i (λ size_of. ends_over settings s rows attrs n size_of 0 (children_on settings s rows attrs n i from))
           (length (children_on settings s rows attrs n i from)) r
           → Awaits settings s rows attrs n i (λ size_of. row_size settings (lent_rows settings.endian s rows attrs n) size_of i) (suc n) r
@@ -302,31 +304,34 @@ module _ (settings : Settings) (s rows attrs : List ℕ) (n i : ℕ) where
           (ap (λ (x : ℕ). ends_over settings s rows attrs n size_of 0 (children_from settings.endian s rows attrs n (sibling_row (lent_rows settings.endian s rows attrs n) i) x)) q))
           (omega arith)
 
-  module _ (k size : ℕ) {told : Sized} (is : said_sized told ≡ array_product settings s rows attrs i k size) where
-    pub multiplied-is : {product : ℕ} → told ≡ Is product → Awaits settings s rows attrs n i (λ size_of. array_product settings s rows attrs i k size) 0 (wait.Nothing product)
-    unfolding said_sized
-    multiplied-is p = awaits-nothing (λ size_of. case-said said_sized is p)
+  module _ (k size : ℕ) {told : Result ℕ Refusal} (is : said told ≡ array_product settings s rows attrs i k size) where
+    pub multiplied-is : {product : ℕ} → told ≡ Ok product → Awaits settings s rows attrs n i (λ size_of. array_product settings s rows attrs i k size) 0 (Ok (wait.Nothing product))
+    unfolding said
+    multiplied-is p = awaits-nothing (λ size_of. case-said said is p)
 
-    pub multiplied-refused : {why : Refusal} → told ≡ Refused why → Awaits settings s rows attrs n i (λ size_of. array_product settings s rows attrs i k size) 0 (wait.Refused why)
-    unfolding said_sized
-    multiplied-refused p = awaits-refused (λ size_of. case-said said_sized is p)
+    pub multiplied-refused : {why : Refusal} → told ≡ Err why → (z : Result Wait Refusal) → IsErrAnd z (λ e. e ≡ why)
+        → Awaits settings s rows attrs n i (λ size_of. array_product settings s rows attrs i k size) 0 z
+    unfolding said
+    multiplied-refused p z exits = awaits-refused _ z exits (λ size_of. case-said said is p)
 
-  module _ (c offset largest size : ℕ) {told : Sized} (is : said_sized told ≡ grown rows c largest offset size) where
-    pub grown-refused : {why : Refusal} → told ≡ Refused why
-        → Awaits settings s rows attrs n i (λ size_of. stage_size settings s rows attrs n i size_of (stage.Member c offset largest) size) (length (children_after settings s rows attrs n i c)) (wait.Refused why)
-    unfolding stage_size said_sized ◌>>=◌
-    grown-refused p =
-        awaits-refused (λ size_of. goes_on said_sized is p (λ next. ends_over settings s rows attrs n size_of next (children_after settings s rows attrs n i c)) refl)
+  module _ (c offset largest size : ℕ) {told : Result ℕ Refusal} (is : said told ≡ grown rows c largest offset size) where
+    pub grown-refused : {why : Refusal} → told ≡ Err why → (z : Result Wait Refusal) → IsErrAnd z (λ e. e ≡ why)
+        → Awaits settings s rows attrs n i (λ size_of. stage_size settings s rows attrs n i size_of (stage.Member c offset largest) size)
+        (length (children_after settings s rows attrs n i c)) z
+    unfolding stage_size said ◌>>=◌
+    grown-refused p z exits =
+        awaits-refused _ z exits
+        (λ size_of. goes_on said is p (λ next. ends_over settings s rows attrs n size_of next (children_after settings s rows attrs n i c)) refl)
 
-    pub grown-next : {next from : ℕ} {r : Wait} → told ≡ Is next → from ≡ sibling_row (lent_rows settings.endian s rows attrs n) c
+    pub grown-next : {next from : ℕ} {r : Result Wait Refusal} → told ≡ Ok next → from ≡ sibling_row (lent_rows settings.endian s rows attrs n) c
         → Awaits settings s rows attrs n i (λ size_of. ends_over settings s rows attrs n size_of next (children_on settings s rows attrs n i from))
         (length (children_on settings s rows attrs n i from)) r
         → Awaits settings s rows attrs n i (λ size_of. stage_size settings s rows attrs n i size_of (stage.Member c offset largest) size) (length (children_after settings s rows attrs n i c)) r
-    unfolding stage_size children_after said_sized ◌>>=◌
+    unfolding stage_size children_after said ◌>>=◌
     grown-next {next} p q a =
         let same = ap (λ (x : ℕ). length (children_on settings s rows attrs n i x)) q in
         awaits-as a
-        (λ size_of. goes_on said_sized is p (λ m. ends_over settings s rows attrs n size_of m (children_after settings s rows attrs n i c))
+        (λ size_of. goes_on said is p (λ m. ends_over settings s rows attrs n size_of m (children_after settings s rows attrs n i c))
         (ap (λ (x : ℕ). ends_over settings s rows attrs n size_of next (children_on settings s rows attrs n i x)) q))
         (omega arith)
 
@@ -337,57 +342,79 @@ module _ (settings : Settings) (s rows attrs : List ℕ) (n i : ℕ) where
   begin-staged a = record { row = a; at_member = λ p. absurd (subst IsMember (sym p) tt) }
 
   -- a stage that is known
-  pub stage-as : {st x : Stage} (size : ℕ) {r : Wait} → st ≡ x
+  pub stage-as : {st x : Stage} (size : ℕ) {r : Result Wait Refusal} → st ≡ x
       → Awaits settings s rows attrs n i (λ size_of. stage_size settings s rows attrs n i size_of x size) (stage_turns settings s rows attrs n i x) r
       → Awaits settings s rows attrs n i (λ size_of. stage_size settings s rows attrs n i size_of st size) (stage_turns settings s rows attrs n i st) r
   stage-as size {r = r} p a =
       subst (λ (x : Stage). Awaits settings s rows attrs n i (λ size_of. stage_size settings s rows attrs n i size_of x size) (stage_turns settings s rows attrs n i x) r) (sym p) a
 
 turns-type : (settings : Settings) (s rows attrs : List ℕ) (n i : ℕ) {w : Wait} {t : «Type»} {st : Stage} → w ≡ wait.Type t st
-    → wait_turns settings s rows attrs n i w ≡ suc (stage_turns settings s rows attrs n i st)
+    → wait_turns settings s rows attrs n i (Ok w) ≡ suc (stage_turns settings s rows attrs n i st)
 unfolding wait_turns
-turns-type settings s rows attrs n i p = ap (wait_turns settings s rows attrs n i) p
+turns-type settings s rows attrs n i p = ap (λ (w : Wait). wait_turns settings s rows attrs n i (Ok w)) p
 
 -- ---- from one wait to the next
 
 pub record Waiting (settings : Settings) (s rows attrs : List ℕ) (n i : ℕ) (size_of : «Type» → Said ℕ) (w : Wait) : Type 0 where
-  pub size_is : wait_size settings s rows attrs n i size_of w ≡ row_size settings (lent_rows settings.endian s rows attrs n) size_of i
+  pub size_is : wait_size settings s rows attrs n i size_of (Ok w) ≡ row_size settings (lent_rows settings.endian s rows attrs n) size_of i
   pub staged : {t : «Type»} {st : Stage} → w ≡ wait.Type t st → Staged settings s rows attrs n i st
 
 module _ (settings : Settings) (s rows attrs : List ℕ) (n i : ℕ) (size_of : «Type» → Said ℕ) where
-  pub waiting-begins : (size : ℕ) {w : Wait}
-      → Awaits settings s rows attrs n i (λ f. stage_size settings s rows attrs n i f stage.Begin size) (stage_turns settings s rows attrs n i stage.Begin) w
-      → Waiting settings s rows attrs n i size_of w
-  unfolding stage_size
-  waiting-begins size a = record { size_is = a.size_is size_of; staged = λ p. a.staged p }
+  -- what a stage promised, of what it came to
+  module _ {whole : («Type» → Said ℕ) → Said ℕ} {turns : ℕ} {r : Result Wait Refusal} (a : Awaits settings s rows attrs n i whole turns r) where
+    came-to : {x : Result Wait Refusal} → r ≡ x → wait_size settings s rows attrs n i size_of x ≡ whole size_of
+    came-to p = ap (wait_size settings s rows attrs n i size_of) (sym p) ∙ a.size_is size_of
+
+    came-on : {w : Wait} → r ≡ Ok w → whole size_of ≡ row_size settings (lent_rows settings.endian s rows attrs n) size_of i
+        → Waiting settings s rows attrs n i size_of w
+    came-on p is = record { size_is = came-to p ∙ is; staged = λ q. a.staged (p ∙ ap Ok q) }
+
+    came-out : {why : Refusal} → r ≡ Err why → refusal why ≡ whole size_of
+    unfolding wait_size
+    came-out p = came-to p
+
+  module _ (size : ℕ) {r : Result Wait Refusal}
+      (a : Awaits settings s rows attrs n i (λ f. stage_size settings s rows attrs n i f stage.Begin size) (stage_turns settings s rows attrs n i stage.Begin) r) where
+    pub waiting-begins : {w : Wait} → r ≡ Ok w → Waiting settings s rows attrs n i size_of w
+    unfolding stage_size
+    waiting-begins p = came-on a p refl
+
+    pub begin-refused : {why : Refusal} → r ≡ Err why → refusal why ≡ row_size settings (lent_rows settings.endian s rows attrs n) size_of i
+    unfolding stage_size
+    begin-refused p = came-out a p
 
   module _ {w : Wait} (on : Waiting settings s rows attrs n i size_of w) where
-    pub waiting-size : {size : ℕ} → w ≡ wait.Nothing size → said_sized (Is size) ≡ row_size settings (lent_rows settings.endian s rows attrs n) size_of i
-    unfolding wait_size said_sized
-    waiting-size p = ap (wait_size settings s rows attrs n i size_of) (sym p) ∙ on.size_is
+    pub waiting-size : {size : ℕ} → w ≡ wait.Nothing size → said (Ok size) ≡ row_size settings (lent_rows settings.endian s rows attrs n) size_of i
+    unfolding wait_size said
+    waiting-size p = ap (λ (x : Wait). wait_size settings s rows attrs n i size_of (Ok x)) (sym p) ∙ on.size_is
 
-    pub waiting-refused : {why : Refusal} → w ≡ wait.Refused why → said_sized (Refused why) ≡ row_size settings (lent_rows settings.endian s rows attrs n) size_of i
-    unfolding wait_size said_sized
-    waiting-refused p = ap (wait_size settings s rows attrs n i size_of) (sym p) ∙ on.size_is
-
-    module _ {t : «Type»} {st : Stage} (p : w ≡ wait.Type t st) {told : Sized} (is : said_sized told ≡ size_of t) where
-      type-then : {x : Sized} {z : Said ℕ} → told ≡ x → z ≡ (said_sized x >>= stage_size settings s rows attrs n i size_of st)
+    module _ {t : «Type»} {st : Stage} (p : w ≡ wait.Type t st) {told : Result ℕ Refusal} (is : said told ≡ size_of t) where
+      type-then : {x : Result ℕ Refusal} {z : Said ℕ} → told ≡ x → z ≡ (said x >>= stage_size settings s rows attrs n i size_of st)
           → z ≡ row_size settings (lent_rows settings.endian s rows attrs n) size_of i
       unfolding wait_size
-      type-then q h = goes_on said_sized is q (stage_size settings s rows attrs n i size_of st) h ∙ ap (wait_size settings s rows attrs n i size_of) (sym p) ∙ on.size_is
+      type-then q h =
+          goes_on said is q (stage_size settings s rows attrs n i size_of st) h
+          ∙ ap (λ (x : Wait). wait_size settings s rows attrs n i size_of (Ok x)) (sym p) ∙ on.size_is
 
-      pub type-unsaid : {why : Refusal} → told ≡ Refused why → said_sized (Refused why) ≡ row_size settings (lent_rows settings.endian s rows attrs n) size_of i
-      unfolding said_sized ◌>>=◌
+      pub type-unsaid : {why : Refusal} → told ≡ Err why → refusal why ≡ row_size settings (lent_rows settings.endian s rows attrs n) size_of i
+      unfolding said ◌>>=◌
       type-unsaid q = type-then q refl
 
-      module _ {size : ℕ} (q : told ≡ Is size) {r : Wait}
+      module _ {size : ℕ} (q : told ≡ Ok size) {r : Result Wait Refusal}
           (a : Awaits settings s rows attrs n i (λ f. stage_size settings s rows attrs n i f st size) (stage_turns settings s rows attrs n i st) r) where
-        pub waiting-on : Waiting settings s rows attrs n i size_of r
-        unfolding said_sized ◌>>=◌
-        waiting-on = record { size_is = type-then q (a.size_is size_of); staged = λ u. a.staged u }
+        stage-is : stage_size settings s rows attrs n i size_of st size ≡ row_size settings (lent_rows settings.endian s rows attrs n) size_of i
+        unfolding said ◌>>=◌
+        stage-is = type-then q refl
 
-        pub waiting-less : wait_turns settings s rows attrs n i r < wait_turns settings s rows attrs n i w
-        waiting-less =
+        pub waiting-on : {w' : Wait} → r ≡ Ok w' → Waiting settings s rows attrs n i size_of w'
+        waiting-on u = came-on a u stage-is
+
+        pub waiting-refused : {why : Refusal} → r ≡ Err why → refusal why ≡ row_size settings (lent_rows settings.endian s rows attrs n) size_of i
+        waiting-refused u = came-out a u ∙ stage-is
+
+        pub waiting-less : {w' : Wait} → r ≡ Ok w' → wait_turns settings s rows attrs n i (Ok w') < wait_turns settings s rows attrs n i (Ok w)
+        waiting-less u =
             let most = awaits-turns a in
-            let turns : wait_turns settings s rows attrs n i w ≡ suc (stage_turns settings s rows attrs n i st) = turns-type settings s rows attrs n i p in
+            let same = ap (wait_turns settings s rows attrs n i) u in
+            let turns : wait_turns settings s rows attrs n i (Ok w) ≡ suc (stage_turns settings s rows attrs n i st) = turns-type settings s rows attrs n i p in
             omega arith

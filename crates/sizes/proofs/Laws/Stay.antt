@@ -1,4 +1,5 @@
 -- A size that is not refused for its depth stays with every level above: what an entry's size asks for stays, so it stays.
+use Rattle.std.specs.Prelude.{Option, Some, None}
 use Prim.Native.Nat.{ℕ, zero, suc, ◌+◌}
 use mathlib.Core.Path.{◌≡◌, refl, ap, ◌∙◌}
 use mathlib.Core.Bool.{Bool, true, false, cond}
@@ -8,7 +9,7 @@ use Rattle.format.specs.Refusal.{number_of}
 use Rattle.format.specs.Said.{Said, gives, refuses, refuse, ◌>>=◌, ◌>>◌}
 use Rattle.format.specs.declared.settings.Settings.{Settings}
 use Rattle.format.specs.declared.refusal.Reason.TheVariants as reason
-use Rattle.blocks.specs.Subscripts.{Array}
+use Rattle.blocks.specs.declared.subscripts.Array.{Array}
 use Rattle.blocks.specs.declared.types.Type.{«Type»}
 use Rattle.blocks.specs.declared.types.TypeKind.{TypeKind}
 use Rattle.blocks.specs.declared.types.TypeKind.TheVariants as kind
@@ -21,8 +22,6 @@ use Rattle.records.specs.Fields.{last_of, word_of}
 use Rattle.records.specs.Unions.{RowMember}
 use Rattle.records.specs.declared.scan.Run.{Run}
 use Rattle.records.specs.declared.fields.Sought.TheVariants as sought
-use Rattle.records.specs.declared.fields.Word.{Word}
-use Rattle.records.specs.declared.fields.Word.TheVariants as word
 use Rattle.sizes.specs.Size.{kind_size, type_size_by, needed_at, subscripts_at, subscript_fault, array_size, members_of, size_or, member_size, with_end, ends_from, size_or_ends, shape_of, shape_size, row_size, entry_size}
 use Rattle.sizes.specs.declared.prepare.Shape.{Shape}
 use Rattle.sizes.specs.declared.prepare.Shape.TheVariants as shape
@@ -52,10 +51,10 @@ past-stays (gives y) x x' h s = h s
 past-stays (refuses number place counts) x x' h s = refl
 
 module _ (f g : «Type» → Said ℕ) (stays : (t : «Type») → Settled (f t) → g t ≡ f t) where
-  or-stays : (t : «Type») (w : Word) → Settled (size_or f t w) → size_or g t w ≡ size_or f t w
+  or-stays : (t : «Type») (w : Option ℕ) → Settled (size_or f t w) → size_or g t w ≡ size_or f t w
   unfolding size_or
-  or-stays t (word.Is size) s = refl
-  or-stays t word.Nothing s = stays t s
+  or-stays t (Some size) s = refl
+  or-stays t None s = stays t s
 
   ends_stay : (rows : List ℕ) (largest : ℕ) (ms : List RowMember) → Settled (ends_from rows f largest ms) → ends_from rows g largest ms ≡ ends_from rows f largest ms
   unfolding ends_from member_size
@@ -65,10 +64,10 @@ module _ (f g : «Type» → Said ℕ) (stays : (t : «Type») → Settled (f t)
       (λ size t. next-stays (with_end (row_at rows m.row).key largest (m.member.offset + size)) (λ next. ends_from rows f next ms)
       (λ next. ends_from rows g next ms) (λ next u. ends_stay rows next ms u) t) s
 
-  members-stay : (rows : List ℕ) (ms : List RowMember) (w : Word) → Settled (size_or_ends rows f ms w) → size_or_ends rows g ms w ≡ size_or_ends rows f ms w
+  members-stay : (rows : List ℕ) (ms : List RowMember) (w : Option ℕ) → Settled (size_or_ends rows f ms w) → size_or_ends rows g ms w ≡ size_or_ends rows f ms w
   unfolding size_or_ends
-  members-stay rows ms (word.Is size) s = refl
-  members-stay rows ms word.Nothing s = ends_stay rows 0 ms s
+  members-stay rows ms (Some size) s = refl
+  members-stay rows ms None s = ends_stay rows 0 ms s
 
   array-stays : (s attrs : List ℕ) (run : Run) → Settled (array_size s attrs run f) → array_size s attrs run g ≡ array_size s attrs run f
   unfolding array_size

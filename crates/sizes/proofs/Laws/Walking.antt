@@ -13,7 +13,7 @@ use Rattle.links.specs.Inside.Children.{Asked}
 use Rattle.records.specs.Inside.Unions.{EndsAt}
 
 -- from child c on, what is left comes to the whole
-pub record Walking (e : Endian) (s rows attrs : List ℕ) (n end : ℕ) {A : Type 0} (f : List ℕ → A) (all : A) (c : ℕ) : Type 0 where
+pub record Walking {A : Type 0} (e : Endian) (s rows attrs : List ℕ) (n end : ℕ) (f : List ℕ → A) (all : A) (c : ℕ) : Type 0 where
   pub on : Ends e s rows attrs n end c
   pub first : c ≡ first_or n (children_from e s rows attrs n end c)
   pub left : f (children_from e s rows attrs n end c) ≡ all

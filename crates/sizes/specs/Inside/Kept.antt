@@ -1,4 +1,5 @@
--- What is kept of each row for calls that take many sizes: three answers, in the words of noted sizes. Nothing is said of a list that is empty: then nothing is kept.
+-- What is kept of each row for calls that take many sizes: three answers, in the words of noted sizes. Nothing is said of a list that is empty: then nothing is
+-- kept.
 use Rattle.std.specs.Prelude.{ℕ, ◌+◌, ◌*◌, ◌≤◌, ◌<◌, ◌≡◌, true, false, cond, List, length, eqb}
 use Rattle.numbers.specs.declared.Endian.{Endian}
 use Rattle.format.specs.TagKind as tag
@@ -15,11 +16,10 @@ use Rattle.links.specs.Inside.Children.{Asked}
 use Rattle.records.specs.Inside.Enumeration.{AskedShort}
 use Rattle.records.specs.Member.{member_at}
 use Rattle.records.specs.declared.member.Member.{Member}
-use Rattle.sizes.specs.Size.{type_size_by, size_or, shape_of}
+use Rattle.sizes.specs.Size.{type_size_by, size_or, shape_of, is_structure}
 use Rattle.sizes.specs.Inside.Noted.{noted_at}
 use Rattle.sizes.specs.Inside.Prepare.{structure_fault}
 use Rattle.sizes.specs.Inside.Size.{Extent, with_size}
-use Rattle.sizes.specs.Size.{is_structure}
 
 -- the words of a row
 abbrev pub kept_width : ℕ
@@ -84,7 +84,8 @@ module _ (settings : Settings) (s rows attrs : List ℕ) (n : ℕ) (kept : List 
   -- siblings, and members' faults
   pub record FaultsKept : Type 0 where
     pub siblings : SiblingsKept settings.endian s rows attrs n kept
-    pub first : (c : ℕ) → c < n → 0 < length kept → (row_at rows c).kind ≡ tag.member → noted_at kept (c * 3) ≡ first_of (member_at settings (lent_rows settings.endian s rows attrs n) c)
+    pub first : (c : ℕ) → c < n → 0 < length kept → (row_at rows c).kind ≡ tag.member
+        → noted_at kept (c * 3) ≡ first_of (member_at settings (lent_rows settings.endian s rows attrs n) c)
 
   -- and structures' faults
   pub record RowsKept : Type 0 where
@@ -94,7 +95,9 @@ module _ (settings : Settings) (s rows attrs : List ℕ) (n : ℕ) (kept : List 
 
 module _ (settings : Settings) (sizes s rows attrs : List ℕ) (n : ℕ) (kept : List ℕ) where
   abbrev pub SecondKept : ℕ → Type 0
-  SecondKept k = (c : ℕ) → c < k → 0 < length kept → (row_at rows c).kind ≡ tag.member → noted_at kept (c * 3 + 1) ≡ second_of sizes rows n (member_at settings (lent_rows settings.endian s rows attrs n) c)
+  SecondKept k =
+      (c : ℕ) → c < k → 0 < length kept → (row_at rows c).kind ≡ tag.member
+      → noted_at kept (c * 3 + 1) ≡ second_of sizes rows n (member_at settings (lent_rows settings.endian s rows attrs n) c)
 
   -- siblings and members
   pub record MembersKept : Type 0 where
@@ -150,7 +153,8 @@ pub record PutTwo (c : ℕ) (first second : Said ℕ) (kept kept' : List ℕ) : 
 pub record PutRow (settings : Settings) (sizes s rows attrs : List ℕ) (n c : ℕ) (kept kept' : List ℕ) : Type 0 where
   pub sibling_is : noted_at kept' (c * 3 + 2) ≡ gives (sibling_row (lent_rows settings.endian s rows attrs n) c)
   pub first_is : (row_at rows c).kind ≡ tag.member → noted_at kept' (c * 3) ≡ first_of (member_at settings (lent_rows settings.endian s rows attrs n) c)
-  pub second_is : (row_at rows c).kind ≡ tag.member → noted_at kept' (c * 3 + 1) ≡ second_of sizes rows n (member_at settings (lent_rows settings.endian s rows attrs n) c)
+  pub second_is : (row_at rows c).kind ≡ tag.member
+      → noted_at kept' (c * 3 + 1) ≡ second_of sizes rows n (member_at settings (lent_rows settings.endian s rows attrs n) c)
   pub before : (j : ℕ) → j < c * 3 → noted_at kept' j ≡ noted_at kept j
   pub same_long : length kept' ≡ length kept
 

@@ -1,5 +1,6 @@
 -- How the code comes to a size: first all that needs no other size, then the element's size or the members' ends.
-use Rattle.std.specs.Prelude.{ℕ, ◌^◌, ◌<◌, cond, List, [], ◌∷◌, eqb}
+use Rattle.format.specs.declared.refusal.Refusal.{Refusal}
+use Rattle.std.specs.Prelude.{ℕ, ◌^◌, ◌<◌, cond, List, [], ◌∷◌, eqb, Result, Ok, Err, Option, Some, None}
 use Rattle.format.specs.AttributeKind as attribute
 use Rattle.format.specs.TagKind as tag
 use Rattle.format.specs.Said.{Said, gives, refuse, refusal, ◌>>=◌, ◌>>◌}
@@ -18,8 +19,6 @@ use Rattle.records.specs.Enumeration.{enumeration_at}
 use Rattle.records.specs.PtrToMember.{ptr_at}
 use Rattle.records.specs.declared.scan.Run.{Run}
 use Rattle.records.specs.declared.fields.Sought.TheVariants as sought
-use Rattle.records.specs.declared.fields.Word.{Word}
-use Rattle.records.specs.declared.fields.Word.TheVariants as word
 use Rattle.sizes.specs.Size.{shape_of, needed_at, subscript_block, subscripts_at, subscript_fault, product_of, members_of, ends_from}
 use Rattle.sizes.specs.declared.prepare.Shape.{Shape}
 use Rattle.sizes.specs.declared.prepare.Shape.TheVariants as shape
@@ -37,11 +36,11 @@ pub data Ready : Type 0 where
   ends_wanted : Ready
 
 -- what an answer says
-unfoldable pub said_prepared : Prepared → Said Ready
-said_prepared (prepared.Size size) = gives (sized size)
-said_prepared (prepared.Element t k) = gives (element_of t k)
-said_prepared prepared.Ends = gives ends_wanted
-said_prepared (prepared.Refused why) = refusal why
+unfoldable pub said_prepared : Result Prepared Refusal → Said Ready
+said_prepared (Ok (prepared.Size size)) = gives (sized size)
+said_prepared (Ok (prepared.Element t k)) = gives (element_of t k)
+said_prepared (Ok prepared.Ends) = gives ends_wanted
+said_prepared (Err why) = refusal why
 
 -- ---- arrays
 
@@ -81,9 +80,9 @@ module _ (settings : Settings) (s rows attrs : List ℕ) (n : ℕ) where
   structure_fault i = walk_fault i (child_walk (lent_rows settings.endian s rows attrs n) i)
 
   -- a ByteSize, or the ends are needed
-  unfoldable pub size_prepared : Word → Ready
-  size_prepared (word.Is size) = sized size
-  size_prepared word.Nothing = ends_wanted
+  unfoldable pub size_prepared : Option ℕ → Ready
+  size_prepared (Some size) = sized size
+  size_prepared None = ends_wanted
 
   -- a structure's row
   unfoldable pub prepared_structure : ℕ → Said Ready

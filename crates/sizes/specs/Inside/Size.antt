@@ -1,5 +1,6 @@
 -- How the code takes sizes: with the levels that are left, or from sizes that are noted already; a structure's children one at a time.
-use Rattle.std.specs.Prelude.{ℕ, ◌+◌, ◌<◌, cond, List, [], ◌∷◌, length, eqb}
+use Rattle.format.specs.declared.refusal.Refusal.{Refusal}
+use Rattle.std.specs.Prelude.{ℕ, ◌+◌, ◌<◌, cond, List, [], ◌∷◌, length, eqb, Result, Ok, Err, Option}
 use Rattle.format.specs.Limits.{section_limit}
 use Rattle.format.specs.TagKind as tag
 use Rattle.format.specs.Said.{Said, gives, refusal, ◌>>=◌}
@@ -9,7 +10,6 @@ use Rattle.tables.specs.Table.{lent_rows}
 use Rattle.tables.specs.Row.{row_at}
 use Rattle.tables.specs.Find.{row_of_key}
 use Rattle.tables.specs.Keyed.{found_row}
-use Rattle.tables.specs.declared.find.Found.{Found}
 use Rattle.links.specs.Inside.Links.{RowsHold}
 use Rattle.records.specs.Scan.{run_of}
 use Rattle.records.specs.Member.{member_at}
@@ -17,7 +17,6 @@ use Rattle.records.specs.Inside.Unions.{EndsAt}
 use Rattle.sizes.specs.Size.{subscript_block, product_of, size_or, with_end, entry_size, type_size_by}
 use Rattle.sizes.specs.Inside.Noted.{noted_at}
 use Rattle.sizes.specs.declared.kept.Added.{Added}
-use Rattle.sizes.specs.declared.kept.Added.TheVariants as added
 
 -- a table that was tested
 pub record TableReady (s rows : List ℕ) (n : ℕ) : Type 0 where
@@ -37,9 +36,9 @@ pub record Extent : Type 0 where
   pub size : ℕ
 
 -- what an answer says
-unfoldable pub said_added : Added → Said Extent
-said_added (added.Is offset size) = gives (record { offset = offset; size = size })
-said_added (added.Refused why) = refusal why
+unfoldable pub said_added : Result Added Refusal → Said Extent
+said_added (Ok added) = gives (record { offset = added.offset; size = added.size })
+said_added (Err why) = refusal why
 
 -- a size that is said, with an offset
 unfoldable pub with_size : ℕ → Said ℕ → Said Extent
@@ -78,13 +77,15 @@ array_product settings s rows attrs i k size =
 -- ---- with sizes that are noted already
 
 -- the size of the row that was found, from the noted ones; 11 where there is none
-unfoldable pub noted_found : List ℕ → ℕ → Found → Said ℕ
+unfoldable pub noted_found : List ℕ → ℕ → Option ℕ → Said ℕ
 noted_found noted key found = found_row key found >>= noted_at noted
 
 module _ (settings : Settings) (sizes s rows attrs : List ℕ) (n : ℕ) (noted : List ℕ) (levels : ℕ) where
   -- the size of an entry: from the noted ones if there are any, else with so many levels left
   unfoldable pub entry_size_from : ℕ → Said ℕ
-  entry_size_from key = cond (eqb (length noted) 0) (entry_size settings sizes (lent_rows settings.endian s rows attrs n) levels key) (noted_found noted key (row_of_key rows n key))
+  entry_size_from key =
+      cond (eqb (length noted) 0) (entry_size settings sizes (lent_rows settings.endian s rows attrs n) levels key)
+      (noted_found noted key (row_of_key rows n key))
 
   -- the same of a type
   unfoldable pub type_size_from : «Type» → Said ℕ

@@ -1,12 +1,9 @@
-use Rattle.layout.proofs.Laws.All.{counting-begins, counting-asked, counting-on, counting-ends, told_none, told_more, told-all}
+use Rattle.layout.proofs.Laws.All.{counting-begins, counting-on, counting-ends, told_none, told_more, told-all}
 use mathlib.Core.Path.{refl, ◌∙◌}
 use Rattle.layout.proofs.all.count_layouts.Goals as goal
 
 pub loop-i-init : goal.loop-i-init
 loop-i-init c = (counting-begins c.requires.0.ready _, (told_none _ _ _ _ _ _ c.requires.0.fits, refl))
-
-pub count_row-counts-requires : goal.count_row-counts-requires
-count_row-counts-requires c = (counting-asked c.loop-i.invariant.0 c.loop-i-test.true, (c.loop-i.invariant.1.0.fits, c.requires.1))
 
 pub loop-i-preserved : goal.loop-i-preserved
 loop-i-preserved c = (

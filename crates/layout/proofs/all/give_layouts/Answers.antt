@@ -1,9 +1,6 @@
 use Rattle.layout.proofs.Laws.All.{rooms-asked, rooms-unlisted, rooms-unfit, rooms-filled}
 use Rattle.layout.proofs.all.give_layouts.Goals as goal
 
-pub count_layouts-needed-requires : goal.count_layouts-needed-requires
-count_layouts-needed-requires c = c.requires
-
 pub returns-then-needed-structures : goal.returns-then-needed-structures
 returns-then-needed-structures c = rooms-unlisted _ c.count_layouts-needed.ensures.counts_are _ _ c.if-needed-structures.true
 

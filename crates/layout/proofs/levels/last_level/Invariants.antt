@@ -1,11 +1,7 @@
 use Rattle.layout.specs.Inside.Levels.{last_level, NotedUpTo}
-use Prim.Native.Nat.{◌-◌}
 use mathlib.Core.Path.{◌≡◌}
 use lib.ListN.{length}
 use Rattle.layout.proofs.levels.last_level.Given as goal
 
 abbrev pub invariant-loop-i : goal.invariant-loop-i
 invariant-loop-i l = NotedUpTo (last_level l.rows) l.n l.i l.noted × (length l.noted ≡ length l.initial.noted)
-
-abbrev pub decreases-loop-i : goal.decreases-loop-i
-decreases-loop-i l = l.n - l.i

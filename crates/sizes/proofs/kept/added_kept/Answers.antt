@@ -1,15 +1,13 @@
-use Rattle.format.specs.Said.{◌>>=◌}
-use Rattle.format.proofs.Laws.Said.{goes_on}
-use Rattle.sizes.specs.Size.{said_sized}
+use Rattle.sizes.proofs.Laws.Exit.{gone_by}
 use Rattle.sizes.specs.Inside.Size.{said_added}
 use Rattle.sizes.specs.Inside.Kept.{added_by, added_kept}
 use Rattle.sizes.proofs.Laws.Kept.{kept-offset}
 use mathlib.Core.Path.{refl}
 use Rattle.sizes.proofs.kept.added_kept.Goals as goal
 
-pub returns-in-Is : goal.returns-in-Is
-returns-in-Is c = kept-offset _ _ _ c.noted_at.ensures c.in-Is.is c.noted_at-in-Is.ensures c.size_kept.ensures c.with_size.ensures
+pub returns : goal.returns
+returns c = kept-offset _ _ _ c.noted_at.ensures c.in_ok-offset.was c.noted_at-size.ensures c.size_kept.ensures c.with_size.ensures
 
-pub returns-in-Refused : goal.returns-in-Refused
-unfolding added_kept added_by said_added said_sized ◌>>=◌
-returns-in-Refused c = goes_on said_sized c.noted_at.ensures c.in-Refused.is _ refl
+pub returns-in_err-offset : goal.returns-in_err-offset
+unfolding added_kept added_by said_added
+returns-in_err-offset c = gone_by said_added (λ e. refl) c.noted_at.ensures c.in_err-offset.was _ c.from_residual.ensures.1 _

@@ -1,14 +1,13 @@
-use Rattle.format.specs.Said.{◌>>=◌}
-use Rattle.format.proofs.Laws.Said.{goes_on}
-use Rattle.sizes.specs.Size.{said_sized}
+use Rattle.format.proofs.Laws.Said.{comes_on}
+use Rattle.sizes.proofs.Laws.Exit.{gone_by}
 use Rattle.sizes.specs.Inside.Size.{said_added, with_size}
 use mathlib.Core.Path.{refl}
 use Rattle.sizes.proofs.kept.with_size.Goals as goal
 
-pub returns-in-Is : goal.returns-in-Is
-unfolding said_added said_sized with_size ◌>>=◌
-returns-in-Is c = goes_on said_sized refl c.in-Is.is _ refl
+pub returns : goal.returns
+unfolding said_added with_size
+returns c = comes_on refl c.in_ok-size.was _ refl
 
-pub returns-in-Refused : goal.returns-in-Refused
-unfolding said_added said_sized with_size ◌>>=◌
-returns-in-Refused c = goes_on said_sized refl c.in-Refused.is _ refl
+pub returns-in_err-size : goal.returns-in_err-size
+unfolding said_added with_size
+returns-in_err-size c = gone_by said_added (λ e. refl) refl c.in_err-size.was _ c.from_residual.ensures.1 _

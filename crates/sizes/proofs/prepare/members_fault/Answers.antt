@@ -1,7 +1,8 @@
+use Rattle.format.specs.Said.{said}
+use Rattle.format.proofs.Laws.Said.{refused-here}
 use Rattle.sizes.proofs.Laws.Prepare.{members_on, members-refused, members-none}
 use Rattle.sizes.proofs.Laws.Walking.{walking-begins, walking-ends, walking-asked, walking-stops, walking-ending, walking-less, walking_on}
 use Rattle.links.proofs.Laws.EachChild.{ends_at}
-use Rattle.records.specs.Inside.Scan.{said_fault}
 use mathlib.Core.Path.{◌∙◌}
 use Rattle.sizes.proofs.prepare.members_fault.Goals as goal
 
@@ -23,19 +24,22 @@ member_fault-requires c = (walking-asked c.loop-c.invariant c.loop-c-test.true, 
 pub kept_sibling-requires : goal.kept_sibling-requires
 kept_sibling-requires c = (walking-asked c.loop-c.invariant c.loop-c-test.true, c.requires.1.siblings)
 
-pub child_from-c-requires-in-Clear : goal.child_from-c-requires-in-Clear
-child_from-c-requires-in-Clear c = walking-ending c.loop-c.invariant c.loop-c-test.true c.kept_sibling.ensures
+pub child_from-c-requires-in-loop-c : goal.child_from-c-requires-in-loop-c
+child_from-c-requires-in-loop-c c = walking-ending c.loop-c.invariant c.loop-c-test.true c.kept_sibling.ensures
 
 pub loop-c-smaller : goal.loop-c-smaller
-loop-c-smaller c = walking-less c.loop-c.invariant c.loop-c-test.true c.kept_sibling.ensures c.child_from-c-in-Clear.ensures
+loop-c-smaller c = walking-less c.loop-c.invariant c.loop-c-test.true c.kept_sibling.ensures c.child_from-c-in-loop-c.ensures
 
 pub loop-c-preserved : goal.loop-c-preserved
-loop-c-preserved c = walking_on c.loop-c.invariant c.loop-c-test.true c.kept_sibling.ensures c.child_from-c-in-Clear.ensures (members_on _ _ _ _ _ _ c.member_fault.ensures c.in-Clear.is)
+loop-c-preserved c =
+    walking_on c.loop-c.invariant c.loop-c-test.true c.kept_sibling.ensures c.child_from-c-in-loop-c.ensures
+    (members_on _ _ _ _ _ _ c.member_fault.ensures c.in_ok-member_fault.was)
 
-pub returns-in-Refused : goal.returns-in-Refused
-unfolding said_fault
-returns-in-Refused c = walking-stops c.loop-c.invariant c.loop-c-test.true (members-refused _ _ _ _ _ _ c.member_fault.ensures c.in-Refused.is)
+pub returns-in_err-member_fault : goal.returns-in_err-member_fault
+returns-in_err-member_fault c =
+    refused-here c.member_fault.ensures c.in_err-member_fault.was _ c.from_residual.ensures.1
+    ∙ walking-stops c.loop-c.invariant c.loop-c-test.true (members-refused _ _ _ _ _ _ c.member_fault.ensures c.in_err-member_fault.was)
 
 pub returns : goal.returns
-unfolding said_fault
+unfolding said
 returns c = members-none _ _ _ _ _ ∙ walking-ends c.loop-c.invariant c.loop-c-test.false

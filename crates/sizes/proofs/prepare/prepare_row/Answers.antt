@@ -5,10 +5,15 @@ use mathlib.Core.Path.{refl}
 use Rattle.sizes.proofs.prepare.prepare_row.Goals as goal
 
 pub prepare_structure-requires : goal.prepare_structure-requires
-prepare_structure-requires c = record { asked = c.requires.0.asked; structure = shape-structure _ _ c.row_at-row.ensures c.shape_of.ensures c.in-Structure.is; kept_rows = c.requires.1 }
+prepare_structure-requires c =
+    record {
+      asked = c.requires.0.asked;
+      structure = shape-structure _ _ c.row_at-row.ensures c.shape_of.ensures c.in-Structure.is;
+      kept_rows = c.requires.1;
+    }
 
 pub returns-in-Array : goal.returns-in-Array
-returns-in-Array c = row-array _ _ _ _ _ _ c.row_at-row.ensures c.shape_of.ensures c.in-Array.is c.run_of.ensures c.prepare_array.ensures
+returns-in-Array c = row-array _ _ _ _ _ _ c.row_at-row.ensures c.shape_of.ensures c.in-Array.is c.run_of-run.ensures c.prepare_array.ensures
 
 pub returns-in-Structure : goal.returns-in-Structure
 unfolding prepared_shape
