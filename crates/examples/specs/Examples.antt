@@ -1,6 +1,7 @@
 -- The starred examples of document 01 ('Examples on each side') and some of document 02's K2 and K7, big-endian: what is asked of the public calls'
 -- definitions, and what they say, with number and place of a refusal, the byte that 4 to 6 of reading tell, and what lent memory then holds.
 -- `examples-hold` computes every row.
+use Rattle.std.specs.Prelude.{Option, Some, None}
 use Rattle.std.specs.Prelude.{ℕ, ◌+◌, ◌*◌, Bool, true, false, List, [], ◌∷◌, replicate, ℤ, pos, negsuc}
 use Rattle.lent.specs.Outcome.{Outcome, outcome, Outcomes, outcomes}
 use Rattle.numbers.specs.declared.Endian.TheVariants.{Big}
@@ -11,8 +12,6 @@ use Rattle.format.specs.Modifier.{modifier_of}
 use Rattle.format.specs.Said.{Said, gives, refuses}
 use Rattle.format.specs.Presets.{no_roles, rust_sizes}
 use Rattle.format.specs.declared.form_kind.FormKind.TheVariants as form
-use Rattle.format.specs.declared.fund_type.FundType.{FundType}
-use Rattle.format.specs.declared.fund_type.FundType.TheVariants as fund
 use Rattle.format.specs.declared.modifier.Modifier.{Modifier}
 use Rattle.format.specs.declared.modifier.Modifier.TheVariants as modifier
 use Rattle.format.specs.declared.settings.Settings.{Settings}
@@ -20,7 +19,8 @@ use Rattle.format.specs.declared.settings.Producer.TheVariants.{Other}
 use Rattle.attributes.specs.declared.decode.Extent.{Extent}
 use Rattle.blocks.specs.Modifiers.{process_modifiers}
 use Rattle.blocks.specs.Types.{process_type}
-use Rattle.blocks.specs.Subscripts.{Array, array_of, process_array_subscript_data}
+use Rattle.blocks.specs.Subscripts.{array_of, process_array_subscript_data}
+use Rattle.blocks.specs.declared.subscripts.Array.{Array}
 use Rattle.blocks.specs.declared.types.Type.{«Type»}
 use Rattle.blocks.specs.declared.types.TypeKind.TheVariants.{Fundamental}
 use Rattle.tables.specs.Table.{Table, table}
@@ -28,11 +28,9 @@ use Rattle.tables.specs.Row.{row_width, attr_width}
 use Rattle.tables.specs.Tests.{test_table}
 use Rattle.tables.specs.Unit.{no_unit}
 use Rattle.tables.specs.declared.row.Counts.{Counts}
-use Rattle.links.specs.Maybe.{Maybe, some}
 use Rattle.links.specs.Typed.{extent_of_key, part_of, value_of_key}
 use Rattle.records.specs.Enumeration.{process_enumeration_tag}
 use Rattle.records.specs.declared.enumeration.Enumeration.{Enumeration}
-use Rattle.records.specs.declared.fields.Name.TheVariants as name
 use Rattle.entries.specs.Section.{counts, read_debug_section}
 
 -- what an example asks: to read a section into lent tables, with the erased flag on or off, or into tables with room for five rows; whether a table
@@ -56,9 +54,9 @@ pub data Question : Type 0 where
 pub data Answer : Type 0 where
   tables : Outcomes (Said Counts) ℕ ℕ → Answer
   tested : Said Unit → Answer
-  text : Said (Maybe Extent) → List ℕ → Answer
-  value : Said (Maybe ℕ) → Answer
-  fundamental : FundType → Answer
+  text : Said (Option Extent) → List ℕ → Answer
+  value : Said (Option ℕ) → Answer
+  fundamental : Option ℕ → Answer
   one_modifier : Modifier → Answer
   pointers : Said Bool → Answer
   type : Said «Type» → Answer
@@ -170,7 +168,7 @@ enumeration_row = 0 ∷ tag.enumeration_type ∷ 0 ∷ 0 ∷ 2 ∷ no_unit ∷ [
 
 -- an enumeration without a name, of ByteSize 1, with so many members
 abbrev enumeration_is : ℕ → Said Enumeration
-enumeration_is many = gives (record { name = name.Nothing; byte_size = 1; members = many })
+enumeration_is many = gives (record { name = None; byte_size = 1; members = many })
 
 -- a null entry, a unit without a name, a null entry in it, another unit, a null entry in that
 abbrev two_units : List ℕ
@@ -204,12 +202,12 @@ examples =
     section false (0x00 ∷ 0x00 ∷ 0x00 ∷ 0x08 ∷ 0x00 ∷ 0x08 ∷ []) says nothing_read (refuses 5 0 (4 ∷ [])) ∷
     section false (0x00 ∷ 0x00 ∷ 0x00 ∷ 0x08 ∷ 0x00 ∷ 0x14 ∷ []) says nothing_read (refuses 4 0 (6 ∷ [])) ∷
     section true erased_entry says tables (outcomes (gives (counts 1 2)) erased_row erased_attrs) ∷
-    name_of (one_row true erased_entry erased_row erased_attrs) says text (gives (some (record { place = 8; length = 1 }))) (0x41 ∷ []) ∷
-    type_of (one_row true erased_entry erased_row erased_attrs) says value (gives (some 7)) ∷
+    name_of (one_row true erased_entry erased_row erased_attrs) says text (gives (Some (record { place = 8; length = 1 }))) (0x41 ∷ []) ∷
+    type_of (one_row true erased_entry erased_row erased_attrs) says value (gives (Some 7)) ∷
     section false erased_entry says nothing_read (gives (counts 0 0)) ∷
-    type_number 0x0108 says fundamental (fund.Known 0x0008) ∷
-    type_number 0x8108 says fundamental (fund.Known 0x8108) ∷
-    type_number 0x0113 says fundamental fund.Unknown ∷
+    type_number 0x0108 says fundamental (Some 0x0008) ∷
+    type_number 0x8108 says fundamental (Some 0x8108) ∷
+    type_number 0x0113 says fundamental None ∷
     modifier_byte 0x81 says one_modifier modifier.PointerTo ∷
     modifier_byte 0x85 says one_modifier modifier.Unknown ∷
     modifiers (0x81 ∷ []) says pointers (gives true) ∷

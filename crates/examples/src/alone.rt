@@ -4,24 +4,23 @@ use crate::fields::{modifier_number, modifiers, of_type};
 use crate::settings::endian_by;
 use attributes::decode::{Endians, part};
 use blocks::location::{
-    Located, VariableLocation, process_address, process_offset, process_variable_location,
+    VariableLocation, process_address, process_offset, process_variable_location,
 };
-use blocks::modifiers::{Modifiers, process_modifiers};
+use blocks::modifiers::process_modifiers;
 use blocks::producer::parse_producer;
-use blocks::subscripts::{Subscripts, process_array_subscript_data};
-use blocks::types::{Typed, process_type};
-use format::fund_type::FundType;
+use blocks::subscripts::process_array_subscript_data;
+use blocks::types::process_type;
 use format::modifier::Modifier;
-use format::refusal::{Reason, Refusal};
+use format::refusal::{Reason, Refusal, Unfilled};
 use format::settings::Producer;
-use lent::cells::cell;
+use lent::cells::get_or;
 use numbers::Endian;
 use std::num::wrapping_add_usize;
 
-fn located(body: &[u8], c: Cursor, found: Located) -> Cursor {
+fn located(body: &[u8], c: Cursor, found: Result<u32, Refusal>) -> Cursor {
     match found {
-        Located::Is(n) => word(body, given(body, c), n),
-        Located::Refused(why) => refusal(body, c, why),
+        Ok(n) => word(body, given(body, c), n),
+        Err(why) => refusal(body, c, why),
     }
 }
 
@@ -34,28 +33,26 @@ fn register(body: &[u8], c: Cursor, number: u32) -> Cursor {
     }
 }
 
-fn location(body: &[u8], c: Cursor, found: VariableLocation) -> Cursor {
-    match found {
-        VariableLocation::Register(number) => {
-            register(body, word(body, given(body, c), 0), number)
-        }
-        VariableLocation::Address(address) => { word(body, word(body, given(body, c), 1), address) }
+fn location(body: &[u8], c: Cursor, found: Result<VariableLocation, Refusal>) -> Cursor {
+    let place = match found {
+        Ok(place) => place,
+        Err(why) => return refusal(body, c, why),
+    };
+    let d = given(body, c);
+    match place {
+        VariableLocation::Register(number) => register(body, word(body, d, 0), number),
+        VariableLocation::Address(address) => word(body, word(body, d, 1), address),
         VariableLocation::RegisterPlus {
             register: number,
             offset,
-        } => word(
-            body,
-            register(body, word(body, given(body, c), 2), number),
-            offset,
-        ),
-        VariableLocation::Refused(why) => refusal(body, c, why),
+        } => word(body, register(body, word(body, d, 2), number), offset),
     }
 }
 
 fn modifier_list(body: &[u8], c: Cursor, block: &[u8]) -> Cursor {
     match process_modifiers(block) {
-        Modifiers::Known { pointer } => modifiers(body, given(body, c), block, pointer),
-        Modifiers::Refused(why) => refusal(body, c, why),
+        Ok(pointer) => modifiers(body, given(body, c), block, pointer),
+        Err(why) => refusal(body, c, why),
     }
 }
 
@@ -63,12 +60,10 @@ fn modifier_list(body: &[u8], c: Cursor, block: &[u8]) -> Cursor {
 fn dimensions(body: &[u8], c: Cursor, dims: &[u32], n: usize) -> Cursor {
     let mut d = count(body, c, n);
     let mut at: usize = 0;
-    let mut i: usize = 0;
-    while i < n {
-        let index = word(body, d, cell(dims, at));
-        d = word(body, index, cell(dims, wrapping_add_usize(at, 1)));
+    for _ in 0..n {
+        let index = word(body, d, get_or(dims, at, 0));
+        d = word(body, index, get_or(dims, wrapping_add_usize(at, 1), 0));
         at = wrapping_add_usize(at, 2);
-        i += 1;
     }
     d
 }
@@ -76,12 +71,12 @@ fn dimensions(body: &[u8], c: Cursor, dims: &[u32], n: usize) -> Cursor {
 fn subscripts(body: &[u8], c: Cursor, block: &[u8], e: Endian) -> Cursor {
     let mut dims = [0u32; 256];
     match process_array_subscript_data(block, e, &mut dims) {
-        Subscripts::Read {
-            element: of,
-            dimensions: n,
-        } => dimensions(body, of_type(body, given(body, c), block, of), &dims, n),
-        Subscripts::Refused(why) => refusal(body, c, why),
-        Subscripts::Room { dimensions: _ } => no_room(body, c),
+        Ok(array) => {
+            let d = of_type(body, given(body, c), block, array.element);
+            dimensions(body, d, &dims, array.dimensions)
+        }
+        Err(Unfilled::Refused(why)) => refusal(body, c, why),
+        Err(Unfilled::Room(_)) => no_room(body, c),
     }
 }
 
@@ -111,8 +106,8 @@ pub fn block(body: &[u8], kind: u32) -> Cursor {
 
 fn typed(body: &[u8], c: Cursor, value: &[u8], number: u16, ends: Endians) -> Cursor {
     match process_type(value, number, 0, ends) {
-        Typed::Is(of) => of_type(body, given(body, c), value, of),
-        Typed::Refused(why) => refusal(body, c, why),
+        Ok(of) => of_type(body, given(body, c), value, of),
+        Err(why) => refusal(body, c, why),
     }
 }
 
@@ -145,8 +140,8 @@ fn unknown() -> Refusal {
 pub fn fund_type(body: &[u8]) -> Cursor {
     let number = (word_of(body, 0) % 65536) as u16;
     match format::fund_type::parse_int(number) {
-        FundType::Known(n) => word(body, given(body, start(4)), n as u32),
-        FundType::Unknown => refusal(body, start(4), unknown()),
+        Some(n) => word(body, given(body, start(4)), n as u32),
+        None => refusal(body, start(4), unknown()),
     }
 }
 

@@ -3,9 +3,8 @@
 use attributes::decode::part;
 use format::refusal::{Reason, Refusal, number_of};
 use numbers::Endian;
+use numbers::number::{bytes_there, number_at};
 use numbers::prefix::starts_with;
-use numbers::signed::{ReadSigned, i32_at};
-use numbers::unsigned::{Read8, Read32, bytes_there, u8_at, u32_at};
 use std::num::wrapping_add_usize;
 
 // How it went so far.
@@ -60,10 +59,7 @@ fn stepped(c: Cursor, same: bool, n: usize) -> Cursor {
 
 // What a word of the body is, 0 past its end.
 pub fn word_of(body: &[u8], at: usize) -> u32 {
-    match u32_at(body, at, Endian::Little) {
-        Read32::Value(n) => n,
-        Read32::Short => 0,
-    }
+    number_at::<u32>(body, at, Endian::Little).unwrap_or(0)
 }
 
 // The next expected word.
@@ -71,9 +67,9 @@ pub fn word(body: &[u8], c: Cursor, ours: u32) -> Cursor {
     if c.verdict != SAME {
         return c;
     }
-    match u32_at(body, c.at, Endian::Little) {
-        Read32::Value(n) => stepped(c, n == ours, 4),
-        Read32::Short => ended(c, MISSHAPEN),
+    match number_at::<u32>(body, c.at, Endian::Little) {
+        Some(n) => stepped(c, n == ours, 4),
+        None => ended(c, MISSHAPEN),
     }
 }
 
@@ -82,9 +78,9 @@ pub fn signed(body: &[u8], c: Cursor, ours: i32) -> Cursor {
     if c.verdict != SAME {
         return c;
     }
-    match i32_at(body, c.at, Endian::Little) {
-        ReadSigned::Value(n) => stepped(c, n == ours, 4),
-        ReadSigned::Short => ended(c, MISSHAPEN),
+    match number_at::<i32>(body, c.at, Endian::Little) {
+        Some(n) => stepped(c, n == ours, 4),
+        None => ended(c, MISSHAPEN),
     }
 }
 
@@ -93,9 +89,9 @@ pub fn byte(body: &[u8], c: Cursor, ours: u8) -> Cursor {
     if c.verdict != SAME {
         return c;
     }
-    match u8_at(body, c.at) {
-        Read8::Value(n) => stepped(c, n == ours, 1),
-        Read8::Short => ended(c, MISSHAPEN),
+    match number_at::<u8>(body, c.at, Endian::Big) {
+        Some(n) => stepped(c, n == ours, 1),
+        None => ended(c, MISSHAPEN),
     }
 }
 
@@ -169,9 +165,9 @@ fn told(body: &[u8], c: Cursor, number: u32) -> Cursor {
     if c.verdict != SAME {
         return c;
     }
-    match u32_at(body, c.at, Endian::Little) {
-        Read32::Value(n) => stepped(c, (n == number) | allows(n, number), 4),
-        Read32::Short => ended(c, MISSHAPEN),
+    match number_at::<u32>(body, c.at, Endian::Little) {
+        Some(n) => stepped(c, (n == number) | allows(n, number), 4),
+        None => ended(c, MISSHAPEN),
     }
 }
 

@@ -1,8 +1,8 @@
 // Document 01's types, modifiers and erased entry, and attributes whose values are cut, run through the code: what it answers is printed, and rt compares that
 // with the file stdout.
 use crate::tally::{decimal, hex, text};
-use attributes::read::{Attribute, read_attribute};
-use format::fund_type::FundType;
+use attributes::read::read_attribute;
+use attributes::value::Unread;
 use format::modifier::Modifier;
 use numbers::Endian;
 
@@ -18,12 +18,12 @@ fn show_type(rt: &impl Print, n: u16) {
     word(rt, b"type ");
     hex(rt, n as u64, 4);
     match format::fund_type::parse_int(n) {
-        FundType::Known(t) => {
+        Some(t) => {
             word(rt, b" is ");
             hex(rt, t as u64, 4);
             word(rt, b"\n");
         }
-        FundType::Unknown => word(rt, b": refused 18\n"),
+        None => word(rt, b": refused 18\n"),
     }
 }
 
@@ -44,23 +44,19 @@ fn show_attribute(rt: &impl Print, s: &[u8], at: usize, e: Endian, vendors: &[u1
     word(rt, b"attribute at ");
     number(rt, at);
     match read_attribute(s, at, e, vendors) {
-        Attribute::Read {
-            number: n,
-            value,
-            next,
-        } => {
+        Ok(found) => {
             word(rt, b": ");
-            hex(rt, n as u64, 4);
+            hex(rt, found.number as u64, 4);
             word(rt, b", value at ");
-            number(rt, value);
+            number(rt, found.value);
             word(rt, b", next at ");
-            number(rt, next);
+            number(rt, found.next);
         }
-        Attribute::Short(field) => {
+        Err(Unread::Short(field)) => {
             word(rt, b": short, field at ");
             number(rt, field);
         }
-        Attribute::Unknown(field) => {
+        Err(Unread::Unknown(field)) => {
             word(rt, b": unknown, field at ");
             number(rt, field);
         }

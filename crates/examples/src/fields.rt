@@ -2,19 +2,19 @@
 use crate::cursor::{Cursor, byte, bytes, count, flag, word};
 use blocks::types::{Type, TypeKind, modifiers_of};
 use format::modifier::{Modifier, parse_int};
-use records::fields::{Name, Word, text_part};
+use records::fields::{Text, text_part};
 
-pub fn name(body: &[u8], c: Cursor, s: &[u8], name: Name) -> Cursor {
+pub fn name(body: &[u8], c: Cursor, s: &[u8], name: Option<Text>) -> Cursor {
     match name {
-        Name::Is(text) => bytes(body, word(body, c, 1), text_part(s, text)),
-        Name::Nothing => word(body, c, 0),
+        Some(text) => bytes(body, word(body, c, 1), text_part(s, text)),
+        None => word(body, c, 0),
     }
 }
 
-pub fn option(body: &[u8], c: Cursor, ours: Word) -> Cursor {
+pub fn option(body: &[u8], c: Cursor, ours: Option<u32>) -> Cursor {
     match ours {
-        Word::Is(n) => word(body, word(body, c, 1), n),
-        Word::Nothing => word(body, c, 0),
+        Some(n) => word(body, word(body, c, 1), n),
+        None => word(body, c, 0),
     }
 }
 
@@ -36,10 +36,8 @@ fn modifier_byte(body: &[u8], c: Cursor, raw: u8) -> Cursor {
 
 fn modifier_bytes(body: &[u8], c: Cursor, raw: &[u8]) -> Cursor {
     let mut d = c;
-    let mut i: usize = 0;
-    while i < raw.len() {
-        d = modifier_byte(body, d, raw[i]);
-        i += 1;
+    for &b in raw {
+        d = modifier_byte(body, d, b);
     }
     d
 }

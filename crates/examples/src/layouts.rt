@@ -1,12 +1,10 @@
 // Questions for layouts: the structure's size, and offset, size and name of each member, which are words in the room. A small room is tried first.
 use crate::cursor::{Cursor, bytes, count, given, no_room, refusal, word};
-use crate::settings::SIZES;
 use crate::unions::{member_part, member_word};
-use format::presets::MW_VENDORS;
-use format::settings::Settings;
-use layout::one::{Layout, LayoutRead, layout_of_key};
+use format::refusal::Unfilled;
+use layout::one::{Layout, layout_of_key};
 use std::num::wrapping_add_usize;
-use tables::row::Counts;
+use tables::table::Table;
 
 // The member at a place of the room.
 fn laid(body: &[u8], c: Cursor, s: &[u8], room: &[u64], at: usize) -> Cursor {
@@ -18,11 +16,9 @@ fn laid(body: &[u8], c: Cursor, s: &[u8], room: &[u64], at: usize) -> Cursor {
 fn all_laid(body: &[u8], c: Cursor, s: &[u8], room: &[u64], n: usize) -> Cursor {
     let mut d = c;
     let mut at: usize = 0;
-    let mut i: usize = 0;
-    while i < n {
+    for _ in 0..n {
         d = laid(body, d, s, room, at);
         at = wrapping_add_usize(at, 4);
-        i += 1;
     }
     d
 }
@@ -34,58 +30,20 @@ fn layout_words(body: &[u8], c: Cursor, s: &[u8], found: Layout, room: &[u64]) -
 }
 
 // With room for all members that a section can have.
-fn large_layout(
-    body: &[u8],
-    c: Cursor,
-    s: &[u8],
-    settings: Settings,
-    rows: &[u32],
-    attrs: &[u32],
-    counts: Counts,
-    key: u32,
-) -> Cursor {
+fn large_layout(body: &[u8], c: Cursor, t: &Table<'_>, key: u32) -> Cursor {
     let mut room = [0u64; 16384];
-    match layout_of_key(
-        s,
-        settings,
-        &MW_VENDORS,
-        &SIZES,
-        rows,
-        attrs,
-        counts,
-        key,
-        &mut room,
-    ) {
-        LayoutRead::Is(found) => layout_words(body, given(body, c), s, found, &room),
-        LayoutRead::Refused(why) => refusal(body, c, why),
-        LayoutRead::Room(_) => no_room(body, c),
+    match layout_of_key(t, key, &mut room) {
+        Ok(found) => layout_words(body, given(body, c), t.section, found, &room),
+        Err(Unfilled::Refused(why)) => refusal(body, c, why),
+        Err(Unfilled::Room(_)) => no_room(body, c),
     }
 }
 
-pub fn layout_of(
-    body: &[u8],
-    c: Cursor,
-    s: &[u8],
-    settings: Settings,
-    rows: &[u32],
-    attrs: &[u32],
-    counts: Counts,
-    key: u32,
-) -> Cursor {
+pub fn layout_of(body: &[u8], c: Cursor, t: &Table<'_>, key: u32) -> Cursor {
     let mut room = [0u64; 256];
-    match layout_of_key(
-        s,
-        settings,
-        &MW_VENDORS,
-        &SIZES,
-        rows,
-        attrs,
-        counts,
-        key,
-        &mut room,
-    ) {
-        LayoutRead::Is(found) => layout_words(body, given(body, c), s, found, &room),
-        LayoutRead::Refused(why) => refusal(body, c, why),
-        LayoutRead::Room(_) => large_layout(body, c, s, settings, rows, attrs, counts, key),
+    match layout_of_key(t, key, &mut room) {
+        Ok(found) => layout_words(body, given(body, c), t.section, found, &room),
+        Err(Unfilled::Refused(why)) => refusal(body, c, why),
+        Err(Unfilled::Room(_)) => large_layout(body, c, t, key),
     }
 }

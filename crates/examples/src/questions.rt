@@ -6,19 +6,20 @@ use crate::cursor::{
 use crate::enumerations::enumeration;
 use crate::layouts::layout_of;
 use crate::relations::{child_walk, first_type, lookup, next, sibling, size};
-use crate::settings::{SIZES, settings_by};
+use crate::settings::{SIZES, settings_by, table};
 use crate::single::{label, member, overlay_branch, ptr_to_member, typedef, variable};
 use crate::tally::{fault, judge};
 use crate::unions::union_type;
-use crate::values::{attribute_number, table};
+use crate::values::{attribute_number, table_words};
 use attributes::decode::part;
-use entries::section::{Section, read_debug_section};
+use entries::section::{SectionError, read_debug_section};
 use format::limits::{ATTRIBUTE_LIMIT, ENTRY_LIMIT};
 use format::presets::MW_VENDORS;
 use format::settings::Settings;
-use numbers::unsigned::bytes_there;
+use numbers::number::bytes_there;
 use std::num::wrapping_add_usize;
 use tables::row::{ATTR_WIDTH, Counts, ROW_WIDTH};
+use tables::table::Table;
 
 // Where a packet stops being read: a question there has a wrong form.
 const STOP: usize = 0;
@@ -46,44 +47,26 @@ fn is_by_key(kind: u32) -> bool {
 }
 
 // Our answer to a question about a key, held against the case's.
-fn by_key(
-    body: &[u8],
-    kind: u32,
-    s: &[u8],
-    settings: Settings,
-    rows: &[u32],
-    attrs: &[u32],
-    counts: Counts,
-) -> Cursor {
+fn by_key(body: &[u8], kind: u32, read: &Table<'_>) -> Cursor {
     let key = word_of(body, 0);
     let c = start(4);
     let number = attribute_number(word_of(body, 4));
     match kind {
-        2 => child_walk(body, c, s, settings, rows, attrs, counts, key),
-        3 => member(body, c, s, settings, rows, attrs, counts, key),
-        4 => union_type(body, c, s, settings, rows, attrs, counts, key),
-        5 => enumeration(body, c, s, settings, rows, attrs, counts, key),
-        6 => typedef(body, c, s, settings, rows, attrs, counts, key),
-        7 => variable(body, c, s, settings, rows, attrs, counts, key),
-        8 => label(body, c, s, settings, rows, attrs, counts, key),
-        9 => ptr_to_member(body, c, s, settings, rows, attrs, counts, key),
-        10 => overlay_branch(body, c, s, settings, rows, attrs, counts, key),
-        11 => size(body, c, s, settings, rows, attrs, counts, key),
-        12 => next(body, c, s, settings, rows, attrs, counts, key),
-        13 => sibling(body, c, s, settings, rows, attrs, counts, key),
-        14 => lookup(
-            body,
-            start(8),
-            s,
-            settings,
-            rows,
-            attrs,
-            counts,
-            key,
-            number,
-        ),
-        15 => first_type(body, c, s, settings, rows, attrs, counts, key),
-        _ => layout_of(body, c, s, settings, rows, attrs, counts, key),
+        2 => child_walk(body, c, read, key),
+        3 => member(body, c, read, key),
+        4 => union_type(body, c, read, key),
+        5 => enumeration(body, c, read, key),
+        6 => typedef(body, c, read, key),
+        7 => variable(body, c, read, key),
+        8 => label(body, c, read, key),
+        9 => ptr_to_member(body, c, read, key),
+        10 => overlay_branch(body, c, read, key),
+        11 => size(body, c, read, key),
+        12 => next(body, c, read, key),
+        13 => sibling(body, c, read, key),
+        14 => lookup(body, start(8), read, key, number),
+        15 => first_type(body, c, read, key),
+        _ => layout_of(body, c, read, key),
     }
 }
 
@@ -109,11 +92,7 @@ fn ask_row(
     packet: &[u8],
     at: usize,
     t: &mut [u64; 128],
-    s: &[u8],
-    settings: Settings,
-    rows: &[u32],
-    attrs: &[u32],
-    counts: Counts,
+    read: &Table<'_>,
 ) -> usize {
     if end_at(packet, at) <= at {
         fault(rt, t, at, b"a question is longer than its packet");
@@ -121,7 +100,7 @@ fn ask_row(
     }
     let kind = word_of(packet, at);
     let body = body_at(packet, at);
-    let c = by_key(body, kind, s, settings, rows, attrs, counts);
+    let c = by_key(body, kind, read);
     judged(rt, packet, at, t, kind, body, c)
 }
 
@@ -131,18 +110,14 @@ fn ask_rows(
     packet: &[u8],
     from: usize,
     t: &mut [u64; 128],
-    s: &[u8],
-    settings: Settings,
-    rows: &[u32],
-    attrs: &[u32],
-    counts: Counts,
+    read: &Table<'_>,
 ) -> usize {
     let mut at = from;
     while at < packet.len() {
         if !is_by_key(word_of(packet, at)) {
             return at;
         }
-        let next = ask_row(rt, packet, at, t, s, settings, rows, attrs, counts);
+        let next = ask_row(rt, packet, at, t, read);
         if next <= at {
             return STOP;
         }
@@ -158,20 +133,15 @@ fn section_read(
     at: usize,
     t: &mut [u64; 128],
     c: Cursor,
-    s: &[u8],
-    settings: Settings,
-    rows: &[u32],
-    attrs: &[u32],
-    counts: Counts,
+    read: &Table<'_>,
 ) -> usize {
     let body = body_at(packet, at);
-    let e = settings.endian;
-    let d = table(body, given(body, c), s, e, rows, attrs, counts);
+    let d = table_words(body, given(body, c), read);
     let next = judged(rt, packet, at, t, 1, body, d);
     if next <= at {
         return STOP;
     }
-    ask_rows(rt, packet, next, t, s, settings, rows, attrs, counts)
+    ask_rows(rt, packet, next, t, read)
 }
 
 // Ours is 8, for which a case has the word 2 and the counts that are needed.
@@ -194,13 +164,14 @@ fn large_section(
     let mut rows = [0u32; ENTRY_LIMIT * ROW_WIDTH];
     let mut attrs = [0u32; ATTRIBUTE_LIMIT * ATTR_WIDTH];
     match read_debug_section(s, settings, &MW_VENDORS, &SIZES, &mut rows, &mut attrs) {
-        Section::Read(counts) => {
-            section_read(rt, packet, at, t, c, s, settings, &rows, &attrs, counts)
+        Ok(counts) => {
+            let read = table(s, settings, &rows, &attrs, counts);
+            section_read(rt, packet, at, t, c, &read)
         }
-        Section::Refused(why) => {
+        Err(SectionError::Refused(why)) => {
             judged(rt, packet, at, t, 1, body, refused_section(body, c, why))
         }
-        Section::Unread { why, byte } => {
+        Err(SectionError::Unread { why, byte }) => {
             judged(
                 rt,
                 packet,
@@ -211,7 +182,15 @@ fn large_section(
                 unread_section(body, c, why, byte),
             )
         }
-        Section::Room(needed) => judged(rt, packet, at, t, 1, body, over_limits(body, c, needed)),
+        Err(SectionError::Room(needed)) => judged(
+            rt,
+            packet,
+            at,
+            t,
+            1,
+            body,
+            over_limits(body, c, needed),
+        ),
     }
 }
 
@@ -229,13 +208,14 @@ fn small_section(
     let mut rows = [0u32; 64 * ROW_WIDTH];
     let mut attrs = [0u32; 256 * ATTR_WIDTH];
     match read_debug_section(s, settings, &MW_VENDORS, &SIZES, &mut rows, &mut attrs) {
-        Section::Read(counts) => {
-            section_read(rt, packet, at, t, c, s, settings, &rows, &attrs, counts)
+        Ok(counts) => {
+            let read = table(s, settings, &rows, &attrs, counts);
+            section_read(rt, packet, at, t, c, &read)
         }
-        Section::Refused(why) => {
+        Err(SectionError::Refused(why)) => {
             judged(rt, packet, at, t, 1, body, refused_section(body, c, why))
         }
-        Section::Unread { why, byte } => {
+        Err(SectionError::Unread { why, byte }) => {
             judged(
                 rt,
                 packet,
@@ -246,7 +226,7 @@ fn small_section(
                 unread_section(body, c, why, byte),
             )
         }
-        Section::Room(_) => large_section(rt, packet, at, t, c, s, settings),
+        Err(SectionError::Room(_)) => large_section(rt, packet, at, t, c, s, settings),
     }
 }
 

@@ -1,16 +1,16 @@
 // Refusals that the comparison with the Rust does not show: it never ends there, or needs no room. What is answered is printed, as of document 01's examples.
-use crate::settings::{SIZES, settings_by};
+use crate::settings::{SIZES, settings_by, table};
 use crate::tally::{decimal, text};
-use entries::section::{Section, read_debug_section};
+use entries::section::read_debug_section;
 use format::presets::MW_VENDORS;
-use format::refusal::{Refusal, number_of};
-use layout::one::{LayoutRead, layout_of_key};
-use records::enumeration::{EnumerationRead, process_enumeration_tag};
-use records::typedef::{TypedefRead, process_typedef_tag};
-use records::unions::{UnionRead, process_union_tag};
+use format::refusal::{Refusal, Unfilled, number_of};
+use layout::one::layout_of_key;
+use records::enumeration::process_enumeration_tag;
+use records::typedef::process_typedef_tag;
+use records::unions::process_union_tag;
 use sizes::size::size_of_key;
-use sizes::sized::Sized;
 use tables::row::{Counts, ROW_WIDTH};
+use tables::table::Table;
 
 fn answered(rt: &impl Print) {
     text(rt, b": an answer\n");
@@ -32,31 +32,24 @@ fn no_room(rt: &impl Print, needed: usize) {
 }
 
 // A section's rows and attributes; an unread one has none.
-fn read(s: &[u8], rows: &mut [u32], attrs: &mut [u32]) -> Counts {
-    match read_debug_section(s, settings_by(0), &MW_VENDORS, &SIZES, rows, attrs) {
-        Section::Read(counts) => counts,
-        _ => Counts { rows: 0, attrs: 0 },
-    }
+fn read<'a>(s: &'a [u8], rows: &'a mut [u32], attrs: &'a mut [u32]) -> Table<'a> {
+    let settings = settings_by(0);
+    let counts = match read_debug_section(s, settings, &MW_VENDORS, &SIZES, rows, attrs) {
+        Ok(counts) => counts,
+        Err(_) => Counts { rows: 0, attrs: 0 },
+    };
+    table(s, settings, rows, attrs, counts)
 }
 
 fn typedef_of_itself(rt: &impl Print) {
     let s = b"\x00\x00\x00\x0c\x00\x16\x02\xb2\x00\x00\x00\x00";
     let mut rows = [0u32; ROW_WIDTH];
     let mut attrs = [0u32; 2];
-    let counts = read(s, &mut rows, &mut attrs);
+    let t = read(s, &mut rows, &mut attrs);
     text(rt, b"typedef that specifies itself");
-    match process_typedef_tag(
-        s,
-        settings_by(0),
-        &MW_VENDORS,
-        &SIZES,
-        &rows,
-        &attrs,
-        counts,
-        0,
-    ) {
-        TypedefRead::Is(_) => answered(rt),
-        TypedefRead::Refused(why) => refused(rt, why),
+    match process_typedef_tag(&t, 0) {
+        Ok(_) => answered(rt),
+        Err(why) => refused(rt, why),
     }
 }
 
@@ -64,20 +57,11 @@ fn array_of_itself(rt: &impl Print) {
     let s = b"\x00\x00\x00\x11\x00\x01\x00\xa3\x00\x07\x08\x00\x72\x00\x00\x00\x00";
     let mut rows = [0u32; ROW_WIDTH];
     let mut attrs = [0u32; 2];
-    let counts = read(s, &mut rows, &mut attrs);
+    let t = read(s, &mut rows, &mut attrs);
     text(rt, b"size of an array of itself");
-    match size_of_key(
-        s,
-        settings_by(0),
-        &MW_VENDORS,
-        &SIZES,
-        &rows,
-        &attrs,
-        counts,
-        0,
-    ) {
-        Sized::Is(_) => answered(rt),
-        Sized::Refused(why) => refused(rt, why),
+    match size_of_key(&t, 0) {
+        Ok(_) => answered(rt),
+        Err(why) => refused(rt, why),
     }
 }
 
@@ -87,23 +71,13 @@ fn union_with_no_room(rt: &impl Print) {
         b"\x00\x00\x00\x12\x00\x17\x00\x12\x00\x00\x00\x26\x00\xb6\x00\x00\x00\x04\x00\x00\x00\x14\x00\x0d\x00\x55\x00\x07\x00\x23\x00\x06\x04\x00\x00\x00\x00\x07";
     let mut rows = [0u32; 2 * ROW_WIDTH];
     let mut attrs = [0u32; 8];
-    let counts = read(s, &mut rows, &mut attrs);
+    let t = read(s, &mut rows, &mut attrs);
     let mut room = [0u64; 0];
     text(rt, b"union with no room");
-    match process_union_tag(
-        s,
-        settings_by(0),
-        &MW_VENDORS,
-        &SIZES,
-        &rows,
-        &attrs,
-        counts,
-        0,
-        &mut room,
-    ) {
-        UnionRead::Is(_) => answered(rt),
-        UnionRead::Refused(why) => refused(rt, why),
-        UnionRead::Room(needed) => no_room(rt, needed),
+    match process_union_tag(&t, 0, &mut room) {
+        Ok(_) => answered(rt),
+        Err(Unfilled::Refused(why)) => refused(rt, why),
+        Err(Unfilled::Room(needed)) => no_room(rt, needed),
     }
 }
 
@@ -113,25 +87,14 @@ fn enumeration_with_no_room(rt: &impl Print) {
         b"\x00\x00\x00\x18\x00\x04\x00\xb6\x00\x00\x00\x04\x00\xf4\x00\x00\x00\x06\x00\x00\x00\x01\x41\x00";
     let mut rows = [0u32; ROW_WIDTH];
     let mut attrs = [0u32; 4];
-    let counts = read(s, &mut rows, &mut attrs);
+    let t = read(s, &mut rows, &mut attrs);
     let mut values = [0i32; 0];
     let mut names = [0u64; 0];
     text(rt, b"enumeration with no room");
-    match process_enumeration_tag(
-        s,
-        settings_by(0),
-        &MW_VENDORS,
-        &SIZES,
-        &rows,
-        &attrs,
-        counts,
-        0,
-        &mut values,
-        &mut names,
-    ) {
-        EnumerationRead::Is(_) => answered(rt),
-        EnumerationRead::Refused(why) => refused(rt, why),
-        EnumerationRead::Room(needed) => no_room(rt, needed),
+    match process_enumeration_tag(&t, 0, &mut values, &mut names) {
+        Ok(_) => answered(rt),
+        Err(Unfilled::Refused(why)) => refused(rt, why),
+        Err(Unfilled::Room(needed)) => no_room(rt, needed),
     }
 }
 
@@ -141,23 +104,13 @@ fn layout_with_no_room(rt: &impl Print) {
         b"\x00\x00\x00\x0c\x00\x13\x00\x12\x00\x00\x00\x20\x00\x00\x00\x14\x00\x0d\x00\x55\x00\x07\x00\x23\x00\x06\x04\x00\x00\x00\x00\x07";
     let mut rows = [0u32; 2 * ROW_WIDTH];
     let mut attrs = [0u32; 6];
-    let counts = read(s, &mut rows, &mut attrs);
+    let t = read(s, &mut rows, &mut attrs);
     let mut room = [0u64; 0];
     text(rt, b"layout with no room");
-    match layout_of_key(
-        s,
-        settings_by(0),
-        &MW_VENDORS,
-        &SIZES,
-        &rows,
-        &attrs,
-        counts,
-        0,
-        &mut room,
-    ) {
-        LayoutRead::Is(_) => answered(rt),
-        LayoutRead::Refused(why) => refused(rt, why),
-        LayoutRead::Room(needed) => no_room(rt, needed),
+    match layout_of_key(&t, 0, &mut room) {
+        Ok(_) => answered(rt),
+        Err(Unfilled::Refused(why)) => refused(rt, why),
+        Err(Unfilled::Room(needed)) => no_room(rt, needed),
     }
 }
 

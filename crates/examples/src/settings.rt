@@ -2,9 +2,11 @@
 ghost use Rattle.std.specs.Prelude.{◌≡◌};
 ghost use Rattle.format.specs.Presets.{rust_sizes};
 
-use format::presets::mw_roles;
+use format::presets::{MW_VENDORS, mw_roles};
 use format::settings::{Producer, Settings};
 use numbers::Endian;
+use tables::row::Counts;
+use tables::table::Table;
 
 // The five types that have no size in the Rust have 4 here.
 pub const SIZES: [u32; 28] = [
@@ -27,6 +29,25 @@ fn producer_by(number: u32) -> Producer {
         0 => Producer::Mwcc,
         1 => Producer::Gcc,
         _ => Producer::Other,
+    }
+}
+
+// What was read of a section with these settings and the numbers and sizes that complete the Rust's.
+pub fn table<'a>(
+    section: &'a [u8],
+    settings: Settings,
+    rows: &'a [u32],
+    attrs: &'a [u32],
+    counts: Counts,
+) -> Table<'a> {
+    Table {
+        section,
+        settings,
+        vendors: &MW_VENDORS,
+        sizes: &SIZES,
+        rows,
+        attrs,
+        counts,
     }
 }
 

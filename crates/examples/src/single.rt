@@ -1,22 +1,19 @@
 // Questions for the records that need no room.
 use crate::cursor::{Cursor, bytes, flag, given, refusal, word};
 use crate::fields::{name, of_type, option};
-use crate::settings::SIZES;
-use format::presets::MW_VENDORS;
-use format::settings::Settings;
 use records::fields::{Visibility, text_part};
-use records::label::{Label, LabelRead, process_subroutine_label_tag};
-use records::member::{Bits, Member, MemberRead, process_structure_member_tag};
-use records::overlay_branch::{OverlayBranch, OverlayBranchRead, process_overlay_branch};
-use records::ptr_to_member::{PtrToMember, PtrToMemberRead, process_ptr_to_member_tag};
-use records::typedef::{Typedef, TypedefRead, process_typedef_tag};
-use records::variable::{Variable, VariableRead, process_variable_tag};
-use tables::row::Counts;
+use records::label::{Label, process_subroutine_label_tag};
+use records::member::{Bits, Member, process_structure_member_tag};
+use records::overlay_branch::{OverlayBranch, process_overlay_branch};
+use records::ptr_to_member::{PtrToMember, process_ptr_to_member_tag};
+use records::typedef::{Typedef, process_typedef_tag};
+use records::variable::{Variable, process_variable_tag};
+use tables::table::Table;
 
-fn bits(body: &[u8], c: Cursor, bits: Bits) -> Cursor {
+fn bits(body: &[u8], c: Cursor, bits: Option<Bits>) -> Cursor {
     match bits {
-        Bits::Are { size, offset } => word(body, word(body, word(body, c, 1), size), offset),
-        Bits::Nothing => word(body, c, 0),
+        Some(Bits { size, offset }) => word(body, word(body, word(body, c, 1), size), offset),
+        None => word(body, c, 0),
     }
 }
 
@@ -44,19 +41,10 @@ fn member_words(body: &[u8], c: Cursor, s: &[u8], member: Member) -> Cursor {
     option(body, seen, size)
 }
 
-pub fn member(
-    body: &[u8],
-    c: Cursor,
-    s: &[u8],
-    settings: Settings,
-    rows: &[u32],
-    attrs: &[u32],
-    counts: Counts,
-    key: u32,
-) -> Cursor {
-    match process_structure_member_tag(s, settings, &MW_VENDORS, &SIZES, rows, attrs, counts, key) {
-        MemberRead::Is(found) => member_words(body, given(body, c), s, found),
-        MemberRead::Refused(why) => refusal(body, c, why),
+pub fn member(body: &[u8], c: Cursor, t: &Table<'_>, key: u32) -> Cursor {
+    match process_structure_member_tag(t, key) {
+        Ok(found) => member_words(body, given(body, c), t.section, found),
+        Err(why) => refusal(body, c, why),
     }
 }
 
@@ -66,19 +54,10 @@ fn typedef_words(body: &[u8], c: Cursor, s: &[u8], found: Typedef) -> Cursor {
     of_type(body, bytes(body, c, text_part(s, text)), s, of)
 }
 
-pub fn typedef(
-    body: &[u8],
-    c: Cursor,
-    s: &[u8],
-    settings: Settings,
-    rows: &[u32],
-    attrs: &[u32],
-    counts: Counts,
-    key: u32,
-) -> Cursor {
-    match process_typedef_tag(s, settings, &MW_VENDORS, &SIZES, rows, attrs, counts, key) {
-        TypedefRead::Is(found) => typedef_words(body, given(body, c), s, found),
-        TypedefRead::Refused(why) => refusal(body, c, why),
+pub fn typedef(body: &[u8], c: Cursor, t: &Table<'_>, key: u32) -> Cursor {
+    match process_typedef_tag(t, key) {
+        Ok(found) => typedef_words(body, given(body, c), t.section, found),
+        Err(why) => refusal(body, c, why),
     }
 }
 
@@ -92,19 +71,10 @@ fn variable_words(body: &[u8], c: Cursor, s: &[u8], found: Variable) -> Cursor {
     flag(body, placed, found.local)
 }
 
-pub fn variable(
-    body: &[u8],
-    c: Cursor,
-    s: &[u8],
-    settings: Settings,
-    rows: &[u32],
-    attrs: &[u32],
-    counts: Counts,
-    key: u32,
-) -> Cursor {
-    match process_variable_tag(s, settings, &MW_VENDORS, &SIZES, rows, attrs, counts, key) {
-        VariableRead::Is(found) => variable_words(body, given(body, c), s, found),
-        VariableRead::Refused(why) => refusal(body, c, why),
+pub fn variable(body: &[u8], c: Cursor, t: &Table<'_>, key: u32) -> Cursor {
+    match process_variable_tag(t, key) {
+        Ok(found) => variable_words(body, given(body, c), t.section, found),
+        Err(why) => refusal(body, c, why),
     }
 }
 
@@ -113,19 +83,10 @@ fn label_words(body: &[u8], c: Cursor, s: &[u8], found: Label) -> Cursor {
     word(body, bytes(body, c, text_part(s, text)), found.address)
 }
 
-pub fn label(
-    body: &[u8],
-    c: Cursor,
-    s: &[u8],
-    settings: Settings,
-    rows: &[u32],
-    attrs: &[u32],
-    counts: Counts,
-    key: u32,
-) -> Cursor {
-    match process_subroutine_label_tag(s, settings, &MW_VENDORS, &SIZES, rows, attrs, counts, key) {
-        LabelRead::Is(found) => label_words(body, given(body, c), s, found),
-        LabelRead::Refused(why) => refusal(body, c, why),
+pub fn label(body: &[u8], c: Cursor, t: &Table<'_>, key: u32) -> Cursor {
+    match process_subroutine_label_tag(t, key) {
+        Ok(found) => label_words(body, given(body, c), t.section, found),
+        Err(why) => refusal(body, c, why),
     }
 }
 
@@ -134,19 +95,10 @@ fn ptr_words(body: &[u8], c: Cursor, s: &[u8], found: PtrToMember) -> Cursor {
     word(body, of_type(body, c, s, of), found.containing)
 }
 
-pub fn ptr_to_member(
-    body: &[u8],
-    c: Cursor,
-    s: &[u8],
-    settings: Settings,
-    rows: &[u32],
-    attrs: &[u32],
-    counts: Counts,
-    key: u32,
-) -> Cursor {
-    match process_ptr_to_member_tag(s, settings, &MW_VENDORS, &SIZES, rows, attrs, counts, key) {
-        PtrToMemberRead::Is(found) => ptr_words(body, given(body, c), s, found),
-        PtrToMemberRead::Refused(why) => refusal(body, c, why),
+pub fn ptr_to_member(body: &[u8], c: Cursor, t: &Table<'_>, key: u32) -> Cursor {
+    match process_ptr_to_member_tag(t, key) {
+        Ok(found) => ptr_words(body, given(body, c), t.section, found),
+        Err(why) => refusal(body, c, why),
     }
 }
 
@@ -158,18 +110,9 @@ fn overlay_words(body: &[u8], c: Cursor, s: &[u8], found: OverlayBranch) -> Curs
     option(body, word(body, begun, found.end_address), unit)
 }
 
-pub fn overlay_branch(
-    body: &[u8],
-    c: Cursor,
-    s: &[u8],
-    settings: Settings,
-    rows: &[u32],
-    attrs: &[u32],
-    counts: Counts,
-    key: u32,
-) -> Cursor {
-    match process_overlay_branch(s, settings, &MW_VENDORS, &SIZES, rows, attrs, counts, key) {
-        OverlayBranchRead::Is(found) => overlay_words(body, given(body, c), s, found),
-        OverlayBranchRead::Refused(why) => refusal(body, c, why),
+pub fn overlay_branch(body: &[u8], c: Cursor, t: &Table<'_>, key: u32) -> Cursor {
+    match process_overlay_branch(t, key) {
+        Ok(found) => overlay_words(body, given(body, c), t.section, found),
+        Err(why) => refusal(body, c, why),
     }
 }

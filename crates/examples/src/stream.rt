@@ -9,19 +9,13 @@ use numbers::prefix::starts_with;
 use std::io::Read;
 use std::num::wrapping_add_u32;
 
-fn widened(b: u8) -> u32 {
-    b as u32
-}
-
 // Two sums, the second of all values of the first.
 fn sum(bytes: &[u8]) -> u32 {
     let mut a: u32 = 0;
     let mut b: u32 = 0;
-    let mut i: usize = 0;
-    while i < bytes.len() {
-        a = wrapping_add_u32(a, widened(bytes[i]));
+    for &byte in bytes {
+        a = wrapping_add_u32(a, byte as u32);
         b = wrapping_add_u32(b, a);
-        i += 1;
     }
     b
 }

@@ -189,11 +189,9 @@ fn report_kind(rt: &impl Print, t: &[u64; 128], kind: u32) {
 
 fn report_kinds(rt: &impl Print, t: &[u64; 128]) -> u64 {
     let mut different: u64 = 0;
-    let mut kind: u32 = 1;
-    while kind < 32 {
+    for kind in 1..32 {
         report_kind(rt, t, kind);
         different = wrapping_add_u64(different, slot(t, place(kind, DIFFERENT)));
-        kind += 1;
     }
     different
 }

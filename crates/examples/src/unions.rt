@@ -1,21 +1,16 @@
 // Questions for unions: the members' records are words in the room. A small room is tried first.
 use crate::cursor::{Cursor, bytes, count, given, low_word, no_room, refusal, word};
 use crate::fields::{modifiers, name};
-use crate::settings::SIZES;
 use attributes::decode::part;
-use format::presets::MW_VENDORS;
-use format::settings::Settings;
-use records::unions::{Union, UnionRead, process_union_tag};
+use format::refusal::Unfilled;
+use lent::cells::get_or;
+use records::unions::{Union, process_union_tag};
 use std::num::wrapping_add_usize;
-use tables::row::Counts;
-
-fn cell(t: &[u64], i: usize) -> u64 {
-    if i < t.len() { t[i] } else { 0 }
-}
+use tables::table::Table;
 
 // Word k of the record at a place of the room.
 pub fn member_word(room: &[u64], at: usize, k: usize) -> u32 {
-    low_word(cell(room, wrapping_add_usize(at, k)))
+    low_word(get_or(room, wrapping_add_usize(at, k), 0))
 }
 
 pub fn member_part<'a>(s: &'a [u8], room: &[u64], at: usize, k: usize) -> &'a [u8] {
@@ -81,11 +76,9 @@ fn member(body: &[u8], c: Cursor, s: &[u8], room: &[u64], at: usize) -> Cursor {
 fn members(body: &[u8], c: Cursor, s: &[u8], room: &[u64], n: usize) -> Cursor {
     let mut d = c;
     let mut at: usize = 0;
-    let mut i: usize = 0;
-    while i < n {
+    for _ in 0..n {
         d = member(body, d, s, room, at);
         at = wrapping_add_usize(at, 16);
-        i += 1;
     }
     d
 }
@@ -98,58 +91,20 @@ fn union_words(body: &[u8], c: Cursor, s: &[u8], found: Union, room: &[u64]) -> 
 }
 
 // With room for all members that a section can have.
-fn large_union(
-    body: &[u8],
-    c: Cursor,
-    s: &[u8],
-    settings: Settings,
-    rows: &[u32],
-    attrs: &[u32],
-    counts: Counts,
-    key: u32,
-) -> Cursor {
+fn large_union(body: &[u8], c: Cursor, t: &Table<'_>, key: u32) -> Cursor {
     let mut room = [0u64; 65536];
-    match process_union_tag(
-        s,
-        settings,
-        &MW_VENDORS,
-        &SIZES,
-        rows,
-        attrs,
-        counts,
-        key,
-        &mut room,
-    ) {
-        UnionRead::Is(found) => union_words(body, given(body, c), s, found, &room),
-        UnionRead::Refused(why) => refusal(body, c, why),
-        UnionRead::Room(_) => no_room(body, c),
+    match process_union_tag(t, key, &mut room) {
+        Ok(found) => union_words(body, given(body, c), t.section, found, &room),
+        Err(Unfilled::Refused(why)) => refusal(body, c, why),
+        Err(Unfilled::Room(_)) => no_room(body, c),
     }
 }
 
-pub fn union_type(
-    body: &[u8],
-    c: Cursor,
-    s: &[u8],
-    settings: Settings,
-    rows: &[u32],
-    attrs: &[u32],
-    counts: Counts,
-    key: u32,
-) -> Cursor {
+pub fn union_type(body: &[u8], c: Cursor, t: &Table<'_>, key: u32) -> Cursor {
     let mut room = [0u64; 256];
-    match process_union_tag(
-        s,
-        settings,
-        &MW_VENDORS,
-        &SIZES,
-        rows,
-        attrs,
-        counts,
-        key,
-        &mut room,
-    ) {
-        UnionRead::Is(found) => union_words(body, given(body, c), s, found, &room),
-        UnionRead::Refused(why) => refusal(body, c, why),
-        UnionRead::Room(_) => large_union(body, c, s, settings, rows, attrs, counts, key),
+    match process_union_tag(t, key, &mut room) {
+        Ok(found) => union_words(body, given(body, c), t.section, found, &room),
+        Err(Unfilled::Refused(why)) => refusal(body, c, why),
+        Err(Unfilled::Room(_)) => large_union(body, c, t, key),
     }
 }

@@ -8,8 +8,9 @@ ghost use Rattle.exports.specs.Inside.Told.{told_as};
 
 use crate::settings::{counts_from, settings_from};
 use crate::told::{Results, Told, refused_as, told_as};
-use format::refusal::{Reason, number_of};
-use layout::all::{AllLayouts, LayoutCounts, all_layouts};
+use format::refusal::{Reason, Unfilled, number_of};
+use layout::all::{LayoutCounts, all_layouts};
+use tables::table::Table;
 
 // The counts that were given, or are needed.
 fn layouts_as(number: u32, counts: LayoutCounts) -> Told
@@ -18,13 +19,14 @@ fn layouts_as(number: u32, counts: LayoutCounts) -> Told
     told_as(number, counts.structures as u64, counts.members as u64, 0)
 }
 
-fn layouts_told(answer: AllLayouts, held: Results) -> Told
+#[tactic(auto, unfolding(crate::specs::Crossing::layouts_told, crate::specs::Crossing::crossed, crate::specs::Crossing::in_order, layout::specs::All::said_all_layouts))]
+fn layouts_told(answer: Result<LayoutCounts, Unfilled<LayoutCounts>>, held: Results) -> Told
     ensures { result ≡ layouts_told held (said_all_layouts answer) }
 {
     match answer {
-        AllLayouts::Are(counts) => layouts_as(0, counts),
-        AllLayouts::Refused(why) => refused_as(why, held),
-        AllLayouts::Room(counts) => layouts_as(number_of(Reason::Room), counts),
+        Ok(counts) => layouts_as(0, counts),
+        Err(Unfilled::Refused(why)) => refused_as(why, held),
+        Err(Unfilled::Room(counts)) => layouts_as(number_of(Reason::Room), counts),
     }
 }
 
@@ -67,18 +69,21 @@ pub extern "C" fn capbeacon_all_layouts(
         overlay_name,
         overlay_id,
     );
-    let counts = counts_from(row_count, attr_count);
+    let t = Table {
+        section: s,
+        settings,
+        vendors,
+        sizes,
+        rows,
+        attrs,
+        counts: counts_from(row_count, attr_count),
+    };
     let held = Results {
         first: *structure_count,
         second: *member_count,
         third: 0,
     };
-    let told = layouts_told(
-        all_layouts(
-            s, settings, vendors, sizes, rows, attrs, counts, structures, members,
-        ),
-        held,
-    );
+    let told = layouts_told(all_layouts(&t, structures, members), held);
     *place = told.place;
     *structure_count = told.first;
     *member_count = told.second;

@@ -1,18 +1,21 @@
 // What a block alone says. One result: the offset; at a refusal it holds what it held.
+ghost use Rattle.format.specs.Said.{said};
 ghost use Rattle.std.specs.Prelude.{◌≡◌};
-ghost use Rattle.blocks.specs.Location.{said_located, process_offset};
+ghost use Rattle.blocks.specs.Location.{process_offset};
 ghost use Rattle.exports.specs.Crossing.{results, endian_from, number_told, SaysOne};
 
 use crate::settings::endian_from;
 use crate::told::{Results, Told, refused_as, told_as};
-use blocks::location::{Located, process_offset};
+use blocks::location::process_offset;
+use format::refusal::Refusal;
 
-fn offset_told(answer: Located, held: Results) -> Told
-    ensures { result ≡ number_told held (said_located answer) }
+#[tactic(auto, unfolding(crate::specs::Crossing::number_told, crate::specs::Crossing::crossed, crate::specs::Crossing::in_order, format::specs::Said::said))]
+fn offset_told(answer: Result<u32, Refusal>, held: Results) -> Told
+    ensures { result ≡ number_told held (said answer) }
 {
     match answer {
-        Located::Is(offset) => told_as(0, offset as u64, 0, 0),
-        Located::Refused(why) => refused_as(why, held),
+        Ok(offset) => told_as(0, offset as u64, 0, 0),
+        Err(why) => refused_as(why, held),
     }
 }
 

@@ -1,21 +1,24 @@
 // The tree listing. One result: how many rows were listed or, with 8, are to be; at any other refusal it holds what it held.
+ghost use Rattle.format.specs.Said.{said_counted};
 ghost use Rattle.std.specs.Prelude.{◌≡◌};
 ghost use Rattle.tables.specs.Table.{table};
-ghost use Rattle.tree.specs.Tree.{said_listing, list_tree};
+ghost use Rattle.tree.specs.Tree.{list_tree};
 ghost use Rattle.exports.specs.Crossing.{results, settings_from, counts_from, number_told, TreeCrosses};
 
 use crate::settings::{counts_from, settings_from};
 use crate::told::{Results, Told, refused_as, told_as};
-use format::refusal::{Reason, number_of};
-use tree::listing::{Listing, list_tree};
+use format::refusal::{Reason, Unfilled, number_of};
+use tables::table::Table;
+use tree::listing::list_tree;
 
-fn tree_told(answer: Listing, held: Results) -> Told
-    ensures { result ≡ number_told held (said_listing answer) }
+#[tactic(auto, unfolding(crate::specs::Crossing::number_told, crate::specs::Crossing::crossed, crate::specs::Crossing::in_order, format::specs::Said::said_counted))]
+fn tree_told(answer: Result<usize, Unfilled<usize>>, held: Results) -> Told
+    ensures { result ≡ number_told held (said_counted answer) }
 {
     match answer {
-        Listing::Listed(n) => told_as(0, n as u64, 0, 0),
-        Listing::Refused(why) => refused_as(why, held),
-        Listing::Room(n) => told_as(number_of(Reason::Room), n as u64, 0, 0),
+        Ok(n) => told_as(0, n as u64, 0, 0),
+        Err(Unfilled::Refused(why)) => refused_as(why, held),
+        Err(Unfilled::Room(n)) => told_as(number_of(Reason::Room), n as u64, 0, 0),
     }
 }
 
@@ -54,16 +57,21 @@ pub extern "C" fn capbeacon_list_tree(
         overlay_name,
         overlay_id,
     );
-    let counts = counts_from(row_count, attr_count);
+    let t = Table {
+        section: s,
+        settings,
+        vendors,
+        sizes,
+        rows,
+        attrs,
+        counts: counts_from(row_count, attr_count),
+    };
     let held = Results {
         first: *listed,
         second: 0,
         third: 0,
     };
-    let told = tree_told(
-        list_tree(s, settings, vendors, sizes, rows, attrs, counts, room),
-        held,
-    );
+    let told = tree_told(list_tree(&t, room), held);
     *place = told.place;
     *listed = told.first;
     told.number

@@ -1,14 +1,16 @@
 // Layouts. Results: the row, its size, how many members were laid or, with 8, are to be; with 8 row and size, at any other refusal all three hold what they held.
+ghost use Rattle.format.specs.Said.{said_counted};
 ghost use Rattle.std.specs.Prelude.{◌≡◌};
 ghost use Rattle.tables.specs.Table.{table};
-ghost use Rattle.layout.specs.Layout.{said_layout_read, layout_of_key};
+ghost use Rattle.layout.specs.Layout.{layout_of_key};
 ghost use Rattle.exports.specs.Crossing.{results, settings_from, counts_from, layout_told, LayoutCrosses};
 ghost use Rattle.exports.specs.Inside.Told.{told_as};
 
 use crate::settings::{counts_from, settings_from};
 use crate::told::{Results, Told, refused_as, told_as};
-use format::refusal::{Reason, number_of};
-use layout::one::{Layout, LayoutRead, layout_of_key};
+use format::refusal::{Reason, Unfilled, number_of};
+use layout::one::{Layout, layout_of_key};
+use tables::table::Table;
 
 // A layout that is given.
 fn laid_as(layout: Layout) -> Told
@@ -23,20 +25,19 @@ fn laid_as(layout: Layout) -> Told
 }
 
 // With 8 only how many members there are; row and size hold what they held.
-fn layout_told(answer: LayoutRead, held: Results) -> Told
-    ensures { result ≡ layout_told held (said_layout_read answer) }
+#[tactic(auto, unfolding(crate::specs::Crossing::layout_told, crate::specs::Crossing::crossed, format::specs::Said::said_counted))]
+fn layout_told(answer: Result<Layout, Unfilled<usize>>, held: Results) -> Told
+    ensures { result ≡ layout_told held (said_counted answer) }
 {
     match answer {
-        LayoutRead::Is(layout) => laid_as(layout),
-        LayoutRead::Refused(why) => refused_as(why, held),
-        LayoutRead::Room(members) => {
-            told_as(
-                number_of(Reason::Room),
-                held.first,
-                held.second,
-                members as u64,
-            )
-        }
+        Ok(layout) => laid_as(layout),
+        Err(Unfilled::Refused(why)) => refused_as(why, held),
+        Err(Unfilled::Room(members)) => told_as(
+            number_of(Reason::Room),
+            held.first,
+            held.second,
+            members as u64,
+        ),
     }
 }
 
@@ -78,16 +79,21 @@ pub extern "C" fn capbeacon_layout_of_key(
         overlay_name,
         overlay_id,
     );
-    let counts = counts_from(row_count, attr_count);
+    let t = Table {
+        section: s,
+        settings,
+        vendors,
+        sizes,
+        rows,
+        attrs,
+        counts: counts_from(row_count, attr_count),
+    };
     let held = Results {
         first: *row,
         second: *size,
         third: *members,
     };
-    let told = layout_told(
-        layout_of_key(s, settings, vendors, sizes, rows, attrs, counts, key, room),
-        held,
-    );
+    let told = layout_told(layout_of_key(&t, key, room), held);
     *place = told.place;
     *row = told.first;
     *size = told.second;

@@ -7,7 +7,7 @@ ghost use Rattle.exports.specs.Inside.Told.{told_as, refused_as};
 
 use crate::settings::settings_from;
 use crate::told::{Results, Told, refused_as, told_as};
-use entries::section::{Count, Section, count_debug_section, read_debug_section};
+use entries::section::{CountError, SectionError, count_debug_section, read_debug_section};
 use format::refusal::{Reason, Refusal, number_of};
 use tables::row::Counts;
 
@@ -33,24 +33,26 @@ fn refused_with(why: Refusal, held: Results, byte: u64) -> Told
     refused_as(why, results)
 }
 
-fn count_told(answer: Count, held: Results) -> Told
+#[tactic(auto, unfolding(crate::specs::Crossing::counts_told, entries::specs::Section::said_count))]
+fn count_told(answer: Result<Counts, CountError>, held: Results) -> Told
     ensures { result ≡ counts_told held (said_count answer) }
 {
     match answer {
-        Count::Counted(counts) => counted_as(0, counts),
-        Count::Refused(why) => refused_with(why, held, NO_BYTE),
-        Count::Unread { why, byte } => refused_with(why, held, byte),
+        Ok(counts) => counted_as(0, counts),
+        Err(CountError::Refused(why)) => refused_with(why, held, NO_BYTE),
+        Err(CountError::Unread { why, byte }) => refused_with(why, held, byte),
     }
 }
 
-fn section_told(answer: Section, held: Results) -> Told
+#[tactic(auto, unfolding(crate::specs::Crossing::counts_told, entries::specs::Section::said_section))]
+fn section_told(answer: Result<Counts, SectionError>, held: Results) -> Told
     ensures { result ≡ counts_told held (said_section answer) }
 {
     match answer {
-        Section::Read(counts) => counted_as(0, counts),
-        Section::Refused(why) => refused_with(why, held, NO_BYTE),
-        Section::Unread { why, byte } => refused_with(why, held, byte),
-        Section::Room(counts) => counted_as(number_of(Reason::Room), counts),
+        Ok(counts) => counted_as(0, counts),
+        Err(SectionError::Refused(why)) => refused_with(why, held, NO_BYTE),
+        Err(SectionError::Unread { why, byte }) => refused_with(why, held, byte),
+        Err(SectionError::Room(counts)) => counted_as(number_of(Reason::Room), counts),
     }
 }
 

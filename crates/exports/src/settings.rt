@@ -7,6 +7,7 @@ use numbers::Endian;
 use tables::row::Counts;
 
 // 0 is big-endian, any other number little-endian.
+#[tactic(auto, unfolding(crate::specs::Crossing::endian_from))]
 pub(crate) fn endian_from(n: u32) -> Endian
     ensures { result ≡ endian_from n }
 {
@@ -14,6 +15,7 @@ pub(crate) fn endian_from(n: u32) -> Endian
 }
 
 // 0 is off, any other number on.
+#[tactic(auto, unfolding(crate::specs::Crossing::erased_from))]
 fn erased_from(n: u32) -> bool
     ensures { result ≡ erased_from n }
 {
@@ -21,6 +23,7 @@ fn erased_from(n: u32) -> bool
 }
 
 // 0 is MWCC, 1 is GCC, any other number another producer.
+#[tactic(auto, unfolding(crate::specs::Crossing::producer_from))]
 fn producer_from(n: u32) -> Producer
     ensures { result ≡ producer_from n }
 {
@@ -35,6 +38,7 @@ fn producer_from(n: u32) -> Producer
 }
 
 // The settings: three choices, then the numbers of the four roles, 0 for absent.
+#[tactic(auto, unfolding(crate::specs::Crossing::settings_from))]
 pub(crate) fn settings_from(
     endian: u32,
     erased: u32,

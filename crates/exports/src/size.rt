@@ -1,20 +1,23 @@
 // The size of a key's entry. One result: the size; at a refusal it holds what it held.
+ghost use Rattle.format.specs.Said.{said};
 ghost use Rattle.std.specs.Prelude.{◌≡◌};
 ghost use Rattle.tables.specs.Table.{table};
-ghost use Rattle.sizes.specs.Size.{said_sized, size_of_key};
+ghost use Rattle.sizes.specs.Size.{size_of_key};
 ghost use Rattle.exports.specs.Crossing.{results, settings_from, counts_from, number_told, SaysOne};
 
 use crate::settings::{counts_from, settings_from};
 use crate::told::{Results, Told, refused_as, told_as};
+use format::refusal::Refusal;
 use sizes::size::size_of_key;
-use sizes::sized::Sized;
+use tables::table::Table;
 
-fn size_told(answer: Sized, held: Results) -> Told
-    ensures { result ≡ number_told held (said_sized answer) }
+#[tactic(auto, unfolding(crate::specs::Crossing::number_told, crate::specs::Crossing::crossed, crate::specs::Crossing::in_order, format::specs::Said::said))]
+fn size_told(answer: Result<u32, Refusal>, held: Results) -> Told
+    ensures { result ≡ number_told held (said answer) }
 {
     match answer {
-        Sized::Is(size) => told_as(0, size as u64, 0, 0),
-        Sized::Refused(why) => refused_as(why, held),
+        Ok(size) => told_as(0, size as u64, 0, 0),
+        Err(why) => refused_as(why, held),
     }
 }
 
@@ -53,16 +56,21 @@ pub extern "C" fn capbeacon_size_of_key(
         overlay_name,
         overlay_id,
     );
-    let counts = counts_from(row_count, attr_count);
+    let t = Table {
+        section: s,
+        settings,
+        vendors,
+        sizes,
+        rows,
+        attrs,
+        counts: counts_from(row_count, attr_count),
+    };
     let held = Results {
         first: *size,
         second: 0,
         third: 0,
     };
-    let told = size_told(
-        size_of_key(s, settings, vendors, sizes, rows, attrs, counts, key),
-        held,
-    );
+    let told = size_told(size_of_key(&t, key), held);
     *place = told.place;
     *size = told.first;
     told.number

@@ -1,15 +1,19 @@
 -- Bytes of a structure that no member has: holes before members, padding after them. Members are taken in walk order; what they have reached is the
 -- largest end so far, so those that lie on each other leave no hole. Where another child may take bytes, a stretch without members is called neither.
+use Rattle.std.specs.Prelude.{Option, Some, None}
 use Rattle.std.specs.Prelude.{ℕ, ◌+◌, ◌-◌, Bool, cond, List, [], ◌∷◌, ltb}
 use Rattle.format.specs.TagKind as tag
 use Rattle.layouts.specs.declared.gaps.Gap.{Gap}
-use Rattle.layouts.specs.declared.gaps.Gap.TheVariants.{Is, Nothing}
 use Rattle.layouts.specs.declared.gaps.Stretch.{Stretch}
 use Rattle.layouts.specs.declared.gaps.Stretch.TheVariants as stretch
 
+-- so many bytes from a place on
+abbrev pub gap : ℕ → ℕ → Gap
+gap at bytes = record { at = at; bytes = bytes }
+
 -- what lies between what was reached and a place: a member's offset for a hole, the structure's size for padding
-unfoldable pub gap_between : ℕ → ℕ → Gap
-gap_between reached place = cond (ltb reached place) (Is reached (place - reached)) Nothing
+unfoldable pub gap_between : ℕ → ℕ → Option Gap
+gap_between reached place = cond (ltb reached place) (Some (gap reached (place - reached))) None
 
 -- what is reached with a member more: the larger of what was reached and its end
 unfoldable pub reach_with : ℕ → ℕ → ℕ → ℕ

@@ -12,24 +12,26 @@ use format::tag_kind::{
 };
 
 #[derive(Clone, Copy)]
-pub enum Gap {
-    Is { at: u64, bytes: u64 },
-    Nothing,
+pub struct Gap {
+    pub at: u64,
+    pub bytes: u64,
 }
 
 // What lies between what was reached and a place.
-pub fn gap_between(reached: u64, place: u32) -> Gap
+#[tactic(auto, unfolding(crate::specs::Gaps::gap_between))]
+pub fn gap_between(reached: u64, place: u32) -> Option<Gap>
     ensures { result ≡ gap_between reached place }
 {
     if reached < place as u64 {
         let bytes = place as u64 - reached;
-        Gap::Is { at: reached, bytes }
+        Some(Gap { at: reached, bytes })
     } else {
-        Gap::Nothing
+        None
     }
 }
 
 // What is reached with one more member.
+#[tactic(auto, unfolding(crate::specs::Gaps::reach_with))]
 pub fn reach_with(reached: u64, offset: u32, size: u32) -> u64
     ensures { result ≡ reach_with reached offset size }
 {
@@ -47,6 +49,7 @@ pub enum Stretch {
 }
 
 // By whether other children may take bytes, and whether it is the one behind the last member.
+#[tactic(auto, unfolding(crate::specs::Gaps::stretch_of))]
 pub fn stretch_of(others: bool, last: bool) -> Stretch
     ensures { result ≡ stretch_of others last }
 {

@@ -26,10 +26,8 @@ pub fn put_byte(rt: &impl Print, buffer: &mut [u8], used: usize, b: u8) -> usize
 // Bytes, one after the other.
 pub fn put_text(rt: &impl Print, buffer: &mut [u8], used: usize, text: &[u8]) -> usize {
     let mut at = used;
-    let mut i = 0;
-    while i < text.len() {
-        at = put_byte(rt, buffer, at, text[i]);
-        i += 1;
+    for &b in text {
+        at = put_byte(rt, buffer, at, b);
     }
     at
 }
@@ -72,10 +70,8 @@ pub fn put_name(rt: &impl Print, buffer: &mut [u8], used: usize, name: &[u8]) ->
         return used;
     }
     let mut at = put_byte(rt, buffer, used, 0x20);
-    let mut i = 0;
-    while i < name.len() {
-        at = put_letter(rt, buffer, at, name[i]);
-        i += 1;
+    for &b in name {
+        at = put_letter(rt, buffer, at, b);
     }
     at
 }

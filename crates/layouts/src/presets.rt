@@ -15,6 +15,7 @@ pub struct Preset {
 }
 
 // Is a text this word?
+#[tactic(auto, using(crate::proofs::Laws::Presets::begins, crate::proofs::Laws::Presets::other_length))]
 pub fn is_word(text: &[u8], word: &[u8]) -> bool
     ensures { result ≡ is_word text.now word.now }
 {
@@ -25,6 +26,7 @@ pub fn is_word(text: &[u8], word: &[u8]) -> bool
     }
 }
 
+#[tactic(auto, unfolding(crate::specs::Presets::endian_chosen))]
 fn endian_of(little: bool) -> Endian
     ensures { result ≡ endian_chosen little }
 {
@@ -32,6 +34,7 @@ fn endian_of(little: bool) -> Endian
 }
 
 // With `mw` all vendor numbers and their four roles, without none. Erased entries stay out.
+#[tactic(auto, unfolding(crate::specs::Presets::preset_of))]
 pub fn preset_of(little: bool, mw: bool) -> Preset
     ensures { result ≡ preset_of little mw }
 {

@@ -17,18 +17,19 @@ use crate::presets::Preset;
 use crate::rooms::{attribute_room, child_room, member_room, row_room, structure_room};
 use crate::words::{Placed, Structure, placed_at, structure_at};
 use attributes::decode::{Extent, part};
-use entries::section::{Section, read_debug_section};
+use entries::section::{SectionError, read_debug_section};
 use format::attribute_kind::{BYTE_SIZE, NAME};
 use format::limits::{ATTRIBUTE_LIMIT, ENTRY_LIMIT};
 use format::presets::{mw_vendors, rust_sizes};
-use format::refusal::{Reason, Refusal, number_of};
+use format::refusal::{Reason, Refusal, Unfilled, number_of};
 use format::tag_kind::CLASS_TYPE;
-use layout::all::{AllLayouts, STRUCTURE_WIDTH, all_layouts};
+use layout::all::{STRUCTURE_WIDTH, all_layouts};
 use layout::one::LAID_WIDTH;
-use lent::cells::cell;
-use links::children::{ChildRows, children};
-use links::typed::{PartPlace, Value, data4_attribute, string_place};
-use tables::row::{Counts, Row, row_at};
+use lent::cells::get_or;
+use links::children::children;
+use links::typed::{data4_attribute, string_place};
+use tables::row::{Row, row_at};
+use tables::table::Table;
 use tables::unit::NO_UNIT;
 
 // 'refused N at KEY'
@@ -150,13 +151,19 @@ fn put_place(
 }
 
 // A line for a hole or padding, none where there is none.
-fn put_gap(rt: &impl Print, buffer: &mut [u8], used: usize, text: &[u8], gap: Gap) -> usize {
+fn put_gap(
+    rt: &impl Print,
+    buffer: &mut [u8],
+    used: usize,
+    text: &[u8],
+    gap: Option<Gap>,
+) -> usize {
     match gap {
-        Gap::Is { at, bytes } => {
-            let end = put_place(rt, buffer, used, text, at, bytes);
+        Some(gap) => {
+            let end = put_place(rt, buffer, used, text, gap.at, gap.bytes);
             put_text(rt, buffer, end, b"\n")
         }
-        Gap::Nothing => used,
+        None => used,
     }
 }
 
@@ -182,7 +189,7 @@ fn put_stretch(
     used: usize,
     others: bool,
     last: bool,
-    gap: Gap,
+    gap: Option<Gap>,
 ) -> usize {
     match stretch_of(others, last) {
         Stretch::Hole => put_gap(rt, buffer, used, b"  hole ", gap),
@@ -227,11 +234,9 @@ fn show_members(
     used: usize,
 ) -> Shown {
     let mut shown = Shown { used, reached: 0 };
-    let mut k: u32 = 0;
-    while k < count {
+    for k in 0..count {
         let member = placed_at(members, first, k);
         shown = show_member(rt, s, member, others, buffer, shown);
-        k += 1;
     }
     shown
 }
@@ -308,58 +313,28 @@ fn may_take(rows: &[u32], c: u32) -> bool {
 
 // May one of the first k children?
 fn some_take(rows: &[u32], children: &[u32], k: usize) -> bool {
-    let mut i = 0;
-    while i < k {
-        if may_take(rows, cell(children, i)) {
+    for i in 0..k {
+        if may_take(rows, get_or(children, i, 0)) {
             return true;
         }
-        i += 1;
     }
     false
 }
 
 // What a structure's row says beside its members.
-fn look_around(
-    s: &[u8],
-    preset: Preset,
-    rows: &[u32],
-    attrs: &[u32],
-    counts: Counts,
-    key: u32,
-    room: &mut [u32],
-) -> Around {
-    let vendors = mw_vendors();
-    let sizes = rust_sizes(0);
-    let settings = preset.settings;
-    let list = part_of(&vendors, preset.vendors);
-    let size = data4_attribute(
-        s, settings, list, &sizes, rows, attrs, counts, key, BYTE_SIZE,
-    );
-    let sized = is_number(size);
-    match children(s, settings, list, &sizes, rows, attrs, counts, key, room) {
-        ChildRows::Listed(k) => Around {
+fn look_around(t: &Table<'_>, key: u32, room: &mut [u32]) -> Around {
+    let sized = matches!(data4_attribute(t, key, BYTE_SIZE), Ok(Some(_)));
+    match children(t, key, room) {
+        Ok(k) => Around {
             sized,
             children: 0 < k,
-            others: some_take(rows, room, k),
+            others: some_take(t.rows, room, k),
         },
-        ChildRows::Refused(_) => Around {
+        Err(_) => Around {
             sized,
             children: true,
             others: true,
         },
-        ChildRows::Room(_) => Around {
-            sized,
-            children: true,
-            others: true,
-        },
-    }
-}
-
-fn is_number(value: Value) -> bool {
-    match value {
-        Value::Is(_) => true,
-        Value::Nothing => false,
-        Value::Refused(_) => false,
     }
 }
 
@@ -382,33 +357,12 @@ fn unnamed(key: u32) -> Unit {
 }
 
 // The unit of that key: the last one, or it is looked up.
-fn unit_named(
-    s: &[u8],
-    preset: Preset,
-    rows: &[u32],
-    attrs: &[u32],
-    counts: Counts,
-    key: u32,
-    last: Unit,
-) -> Unit {
+fn unit_named(t: &Table<'_>, key: u32, last: Unit) -> Unit {
     if key == last.key {
         return last;
     }
-    let vendors = mw_vendors();
-    let sizes = rust_sizes(0);
-    let list = part_of(&vendors, preset.vendors);
-    match string_place(
-        s,
-        preset.settings,
-        list,
-        &sizes,
-        rows,
-        attrs,
-        counts,
-        key,
-        NAME,
-    ) {
-        PartPlace::At(name) => Unit { key, name },
+    match string_place(t, key, NAME) {
+        Ok(Some(name)) => Unit { key, name },
         _ => unnamed(key),
     }
 }
@@ -447,11 +401,7 @@ fn put_title(
 // Its layout, or why it has none.
 fn put_structure(
     rt: &impl Print,
-    s: &[u8],
-    preset: Preset,
-    rows: &[u32],
-    attrs: &[u32],
-    counts: Counts,
+    t: &Table<'_>,
     key: u32,
     structure: Structure,
     members: &[u64],
@@ -460,8 +410,8 @@ fn put_structure(
     used: usize,
 ) -> usize {
     if structure.number == 0 {
-        let around = look_around(s, preset, rows, attrs, counts, key, room);
-        return put_layout(rt, s, structure, around, members, buffer, used);
+        let around = look_around(t, key, room);
+        return put_layout(rt, t.section, structure, around, members, buffer, used);
     }
     let end = put_text(rt, buffer, used, b"  ");
     put_refusal(rt, buffer, end, structure.number as u64, structure.place)
@@ -477,98 +427,47 @@ struct Told {
 // A structure, in its unit.
 fn tell_structure(
     rt: &impl Print,
-    s: &[u8],
-    preset: Preset,
-    rows: &[u32],
-    attrs: &[u32],
-    counts: Counts,
+    t: &Table<'_>,
     structure: Structure,
     members: &[u64],
     room: &mut [u32],
     buffer: &mut [u8],
     told: Told,
 ) -> Told {
-    let row = row_at(rows, structure.row as usize);
-    let unit = unit_named(s, preset, rows, attrs, counts, row.unit, told.unit);
-    let end = put_title(rt, s, row, structure, unit, buffer, told.used);
-    let used = put_structure(
-        rt, s, preset, rows, attrs, counts, row.key, structure, members, room, buffer, end,
-    );
+    let row = row_at(t.rows, structure.row as usize);
+    let unit = unit_named(t, row.unit, told.unit);
+    let end = put_title(rt, t.section, row, structure, unit, buffer, told.used);
+    let used = put_structure(rt, t, row.key, structure, members, room, buffer, end);
     Told { used, unit }
 }
 
 // One buffer for all of them, which is written out where it is full and at the end.
-fn report_structures(
-    rt: &impl Print,
-    s: &[u8],
-    preset: Preset,
-    rows: &[u32],
-    attrs: &[u32],
-    counts: Counts,
-    structures: &[u64],
-    members: &[u64],
-    n: u32,
-) {
+fn report_structures(rt: &impl Print, t: &Table<'_>, structures: &[u64], members: &[u64], n: u32) {
     let mut buffer = [0u8; 4096];
     let mut room = child_room();
     let mut told = Told {
         used: 0,
         unit: unnamed(NO_UNIT),
     };
-    let mut k: u32 = 0;
-    while k < n {
+    for k in 0..n {
         let structure = structure_at(structures, k);
-        told = tell_structure(
-            rt,
-            s,
-            preset,
-            rows,
-            attrs,
-            counts,
-            structure,
-            members,
-            &mut room,
-            &mut buffer,
-            told,
-        );
-        k += 1;
+        told = tell_structure(rt, t, structure, members, &mut room, &mut buffer, told);
     }
     flush(rt, &buffer, told.used);
 }
 
-// Tables that were read.
-fn report_layouts(
-    rt: &impl Print,
-    s: &[u8],
-    preset: Preset,
-    rows: &[u32],
-    attrs: &[u32],
-    counts: Counts,
-) {
+// A table that was read.
+fn report_layouts(rt: &impl Print, t: &Table<'_>) {
     let mut structures = structure_room();
     let mut members = member_room();
-    let vendors = mw_vendors();
-    let sizes = rust_sizes(0);
-    let settings = preset.settings;
-    let many = preset.vendors;
-    match all_layouts(
-        s,
-        settings,
-        part_of(&vendors, many),
-        &sizes,
-        rows,
-        attrs,
-        counts,
-        &mut structures,
-        &mut members,
-    ) {
-        AllLayouts::Are(found) => {
+    match all_layouts(t, &mut structures, &mut members) {
+        Ok(found) => {
             // There are no more structures than rows.
             let n = (found.structures % 4294967296) as u32;
-            report_structures(rt, s, preset, rows, attrs, counts, &structures, &members, n)
+            report_structures(rt, t, &structures, &members, n)
         }
-        AllLayouts::Refused(why) => report_refusal(rt, why),
-        AllLayouts::Room(found) => report_room(
+        Err(Unfilled::Refused(why)) => report_refusal(rt, why),
+        Err(Unfilled::Room(found)) => report_room(
             rt,
             b"structures",
             found.structures as u64,
@@ -593,22 +492,26 @@ fn part_of(vendors: &[u16], n: usize) -> &[u16] {
 pub fn report(rt: &impl Print, s: &[u8], preset: Preset) {
     let mut rows = row_room();
     let mut attrs = attribute_room();
-    let vendors = mw_vendors();
+    let numbers = mw_vendors();
+    let vendors = part_of(&numbers, preset.vendors);
     let sizes = rust_sizes(0);
     let settings = preset.settings;
-    let many = preset.vendors;
-    match read_debug_section(
-        s,
-        settings,
-        part_of(&vendors, many),
-        &sizes,
-        &mut rows,
-        &mut attrs,
-    ) {
-        Section::Read(counts) => report_layouts(rt, s, preset, &rows, &attrs, counts),
-        Section::Refused(why) => report_refusal(rt, why),
-        Section::Unread { why, byte } => report_unread(rt, why, byte),
-        Section::Room(found) => report_room(
+    match read_debug_section(s, settings, vendors, &sizes, &mut rows, &mut attrs) {
+        Ok(counts) => {
+            let t = Table {
+                section: s,
+                settings,
+                vendors,
+                sizes: &sizes,
+                rows: &rows,
+                attrs: &attrs,
+                counts,
+            };
+            report_layouts(rt, &t)
+        }
+        Err(SectionError::Refused(why)) => report_refusal(rt, why),
+        Err(SectionError::Unread { why, byte }) => report_unread(rt, why, byte),
+        Err(SectionError::Room(found)) => report_room(
             rt,
             b"entries",
             found.rows as u64,

@@ -1,6 +1,7 @@
 // Members and structures as `sizes` has them in words. A word past the end reads as 0.
 use layout::all::STRUCTURE_WIDTH;
 use layout::one::LAID_WIDTH;
+use lent::cells::get_or;
 
 // A member in a layout.
 #[derive(Clone, Copy)]
@@ -25,13 +26,9 @@ pub struct Structure {
     pub name_length: u32,
 }
 
-fn word(t: &[u64], i: usize) -> u64 {
-    if i < t.len() { t[i] } else { 0 }
-}
-
 // All these numbers have 32 bits, but for a refusal's place.
 fn low_word(t: &[u64], i: usize) -> u32 {
-    (word(t, i) % 4294967296) as u32
+    (get_or(t, i, 0) % 4294967296) as u32
 }
 
 // Member number k of those that begin with the first.
@@ -52,7 +49,7 @@ pub fn structure_at(structures: &[u64], k: u32) -> Structure {
         row: low_word(structures, at),
         number: low_word(structures, at + 1),
         size: low_word(structures, at + 2),
-        place: word(structures, at + 3),
+        place: get_or(structures, at + 3, 0),
         first: low_word(structures, at + 4),
         members: low_word(structures, at + 5),
         name_place: low_word(structures, at + 6),

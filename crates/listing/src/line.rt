@@ -63,6 +63,7 @@ fn put_entry(line: &mut [u8], at: usize, key: u32, depth: u32, kind: u32) -> usi
 }
 
 // A unit, '-' where there is none.
+#[tactic(auto, unfolding(crate::specs::Text::unit_text))]
 fn put_unit(line: &mut [u8], at: usize, unit: u32) -> usize
     requires { at + 8 < 2 ^ 64 }
     ensures { Put (unit_text unit) at result line.old line.new }

@@ -1,5 +1,5 @@
-// The listing program: a section from standard input, its listing to standard output. Read `report` (what is printed for an input), `page` (its lines), `line`; the crate
-// `digits` writes fields. What it prints: specs/Report.antt and specs/Text.antt.
+// The listing program: a section from standard input, its listing to standard output. Read `report` (what is printed for an input), `page` (its
+// lines), `line`; the crate `digits` writes fields. What it prints: specs/Report.antt and specs/Text.antt.
 // A read error counts as the end of input: what was read before it is listed. A write that fails is not told.
 #![tactic(auto)]
 

@@ -1,11 +1,10 @@
 // The lines of a listing, one after the other in one page.
 ghost use Rattle.std.specs.Prelude.{suc, ◌+◌, ◌*◌, ◌^◌, ◌≤◌, ◌<◌};
-ghost use Rattle.listing.specs.Text.{line_limit, rows_text, listing_text};
+ghost use Rattle.listing.specs.Text.{line_limit, rows_text, listing_text, Printed};
 ghost use Rattle.digits.specs.Put.{Put};
-ghost use Rattle.listing.specs.Text.{Printed};
 
 use crate::line::{write_header, write_row};
-use lent::cells::cell;
+use lent::cells::get_or;
 use tables::row::row_at;
 
 // No line is longer than 34 bytes, and no more than the header and 1,024 rows are listed.
@@ -17,12 +16,10 @@ pub fn write_rows(rows: &[u32], room: &[u32], n: usize, page: &mut [u8], at: usi
     ensures { Put (rows_text rows.now room.now 0 n) at result page.old page.new × (result ≤ at + n * line_limit) }
 {
     let mut next = at;
-    let mut i = 0;
-    while i < n {
+    for i in 0..n {
         let row = row_at(rows, i);
-        let depth = cell(room, 2 * i);
+        let depth = get_or(room, 2 * i, 0);
         next = write_row(page, next, row.key, depth, row.kind, row.unit);
-        i += 1;
     }
     next
 }

@@ -1,23 +1,22 @@
 // Where reading, listing and writing come together: the whole text of the program's answer, in one page.
 ghost use Rattle.std.specs.Prelude.{◌≡◌, ◌≤◌};
+ghost use Rattle.format.specs.Said.{said_counted};
 ghost use Rattle.lent.specs.Outcome.{Given, BothGiven};
-ghost use Rattle.listing.specs.Text.{refusal_text, listing_text};
-ghost use Rattle.listing.specs.Text.{Printed};
+ghost use Rattle.listing.specs.Text.{refusal_text, listing_text, Printed};
 ghost use Rattle.format.specs.Refusal.{number_of};
 ghost use Rattle.entries.specs.Section.{said_section};
-ghost use Rattle.tree.specs.Tree.{said_listing};
 ghost use Rattle.listing.specs.Inside.Report.{FewRead, FewListed};
-ghost use Rattle.listing.specs.Report.{listing_settings, listing_read, listing_tree, room_text, answer_text, tree_text, report_text};
-ghost use Rattle.listing.specs.Report.{input_text};
+ghost use Rattle.listing.specs.Report.{listing_settings, listing_read, listing_tree, room_text, answer_text, tree_text, report_text, input_text};
 
 use crate::line::write_refusal;
 use crate::page::write_listing;
-use entries::section::{Section, read_debug_section};
-use format::refusal::{Reason, Refusal, number_of};
+use entries::section::{SectionError, read_debug_section};
+use format::refusal::{Reason, Refusal, Unfilled, number_of};
 use format::settings::{Producer, Roles, Settings};
 use numbers::Endian;
 use tables::row::{ATTR_WIDTH, Counts, ROW_WIDTH};
-use tree::listing::{Listing, PLACE_WIDTH, list_tree};
+use tables::table::Table;
+use tree::listing::{PLACE_WIDTH, list_tree};
 
 // Big-endian, erased entries out, no vendor numbers.
 fn listing_settings() -> Settings
@@ -38,7 +37,8 @@ fn listing_settings() -> Settings
 }
 
 // The section into the tables.
-fn read_tables(section: &[u8], rows: &mut [u32], attrs: &mut [u32]) -> Section
+#[tactic(auto, unfolding(crate::specs::Report::listing_sizes))]
+fn read_tables(section: &[u8], rows: &mut [u32], attrs: &mut [u32]) -> Result<Counts, SectionError>
     ensures { BothGiven (listing_read section.now rows.old attrs.old) (said_section result) rows.new
         attrs.new }
 {
@@ -69,39 +69,45 @@ fn report_room(page: &mut [u8]) -> usize
 }
 
 // The rows' places in the tree, into the room.
+#[tactic(auto, unfolding(crate::specs::Report::listing_sizes))]
 fn read_places(
     section: &[u8],
     rows: &[u32],
     attrs: &[u32],
     counts: Counts,
     room: &mut [u32],
-) -> Listing
-    ensures { Given (listing_tree section.now rows.now attrs.now counts room.old) (said_listing result)
+) -> Result<usize, Unfilled<usize>>
+    ensures { Given (listing_tree section.now rows.now attrs.now counts room.old) (said_counted result)
         room.new }
 {
     let vendors = [0u16; 0];
     let sizes = [4u32; 28];
-    list_tree(
+    let table = Table {
         section,
-        listing_settings(),
-        &vendors,
-        &sizes,
+        settings: listing_settings(),
+        vendors: &vendors,
+        sizes: &sizes,
         rows,
         attrs,
         counts,
-        room,
-    )
+    };
+    list_tree(&table, room)
 }
 
 // The lines of what the tree listing answered.
-fn report_places(answer: Listing, rows: &[u32], room: &[u32], page: &mut [u8]) -> usize
-    requires { FewListed (said_listing answer) }
-    ensures { Printed (answer_text (listing_text rows.now room.now) (said_listing answer)) result page.old page.new }
+fn report_places(
+    answer: Result<usize, Unfilled<usize>>,
+    rows: &[u32],
+    room: &[u32],
+    page: &mut [u8],
+) -> usize
+    requires { FewListed (said_counted answer) }
+    ensures { Printed (answer_text (listing_text rows.now room.now) (said_counted answer)) result page.old page.new }
 {
     match answer {
-        Listing::Listed(n) => write_listing(rows, room, n, page),
-        Listing::Refused(why) => report_refusal(why, page),
-        Listing::Room(_) => report_room(page),
+        Ok(n) => write_listing(rows, room, n, page),
+        Err(Unfilled::Refused(why)) => report_refusal(why, page),
+        Err(Unfilled::Room(_)) => report_room(page),
     }
 }
 
@@ -123,7 +129,7 @@ fn report_tree(
 
 // The lines of what reading answered.
 fn report_answer(
-    answer: Section,
+    answer: Result<Counts, SectionError>,
     section: &[u8],
     rows: &[u32],
     attrs: &[u32],
@@ -134,11 +140,11 @@ fn report_answer(
         page.new }
 {
     match answer {
-        Section::Read(counts) => report_tree(section, rows, attrs, counts, page),
-        Section::Refused(why) => report_refusal(why, page),
+        Ok(counts) => report_tree(section, rows, attrs, counts, page),
+        Err(SectionError::Refused(why)) => report_refusal(why, page),
         // Document 01's line has no byte.
-        Section::Unread { why, byte: _ } => report_refusal(why, page),
-        Section::Room(_) => report_room(page),
+        Err(SectionError::Unread { why, byte: _ }) => report_refusal(why, page),
+        Err(SectionError::Room(_)) => report_room(page),
     }
 }
 
@@ -153,6 +159,7 @@ pub fn report(section: &[u8], page: &mut [u8]) -> usize
 }
 
 // An input's lines: the section is all of it or, where it is longer, its beginning.
+#[tactic(auto, unfolding(crate::specs::Report::input_text))]
 pub fn report_input(section: &[u8], longer: bool, page: &mut [u8]) -> usize
     ensures { Printed (input_text longer section.now) result page.old page.new }
 {

@@ -1,20 +1,20 @@
 -- What follows from `Gaps`.
+use Rattle.std.specs.Prelude.{Option, Some, None}
 use Prim.Native.Nat.{ℕ, ◌+◌, ◌-◌, ◌≤◌, ◌<◌}
 use native.Mathlib.Omega.{arith}
-use mathlib.Core.Path.{◌≡◌, sym}
+use mathlib.Core.Path.{◌≡◌, sym, ap}
 use lib.Dec.{ltb}
 use borrow.Author.Tests.{lt-ltb, le-ltb, ltb-true, ltb-false}
 use Rattle.numbers.proofs.Laws.Tests.{cond-all}
 use Rattle.layouts.specs.declared.gaps.Gap.{Gap}
-use Rattle.layouts.specs.declared.gaps.Gap.TheVariants.{Is, Nothing}
-use Rattle.layouts.specs.Gaps.{gap_between, reach_with}
+use Rattle.layouts.specs.Gaps.{gap, gap_between, reach_with}
 
 -- the code's two ways, of each
-pub gap-found : (reached place : ℕ) → reached < place → Is reached (place - reached) ≡ gap_between reached place
+pub gap-found : (reached place : ℕ) → reached < place → Some (gap reached (place - reached)) ≡ gap_between reached place
 unfolding gap_between
 gap-found reached place h = rw (lt-ltb reached place h)
 
-pub no_gap : (reached place : ℕ) → place ≤ reached → Nothing ≡ gap_between reached place
+pub no_gap : (reached place : ℕ) → place ≤ reached → None ≡ gap_between reached place
 unfolding gap_between
 no_gap reached place h = rw (le-ltb reached place h)
 
@@ -27,21 +27,24 @@ unfolding reach_with
 reach-stays reached offset size h = rw (le-ltb reached (offset + size) h)
 
 -- a hole has the bytes from what was reached to the place, no more and no less
-pub hole-fills : (reached place at bytes : ℕ) → gap_between reached place ≡ Is at bytes → (at ≡ reached) × (at + bytes ≡ place)
+pub hole-fills : (reached place at bytes : ℕ) → gap_between reached place ≡ Some (gap at bytes) → (at ≡ reached) × (at + bytes ≡ place)
 unfolding gap_between
 hole-fills reached place at bytes =
     cond-all
-    (λ (g : Gap). g ≡ Is at bytes → (at ≡ reached) × (at + bytes ≡ place))
+    (λ (g : Option Gap). g ≡ Some (gap at bytes) → (at ≡ reached) × (at + bytes ≡ place))
     (ltb reached place)
-    (λ t p. let a : reached ≡ at = cc in let b : place - reached ≡ bytes = cc in (sym a, omega (arith, ltb-true reached place t)))
+    (λ t p. let same : gap reached (place - reached) ≡ gap at bytes = cc in
+    let a : reached ≡ at = ap (λ (g : Gap). g.at) same in
+    let b : place - reached ≡ bytes = ap (λ (g : Gap). g.bytes) same in
+    (sym a, omega (arith, ltb-true reached place t)))
     (λ t p. let z : ◌≡◌ {A = ℕ} 0 1 = cc in absurd (omega arith))
 
 -- there is none only where the place is not past what was reached
-pub none_left : (reached place : ℕ) → gap_between reached place ≡ Nothing → place ≤ reached
+pub none_left : (reached place : ℕ) → gap_between reached place ≡ None → place ≤ reached
 unfolding gap_between
 none_left reached place =
     cond-all
-    (λ (g : Gap). g ≡ Nothing → place ≤ reached)
+    (λ (g : Option Gap). g ≡ None → place ≤ reached)
     (ltb reached place)
     (λ t p. let z : ◌≡◌ {A = ℕ} 0 1 = cc in absurd (omega arith))
     (λ t p. ltb-false reached place t)

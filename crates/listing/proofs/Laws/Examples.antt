@@ -24,7 +24,7 @@ use Rattle.entries.specs.Run.{run_ends, read_on, read_run}
 use Rattle.entries.specs.Entry.{flip, little_flag, flag_of, flags_of, root_kind, attributes, root_endian, entry_from, read_entry}
 use Rattle.entries.specs.Walk.{entries_then, whole_entry, entries_from, read_tags}
 use Rattle.entries.specs.Section.{whole_walk, section_entries, read_debug_section}
-use Rattle.links.specs.Attribute.{wants, attr_from, attribute_of, as_reference, reference_by, reference_of}
+use Rattle.links.specs.Attribute.{wants, attr_from, attribute_of, reference_by, reference_of}
 use Rattle.tree.specs.Pick.{count_below, nearest_below, first_from}
 use Rattle.tree.specs.Reach.{later_row, reach_by, reach_end}
 use Rattle.tree.specs.Nest.{lies, depth, parent, crosses, faulty, deep, first_fault, first_deep}
@@ -35,5 +35,5 @@ use Rattle.listing.specs.Report.{listing_sizes, row_room, attr_room, place_room,
 use Rattle.listing.specs.Examples.{examples}
 
 pub examples-hold : map (λ e. input_text e.longer e.bytes) examples ≡ map (λ e. e.text) examples
-unfolding must ◌>>=◌ ◌>>◌ placed in_room fills_room in_rooms fills_rooms examples number_of fund_types value_of there read_at is_on index_of lookup tags used also_known attribute_kinds known forms form_of vendor_number vendors_hold role_holds role_form roles_differ roles_hold settings_hold zero_from fixed_end block_end text_end value_end ending numbered read_attribute null_end tag_head size_head head_at plays run_ends read_on read_run flip little_flag flag_of flags_of root_kind attributes root_endian entry_from read_entry entries_then whole_entry entries_from read_tags whole_walk fitting section_entries read_debug_section glyph digits width_from decimal_width header_text entry_text unit_text row_text rows_text refusal_text row_words attr_words rows_words attrs_words row_at attr_at unit_of in_unit units_from units_hold erased_row endian_of row_from row_of_key is_at attr_holds run_holds row_holds rows_hold table_holds test_table wants attr_from attribute_of as_reference reference_by reference_of count_below nearest_below first_from later_row reach_by reach_end lies depth parent crosses faulty deep first_fault first_deep places_from first_erased tree_tests listing_of list_tree listing_sizes row_room attr_room place_room answer_text tree_text report_text input_text
+unfolding must ◌>>=◌ ◌>>◌ placed in_room fills_room in_rooms fills_rooms examples number_of fund_types value_of there read_at is_on index_of lookup tags used also_known attribute_kinds known forms form_of vendor_number vendors_hold role_holds role_form roles_differ roles_hold settings_hold zero_from fixed_end block_end text_end value_end ending numbered read_attribute null_end tag_head size_head head_at plays run_ends read_on read_run flip little_flag flag_of flags_of root_kind attributes root_endian entry_from read_entry entries_then whole_entry entries_from read_tags whole_walk fitting section_entries read_debug_section glyph digits width_from decimal_width header_text entry_text unit_text row_text rows_text refusal_text row_words attr_words rows_words attrs_words row_at attr_at unit_of in_unit units_from units_hold erased_row endian_of row_from row_of_key is_at attr_holds run_holds row_holds rows_hold table_holds test_table wants attr_from attribute_of reference_by reference_of count_below nearest_below first_from later_row reach_by reach_end lies depth parent crosses faulty deep first_fault first_deep places_from first_erased tree_tests listing_of list_tree listing_sizes row_room attr_room place_room answer_text tree_text report_text input_text
 examples-hold = refl

@@ -2,7 +2,7 @@
 use Prim.Native.Nat.{ℕ, suc, ◌+◌, ◌*◌, ◌-◌, ◌^◌, ◌≤◌, ◌<◌}
 use native.Mathlib.Numerals.{add-one}
 use native.Mathlib.Omega.{arith}
-use mathlib.Core.Path.{◌≡◌, refl, sym, ◌∙◌}
+use mathlib.Core.Path.{◌≡◌, sym, ◌∙◌}
 use mathlib.Core.List.{List, ◌++◌}
 use lib.ListN.{length, get_or, take}
 use lib.Seq.{length-take-le}
@@ -21,11 +21,6 @@ module _ (rows room : List ℕ) (n at : ℕ) (page₀ : List ℕ) where
     pub same : length page ≡ length page₀
     pub near : next ≤ at + i * line_limit
     pub rest : (q : ℕ) (c : List ℕ) → Put (rows_text rows room i (n - i)) next q page c → Put (rows_text rows room 0 n) at q page₀ c
-
-  pub rows-begin : RowsLeft page₀ at 0
-  rows-begin =
-      let all : n - 0 ≡ n = omega arith in
-      record { inside = omega arith; same = refl; near = omega arith; rest = λ q c f. rw all at f }
 
   rows-one : (i : ℕ) → i < n
       → rows_text rows room i (n - i) ≡ row_text (row_at rows i).key (get_or room (2 * i) 0) (row_at rows i).kind (row_at rows i).unit ++ rows_text rows room (i + 1) (n - (i + 1))

@@ -1,8 +1,8 @@
 -- What follows from `Report`, for each way that the code takes.
 use Rattle.format.proofs.Laws.Said.{room-gave, fill-gave}
+use Rattle.std.specs.Prelude.{Result, Err}
 use Prim.Native.Nat.{ℕ, ◌*◌, ◌^◌, ◌≤◌, ◌<◌}
 use mathlib.Core.Path.{◌≡◌, sym, ap, subst, ◌∙◌}
-use mathlib.Core.Bool.{Bool, true, false}
 use mathlib.Core.List.{List, []}
 use lib.ListN.{length}
 use native.Mathlib.Omega.{arith}
@@ -22,7 +22,7 @@ use Rattle.listing.specs.Text.{refusal_text, listing_text}
 use Rattle.digits.specs.Put.{Put}
 use Rattle.listing.specs.Text.{Printed}
 use Rattle.listing.proofs.Laws.Page.{refusal-printed}
-use Rattle.listing.specs.Report.{listing_settings, listing_sizes, row_room, attr_room, place_room, listing_read, listing_tree, room_text, answer_text, tree_text, report_text, input_text}
+use Rattle.listing.specs.Report.{listing_settings, listing_sizes, row_room, attr_room, place_room, listing_read, listing_tree, answer_text, tree_text, report_text}
 use Rattle.listing.specs.Inside.Report.{FewRead, FewListed}
 
 -- a text that is the same is printed the same
@@ -40,25 +40,22 @@ pub case-printed : {E A : Type 0} (said : E → Said A) (text : A → List ℕ) 
     → Printed (answer_text text (said x)) r a b → Printed (answer_text text (said answer)) r a b
 case-printed said text {r = r} {a} {b} e f = subst (λ (d : Said _). Printed (answer_text text d) r a b) (ap said (sym e)) f
 
+pub error-printed : {E A : Type 0} (said : Result A E → Said A) (text : A → List ℕ) {answer : Result A E} {why x : E} {r : ℕ} {a b : List ℕ} → answer ≡ Err why
+    → why ≡ x
+    → Printed (answer_text text (said (Err x))) r a b → Printed (answer_text text (said answer)) r a b
+error-printed said text e k f = case-printed said text (e ∙ ap Err k) f
+
 pub tree-printed : (s rows attrs : List ℕ) (counts : Counts) {answer : Said ℕ} {room : List ℕ} {r : ℕ} {a b : List ℕ}
     → Given (listing_tree s rows attrs counts place_room) answer room → Printed (answer_text (listing_text rows room) answer) r a b
     → Printed (tree_text s rows attrs counts) r a b
 unfolding tree_text
 tree-printed s rows attrs counts g f = rw (← g.room_is, ← g.answer_is) f
 
-pub section-reported : (s : List ℕ) {answer : Said Counts} {rows attrs : List ℕ} {r : ℕ} {a b : List ℕ} → BothGiven (listing_read s row_room attr_room) answer rows attrs
+pub section-reported : (s : List ℕ) {answer : Said Counts} {rows attrs : List ℕ} {r : ℕ} {a b : List ℕ}
+    → BothGiven (listing_read s row_room attr_room) answer rows attrs
     → Printed (answer_text (tree_text s rows attrs) answer) r a b → Printed (report_text s) r a b
 unfolding report_text
 section-reported s g f = rw (← g.first_is, ← g.second_is, ← g.answer_is) f
-
-module _ (longer : Bool) (s : List ℕ) {r : ℕ} {a b : List ℕ} where
-  pub longer-reported : longer ≡ true → Printed room_text r a b → Printed (input_text longer s) r a b
-  unfolding input_text
-  longer-reported e f = rw e f
-
-  pub whole-reported : longer ≡ false → Printed (report_text s) r a b → Printed (input_text longer s) r a b
-  unfolding input_text
-  whole-reported e f = rw e f
 
 -- ---- no more rows are read than the tables have room for
 
@@ -69,7 +66,8 @@ read-few s rows attrs c long h =
     in
     omega arith
 
-pub few-read : (s rows attrs rows' attrs' : List ℕ) {answer : Said Counts} → length rows ≡ 1024 * row_width → BothGiven (listing_read s rows attrs) answer rows' attrs' → FewRead answer
+pub few-read : (s rows attrs rows' attrs' : List ℕ) {answer : Said Counts} → length rows ≡ 1024 * row_width
+    → BothGiven (listing_read s rows attrs) answer rows' attrs' → FewRead answer
 few-read s rows attrs rows' attrs' long g = record { few = λ c e. read-few s rows attrs c long (sym g.answer_is ∙ e) }
 
 -- ---- and no more are listed than were read

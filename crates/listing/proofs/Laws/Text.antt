@@ -1,11 +1,9 @@
 -- What follows from `Text`: the lines, and how long they are.
 use Prim.Native.Nat.{ℕ, ◌+◌, ◌^◌, ◌≤◌, ◌<◌}
 use native.Mathlib.Omega.{arith}
-use mathlib.Core.Path.{◌≡◌}
-use mathlib.Core.List.{List, [], ◌∷◌}
+use mathlib.Core.List.{List}
 use lib.ListN.{length, length-append}
 use lib.Dec.{eqb}
-use borrow.Author.Tests.{eq-eqb, ne_eqb}
 use Rattle.numbers.proofs.Laws.Tests.{cond-all}
 use Rattle.tables.specs.Unit.{no_unit}
 use Rattle.digits.proofs.Laws.Digits.{digits-length, decimal-length, decimal-short}
@@ -18,15 +16,6 @@ pub header-put : (n : ℕ) {at p q r : ℕ} {a b c d : List ℕ} → Put rows_wo
     → Put (header_text n) at r a d
 unfolding header_text
 header-put n f g h = put-after (put-after f g) h
-
-module _ (unit : ℕ) {at p : ℕ} {a b : List ℕ} where
-  pub no-unit-put : unit ≡ no_unit → Put (45 ∷ []) at p a b → Put (unit_text unit) at p a b
-  unfolding unit_text
-  no-unit-put e f = rw (eq-eqb unit no_unit e) f
-
-  pub unit-put : (unit ≡ no_unit → ⊥) → Put (hex_text 8 unit) at p a b → Put (unit_text unit) at p a b
-  unfolding unit_text
-  unit-put d f = rw (ne_eqb unit no_unit d) f
 
 pub entry-put : (key depth kind : ℕ) {at p₁ p₂ p₃ p₄ p₅ : ℕ} {l l₁ l₂ l₃ l₄ l₅ : List ℕ} → Put (hex_text 8 key) at p₁ l l₁ → Put space p₁ p₂ l₁ l₂
     → Put (decimal_text depth) p₂ p₃ l₂ l₃ → Put space p₃ p₄ l₃ l₄ → Put (hex_text 4 kind) p₄ p₅ l₄ l₅ → Put (entry_text key depth kind) at p₅ l l₅

@@ -1,6 +1,0 @@
--- Byte by byte.
-use Rattle.std.proofs.Common.{length, ◌-◌}
-use Rattle.layouts.proofs.out.put_text.Given as goal
-
-abbrev pub decreases-loop-i : goal.decreases-loop-i
-decreases-loop-i g l = length l.text - l.i

@@ -1,7 +1,0 @@
-use lib.ListN.{length-replicate}
-use Prim.Native.Nat.{ℕ}
-use mathlib.Core.Path.{sym}
-use Rattle.layouts.proofs.rooms.member_room.Goals as goal
-
-pub returns : goal.returns
-returns c = sym (length-replicate {A = ℕ} 65536 0)

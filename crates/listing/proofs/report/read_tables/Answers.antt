@@ -1,6 +1,0 @@
-use Rattle.listing.specs.Report.{listing_sizes}
-use Rattle.listing.proofs.report.read_tables.Goals as goal
-
-pub returns : goal.returns
-unfolding listing_sizes
-returns c = rw c.listing_settings.ensures at c.read_debug_section.ensures
