@@ -40,7 +40,7 @@ fn enumeration_words(
 }
 
 // With room for 16,384 members.
-fn large_enumeration(body: &[u8], c: Cursor, t: &Table<'_>, key: u32) -> Cursor {
+fn large_enumeration(body: &[u8], c: Cursor, t: &Table<'_, '_>, key: u32) -> Cursor {
     let mut values = [0i32; 16384];
     let mut names = [0u64; 32768];
     match process_enumeration_tag(t, key, &mut values, &mut names) {
@@ -50,7 +50,7 @@ fn large_enumeration(body: &[u8], c: Cursor, t: &Table<'_>, key: u32) -> Cursor 
     }
 }
 
-pub fn enumeration(body: &[u8], c: Cursor, t: &Table<'_>, key: u32) -> Cursor {
+pub fn enumeration(body: &[u8], c: Cursor, t: &Table<'_, '_>, key: u32) -> Cursor {
     let mut values = [0i32; 16];
     let mut names = [0u64; 32];
     match process_enumeration_tag(t, key, &mut values, &mut names) {

@@ -30,7 +30,7 @@ fn layout_words(body: &[u8], c: Cursor, s: &[u8], found: Layout, room: &[u64]) -
 }
 
 // With room for all members that a section can have.
-fn large_layout(body: &[u8], c: Cursor, t: &Table<'_>, key: u32) -> Cursor {
+fn large_layout(body: &[u8], c: Cursor, t: &Table<'_, '_>, key: u32) -> Cursor {
     let mut room = [0u64; 16384];
     match layout_of_key(t, key, &mut room) {
         Ok(found) => layout_words(body, given(body, c), t.section, found, &room),
@@ -39,7 +39,7 @@ fn large_layout(body: &[u8], c: Cursor, t: &Table<'_>, key: u32) -> Cursor {
     }
 }
 
-pub fn layout_of(body: &[u8], c: Cursor, t: &Table<'_>, key: u32) -> Cursor {
+pub fn layout_of(body: &[u8], c: Cursor, t: &Table<'_, '_>, key: u32) -> Cursor {
     let mut room = [0u64; 256];
     match layout_of_key(t, key, &mut room) {
         Ok(found) => layout_words(body, given(body, c), t.section, found, &room),

@@ -47,7 +47,7 @@ fn is_by_key(kind: u32) -> bool {
 }
 
 // Our answer to a question about a key, held against the case's.
-fn by_key(body: &[u8], kind: u32, read: &Table<'_>) -> Cursor {
+fn by_key(body: &[u8], kind: u32, read: &Table<'_, '_>) -> Cursor {
     let key = word_of(body, 0);
     let c = start(4);
     let number = attribute_number(word_of(body, 4));
@@ -92,7 +92,7 @@ fn ask_row(
     packet: &[u8],
     at: usize,
     t: &mut [u64; 128],
-    read: &Table<'_>,
+    read: &Table<'_, '_>,
 ) -> usize {
     if end_at(packet, at) <= at {
         fault(rt, t, at, b"a question is longer than its packet");
@@ -110,7 +110,7 @@ fn ask_rows(
     packet: &[u8],
     from: usize,
     t: &mut [u64; 128],
-    read: &Table<'_>,
+    read: &Table<'_, '_>,
 ) -> usize {
     let mut at = from;
     while at < packet.len() {
@@ -133,7 +133,7 @@ fn section_read(
     at: usize,
     t: &mut [u64; 128],
     c: Cursor,
-    read: &Table<'_>,
+    read: &Table<'_, '_>,
 ) -> usize {
     let body = body_at(packet, at);
     let d = table_words(body, given(body, c), read);

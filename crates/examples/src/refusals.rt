@@ -32,7 +32,7 @@ fn no_room(rt: &impl Print, needed: usize) {
 }
 
 // A section's rows and attributes; an unread one has none.
-fn read<'a>(s: &'a [u8], rows: &'a mut [u32], attrs: &'a mut [u32]) -> Table<'a> {
+fn read<'a>(s: &'a [u8], rows: &'a mut [u32], attrs: &'a mut [u32]) -> Table<'a, 'a> {
     let settings = settings_by(0);
     let counts = match read_debug_section(s, settings, &MW_VENDORS, &SIZES, rows, attrs) {
         Ok(counts) => counts,

@@ -24,7 +24,7 @@ fn child_keys(body: &[u8], c: Cursor, rows: &[u32], room: &[u32], n: usize) -> C
 }
 
 // With room for all children that a section can have.
-fn many_children(body: &[u8], c: Cursor, t: &Table<'_>, key: u32) -> Cursor {
+fn many_children(body: &[u8], c: Cursor, t: &Table<'_, '_>, key: u32) -> Cursor {
     let mut room = [0u32; 4096];
     match children(t, key, &mut room) {
         Ok(n) => child_keys(body, given(body, c), t.rows, &room, n),
@@ -33,7 +33,7 @@ fn many_children(body: &[u8], c: Cursor, t: &Table<'_>, key: u32) -> Cursor {
     }
 }
 
-pub fn child_walk(body: &[u8], c: Cursor, t: &Table<'_>, key: u32) -> Cursor {
+pub fn child_walk(body: &[u8], c: Cursor, t: &Table<'_, '_>, key: u32) -> Cursor {
     let mut room = [0u32; 16];
     match children(t, key, &mut room) {
         Ok(n) => child_keys(body, given(body, c), t.rows, &room, n),
@@ -58,17 +58,17 @@ fn neighbour(
     }
 }
 
-pub fn next(body: &[u8], c: Cursor, t: &Table<'_>, key: u32) -> Cursor {
+pub fn next(body: &[u8], c: Cursor, t: &Table<'_, '_>, key: u32) -> Cursor {
     let found = next_tag(t, key);
     neighbour(body, c, t.rows, found)
 }
 
-pub fn sibling(body: &[u8], c: Cursor, t: &Table<'_>, key: u32) -> Cursor {
+pub fn sibling(body: &[u8], c: Cursor, t: &Table<'_, '_>, key: u32) -> Cursor {
     let found = next_sibling(t, key);
     neighbour(body, c, t.rows, found)
 }
 
-pub fn first_type(body: &[u8], c: Cursor, t: &Table<'_>, key: u32) -> Cursor {
+pub fn first_type(body: &[u8], c: Cursor, t: &Table<'_, '_>, key: u32) -> Cursor {
     match type_attribute(t, key) {
         Ok(Some(attr)) => word(body, word(body, given(body, c), 1), attr.number),
         Ok(None) => word(body, given(body, c), 0),
@@ -104,20 +104,20 @@ fn looked_part(
     }
 }
 
-fn looked_string(body: &[u8], c: Cursor, t: &Table<'_>, key: u32, number: u16) -> Cursor {
+fn looked_string(body: &[u8], c: Cursor, t: &Table<'_, '_>, key: u32, number: u16) -> Cursor {
     let ours = string_attribute(t, key, number);
     let placed = string_place(t, key, number);
     looked_part(body, c, number, ours, placed)
 }
 
-fn looked_block(body: &[u8], c: Cursor, t: &Table<'_>, key: u32, number: u16) -> Cursor {
+fn looked_block(body: &[u8], c: Cursor, t: &Table<'_, '_>, key: u32, number: u16) -> Cursor {
     let ours = block_attribute(t, key, number);
     let placed = block_place(t, key, number);
     looked_part(body, c, number, ours, placed)
 }
 
 // An attribute whose form has no lookup of its own.
-fn looked_at(body: &[u8], c: Cursor, t: &Table<'_>, key: u32, number: u16) -> Cursor {
+fn looked_at(body: &[u8], c: Cursor, t: &Table<'_, '_>, key: u32, number: u16) -> Cursor {
     match attribute(t, key, number) {
         Ok(Some(attr)) => {
             let e = t.settings.endian;
@@ -148,7 +148,7 @@ fn flags_of(rows: &[u32], n: usize, key: u32) -> u32 {
 }
 
 // What the lookup of a number's form answers, for the forms that are one word.
-fn value_of(t: &Table<'_>, key: u32, number: u16) -> Result<Option<u32>, Refusal> {
+fn value_of(t: &Table<'_, '_>, key: u32, number: u16) -> Result<Option<u32>, Refusal> {
     let form = number % 16;
     if form == 1 {
         return address_attribute(t, key, number);
@@ -163,7 +163,7 @@ fn value_of(t: &Table<'_>, key: u32, number: u16) -> Result<Option<u32>, Refusal
 }
 
 // The first attribute of a number: by the lookup of its form.
-pub fn lookup(body: &[u8], c: Cursor, t: &Table<'_>, key: u32, number: u16) -> Cursor {
+pub fn lookup(body: &[u8], c: Cursor, t: &Table<'_, '_>, key: u32, number: u16) -> Cursor {
     let form = number % 16;
     if form == 8 {
         return looked_string(body, c, t, key, number);
@@ -178,7 +178,7 @@ pub fn lookup(body: &[u8], c: Cursor, t: &Table<'_>, key: u32, number: u16) -> C
     looked_word(body, c, number, value)
 }
 
-pub fn size(body: &[u8], c: Cursor, t: &Table<'_>, key: u32) -> Cursor {
+pub fn size(body: &[u8], c: Cursor, t: &Table<'_, '_>, key: u32) -> Cursor {
     match size_of_key(t, key) {
         Ok(n) => word(body, given(body, c), n),
         Err(why) => refusal(body, c, why),

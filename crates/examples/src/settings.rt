@@ -39,7 +39,7 @@ pub fn table<'a>(
     rows: &'a [u32],
     attrs: &'a [u32],
     counts: Counts,
-) -> Table<'a> {
+) -> Table<'a, 'a> {
     Table {
         section,
         settings,

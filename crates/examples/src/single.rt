@@ -41,7 +41,7 @@ fn member_words(body: &[u8], c: Cursor, s: &[u8], member: Member) -> Cursor {
     option(body, seen, size)
 }
 
-pub fn member(body: &[u8], c: Cursor, t: &Table<'_>, key: u32) -> Cursor {
+pub fn member(body: &[u8], c: Cursor, t: &Table<'_, '_>, key: u32) -> Cursor {
     match process_structure_member_tag(t, key) {
         Ok(found) => member_words(body, given(body, c), t.section, found),
         Err(why) => refusal(body, c, why),
@@ -54,7 +54,7 @@ fn typedef_words(body: &[u8], c: Cursor, s: &[u8], found: Typedef) -> Cursor {
     of_type(body, bytes(body, c, text_part(s, text)), s, of)
 }
 
-pub fn typedef(body: &[u8], c: Cursor, t: &Table<'_>, key: u32) -> Cursor {
+pub fn typedef(body: &[u8], c: Cursor, t: &Table<'_, '_>, key: u32) -> Cursor {
     match process_typedef_tag(t, key) {
         Ok(found) => typedef_words(body, given(body, c), t.section, found),
         Err(why) => refusal(body, c, why),
@@ -71,7 +71,7 @@ fn variable_words(body: &[u8], c: Cursor, s: &[u8], found: Variable) -> Cursor {
     flag(body, placed, found.local)
 }
 
-pub fn variable(body: &[u8], c: Cursor, t: &Table<'_>, key: u32) -> Cursor {
+pub fn variable(body: &[u8], c: Cursor, t: &Table<'_, '_>, key: u32) -> Cursor {
     match process_variable_tag(t, key) {
         Ok(found) => variable_words(body, given(body, c), t.section, found),
         Err(why) => refusal(body, c, why),
@@ -83,7 +83,7 @@ fn label_words(body: &[u8], c: Cursor, s: &[u8], found: Label) -> Cursor {
     word(body, bytes(body, c, text_part(s, text)), found.address)
 }
 
-pub fn label(body: &[u8], c: Cursor, t: &Table<'_>, key: u32) -> Cursor {
+pub fn label(body: &[u8], c: Cursor, t: &Table<'_, '_>, key: u32) -> Cursor {
     match process_subroutine_label_tag(t, key) {
         Ok(found) => label_words(body, given(body, c), t.section, found),
         Err(why) => refusal(body, c, why),
@@ -95,7 +95,7 @@ fn ptr_words(body: &[u8], c: Cursor, s: &[u8], found: PtrToMember) -> Cursor {
     word(body, of_type(body, c, s, of), found.containing)
 }
 
-pub fn ptr_to_member(body: &[u8], c: Cursor, t: &Table<'_>, key: u32) -> Cursor {
+pub fn ptr_to_member(body: &[u8], c: Cursor, t: &Table<'_, '_>, key: u32) -> Cursor {
     match process_ptr_to_member_tag(t, key) {
         Ok(found) => ptr_words(body, given(body, c), t.section, found),
         Err(why) => refusal(body, c, why),
@@ -110,7 +110,7 @@ fn overlay_words(body: &[u8], c: Cursor, s: &[u8], found: OverlayBranch) -> Curs
     option(body, word(body, begun, found.end_address), unit)
 }
 
-pub fn overlay_branch(body: &[u8], c: Cursor, t: &Table<'_>, key: u32) -> Cursor {
+pub fn overlay_branch(body: &[u8], c: Cursor, t: &Table<'_, '_>, key: u32) -> Cursor {
     match process_overlay_branch(t, key) {
         Ok(found) => overlay_words(body, given(body, c), t.section, found),
         Err(why) => refusal(body, c, why),

@@ -91,7 +91,7 @@ fn union_words(body: &[u8], c: Cursor, s: &[u8], found: Union, room: &[u64]) -> 
 }
 
 // With room for all members that a section can have.
-fn large_union(body: &[u8], c: Cursor, t: &Table<'_>, key: u32) -> Cursor {
+fn large_union(body: &[u8], c: Cursor, t: &Table<'_, '_>, key: u32) -> Cursor {
     let mut room = [0u64; 65536];
     match process_union_tag(t, key, &mut room) {
         Ok(found) => union_words(body, given(body, c), t.section, found, &room),
@@ -100,7 +100,7 @@ fn large_union(body: &[u8], c: Cursor, t: &Table<'_>, key: u32) -> Cursor {
     }
 }
 
-pub fn union_type(body: &[u8], c: Cursor, t: &Table<'_>, key: u32) -> Cursor {
+pub fn union_type(body: &[u8], c: Cursor, t: &Table<'_, '_>, key: u32) -> Cursor {
     let mut room = [0u64; 256];
     match process_union_tag(t, key, &mut room) {
         Ok(found) => union_words(body, given(body, c), t.section, found, &room),

@@ -43,7 +43,7 @@ pub fn ends_by(e: Endian, flags: u32) -> Endians {
 }
 
 // The attributes of a run.
-fn attributes(body: &[u8], c: Cursor, t: &Table<'_>, row: Row) -> Cursor {
+fn attributes(body: &[u8], c: Cursor, t: &Table<'_, '_>, row: Row) -> Cursor {
     let ends = ends_by(t.settings.endian, row.flags);
     let first = row.first as usize;
     let n = row.count as usize;
@@ -60,7 +60,7 @@ fn attributes(body: &[u8], c: Cursor, t: &Table<'_>, row: Row) -> Cursor {
     d
 }
 
-fn row(body: &[u8], c: Cursor, t: &Table<'_>, row: Row) -> Cursor {
+fn row(body: &[u8], c: Cursor, t: &Table<'_, '_>, row: Row) -> Cursor {
     let key = word(body, c, row.key);
     let kind = word(body, key, row.kind);
     let flags = word(body, kind, row.flags);
@@ -70,7 +70,7 @@ fn row(body: &[u8], c: Cursor, t: &Table<'_>, row: Row) -> Cursor {
 }
 
 // How many rows and attributes, and each of them.
-pub fn table_words(body: &[u8], c: Cursor, t: &Table<'_>) -> Cursor {
+pub fn table_words(body: &[u8], c: Cursor, t: &Table<'_, '_>) -> Cursor {
     let mut d = count(body, count(body, c, t.counts.rows), t.counts.attrs);
     for i in 0..t.counts.rows {
         d = row(body, d, t, row_at(t.rows, i));

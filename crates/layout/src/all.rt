@@ -67,7 +67,7 @@ fn size_told(answer: Result<Layout, Refusal>) -> Result<u32, Refusal>
 
 // Row i counted too, if it is a structure, and what its layout tells kept.
 fn count_row(
-    t: &Table<'_>,
+    t: &Table<'_, '_>,
     noted: &[u64],
     kept: &[u64],
     told: &mut [u64],
@@ -94,7 +94,7 @@ fn count_row(
 }
 
 // How many structures and members there are, whatever the room.
-fn count_layouts(t: &Table<'_>, noted: &[u64], kept: &[u64], told: &mut [u64]) -> LayoutCounts
+fn count_layouts(t: &Table<'_, '_>, noted: &[u64], kept: &[u64], told: &mut [u64]) -> LayoutCounts
     requires { FillAsked t.now.section.now t.now.rows.now t.now.counts.rows told.old × over_sizes AllKept t.now noted.now kept.now }
     ensures { over AllCounted t.now
         (over_sizes type_size_from t.now noted.now 0) result
@@ -140,7 +140,7 @@ fn put_structure(
 
 // Row i, if it is a structure: its words after those of the others, its members after theirs.
 fn put_row(
-    t: &Table<'_>,
+    t: &Table<'_, '_>,
     noted: &[u64],
     kept: &[u64],
     told: &[u64],
@@ -209,7 +209,7 @@ fn put_row(
 
 // All of them written; the rooms were found long enough.
 fn put_layouts(
-    t: &Table<'_>,
+    t: &Table<'_, '_>,
     noted: &[u64],
     kept: &[u64],
     told: &[u64],
@@ -235,7 +235,7 @@ fn put_layouts(
 
 // Counted first, so that with too little room nothing is written; what each layout tells is kept meanwhile, so that none is laid in vain.
 fn give_layouts(
-    t: &Table<'_>,
+    t: &Table<'_, '_>,
     noted: &[u64],
     kept: &[u64],
     told: &mut [u64],
@@ -261,7 +261,7 @@ fn give_layouts(
 
 // Each row is read once, then the sizes of all rows are taken.
 fn lay_all(
-    t: &Table<'_>,
+    t: &Table<'_, '_>,
     structures: &mut [u64],
     members: &mut [u64],
 ) -> Result<LayoutCounts, Unfilled<LayoutCounts>>
@@ -282,7 +282,7 @@ fn lay_all(
 
 // Every structure's and class's layout, their words and their members' into lent rooms; or a refusal, and both stay as they were.
 pub fn all_layouts(
-    t: &Table<'_>,
+    t: &Table<'_, '_>,
     structures: &mut [u64],
     members: &mut [u64],
 ) -> Result<LayoutCounts, Unfilled<LayoutCounts>>

@@ -22,7 +22,7 @@ use tables::row::row_at;
 use tables::table::Table;
 
 // The row of an entry that has the size, told as 10 at it; 11 where there is none.
-fn row_named(t: &Table<'_>, key: u32) -> Result<u32, Refusal>
+fn row_named(t: &Table<'_, '_>, key: u32) -> Result<u32, Refusal>
     requires { Rising t.now.rows.now t.now.counts.rows }
     ensures { said result ≡ row_named t.now.rows.now t.now.counts.rows key }
 {
@@ -37,7 +37,7 @@ fn row_named(t: &Table<'_>, key: u32) -> Result<u32, Refusal>
 
 // The size of a type, an entry that it names told by its row.
 #[tactic(auto, unfolding(sizes::specs::Size::type_size_by, sizes::specs::Size::kind_size, format::specs::Said::said))]
-fn type_named(t: &Table<'_>, of: Type) -> Result<u32, Refusal>
+fn type_named(t: &Table<'_, '_>, of: Type) -> Result<u32, Refusal>
     requires { Rising t.now.rows.now t.now.counts.rows }
     ensures { said result ≡ type_size_by t.now.sizes.now (row_named t.now.rows.now t.now.counts.rows) of }
 {
@@ -52,7 +52,7 @@ fn type_named(t: &Table<'_>, of: Type) -> Result<u32, Refusal>
 
 // A member's size likewise: its own ByteSize, else its type's.
 #[tactic(auto, unfolding(sizes::specs::Inside::Kept::size_named, sizes::specs::Size::size_or, format::specs::Said::said))]
-fn size_named(t: &Table<'_>, member: Member) -> Result<u32, Refusal>
+fn size_named(t: &Table<'_, '_>, member: Member) -> Result<u32, Refusal>
     requires { Rising t.now.rows.now t.now.counts.rows }
     ensures { said result ≡ size_named t.now.sizes.now t.now.rows.now t.now.counts.rows member }
 {
@@ -72,7 +72,7 @@ fn keep_two(kept: &mut [u64], c: usize, first: Result<u32, Refusal>, second: Res
 }
 
 // The member at row c.
-fn keep_member(t: &Table<'_>, kept: &mut [u64], c: usize, read: Result<Member, Refusal>)
+fn keep_member(t: &Table<'_, '_>, kept: &mut [u64], c: usize, read: Result<Member, Refusal>)
     requires { Rising t.now.rows.now t.now.counts.rows × (c * kept_width + kept_width ≤ length kept.old) }
     ensures { PutTwo c (first_of (said read)) (second_of t.now.sizes.now t.now.rows.now t.now.counts.rows (said read)) kept.old kept.new }
 {
@@ -83,7 +83,7 @@ fn keep_member(t: &Table<'_>, kept: &mut [u64], c: usize, read: Result<Member, R
 }
 
 // Row c: its sibling, and what it is as a member, if it is one.
-fn keep_row(t: &Table<'_>, kept: &mut [u64], c: usize)
+fn keep_row(t: &Table<'_, '_>, kept: &mut [u64], c: usize)
     requires { Asked t.now.rows.now t.now.counts.rows c × KeepAsked t.now.rows.now t.now.counts.rows kept.old }
     ensures { over_sizes PutRow t.now c kept.old kept.new }
 {
@@ -96,7 +96,7 @@ fn keep_row(t: &Table<'_>, kept: &mut [u64], c: usize)
 }
 
 // All rows one after the other: members and siblings.
-fn keep_members(t: &Table<'_>, kept: &mut [u64])
+fn keep_members(t: &Table<'_, '_>, kept: &mut [u64])
     requires { KeepAsked t.now.rows.now t.now.counts.rows kept.old }
     ensures { over_sizes MembersKept t.now kept.new }
 {
@@ -114,7 +114,7 @@ fn fault_size(fault: Result<(), Refusal>) -> Result<u32, Refusal>
 }
 
 // Row i: its members' fault, if it is a structure.
-fn keep_fault(t: &Table<'_>, kept: &mut [u64], i: usize)
+fn keep_fault(t: &Table<'_, '_>, kept: &mut [u64], i: usize)
     requires { Asked t.now.rows.now t.now.counts.rows i × over FaultAsked t.now kept.old }
     ensures { over PutFault t.now i kept.old kept.new }
 {
@@ -126,7 +126,7 @@ fn keep_fault(t: &Table<'_>, kept: &mut [u64], i: usize)
 }
 
 // Then the structures, whose members are kept by now.
-fn keep_faults(t: &Table<'_>, kept: &mut [u64])
+fn keep_faults(t: &Table<'_, '_>, kept: &mut [u64])
     requires { KeepAsked t.now.rows.now t.now.counts.rows kept.old × over_sizes MembersKept t.now kept.old }
     ensures { over_sizes PartsKept t.now kept.new }
 {
@@ -136,7 +136,7 @@ fn keep_faults(t: &Table<'_>, kept: &mut [u64])
 }
 
 // What is kept of all rows.
-pub(crate) fn keep_rows(t: &Table<'_>, kept: &mut [u64])
+pub(crate) fn keep_rows(t: &Table<'_, '_>, kept: &mut [u64])
     requires { KeepAsked t.now.rows.now t.now.counts.rows kept.old }
     ensures { over_sizes PartsKept t.now kept.new }
 {

@@ -41,7 +41,7 @@ fn is_settled(size: Result<u32, Refusal>) -> bool
 
 // Row i with one level more: the entries that it names have the sizes that are noted.
 #[tactic(auto, unfolding(crate::specs::Inside::Levels::next_level, sizes::specs::Size::row_size, sizes::specs::Size::shape_size, format::specs::Said::said))]
-fn next_size(t: &Table<'_>, noted: &[u64], kept: &[u64], i: usize) -> Result<u32, Refusal>
+fn next_size(t: &Table<'_, '_>, noted: &[u64], kept: &[u64], i: usize) -> Result<u32, Refusal>
     requires { AskedShort t.now.section.now t.now.rows.now t.now.counts.rows i × over_sizes AllKept t.now noted.now kept.now }
     ensures { said result ≡ over_sizes next_level t.now noted.now i }
 {
@@ -64,7 +64,7 @@ fn also_settled(were: bool, size: Result<u32, Refusal>) -> bool
 }
 
 // One level more; are all rows settled?
-fn next_level(t: &Table<'_>, noted: &[u64], kept: &[u64], next: &mut [u64]) -> bool
+fn next_level(t: &Table<'_, '_>, noted: &[u64], kept: &[u64], next: &mut [u64]) -> bool
     requires { FillAsked t.now.section.now t.now.rows.now t.now.counts.rows next.old × over_sizes AllKept t.now noted.now kept.now }
     ensures { LevelFilled (over_sizes next_level t.now noted.now) t.now.counts.rows t.now.counts.rows
         next.new result }
@@ -94,7 +94,7 @@ fn take_over(noted: &mut [u64], next: &[u64], words: usize) -> bool
 }
 
 // The sizes of all rows, the entry that is asked for being depth 2. Once all are settled, or a level changes nothing, none above it does.
-pub(crate) fn fill_noted(t: &Table<'_>, kept: &[u64], noted: &mut [u64], next: &mut [u64])
+pub(crate) fn fill_noted(t: &Table<'_, '_>, kept: &[u64], noted: &mut [u64], next: &mut [u64])
     requires { FillAsked t.now.section.now t.now.rows.now t.now.counts.rows noted.old ×
         (FillAsked t.now.section.now t.now.rows.now t.now.counts.rows next.old × over_sizes PartsKept t.now kept.now) }
     ensures { NotedUpTo (over_sizes size_left t.now deepest) t.now.counts.rows t.now.counts.rows noted.new }

@@ -77,7 +77,7 @@ fn end_or(rows: &[u32], bounded: bool, c: usize, largest: u32, added: Added) -> 
 
 // The member at row c into the room as number k, if it fits.
 #[tactic(auto, unfolding(crate::specs::Layout::laid_words, crate::specs::Inside::Layout::laid_at))]
-fn put_laid(t: &Table<'_>, room: &mut [u64], k: usize, c: usize, added: Added)
+fn put_laid(t: &Table<'_, '_>, room: &mut [u64], k: usize, c: usize, added: Added)
     ensures { room.new ≡ sets room.old (k * laid_width)
         (laid_words (laid_at t.now.settings.endian t.now.section.now t.now.rows.now t.now.attrs.now c added.offset added.size ∷ [])) }
 {
@@ -98,7 +98,7 @@ fn put_laid(t: &Table<'_>, room: &mut [u64], k: usize, c: usize, added: Added)
 
 // The member at row c, whose size is noted, laid after the others.
 fn lay_sized(
-    t: &Table<'_>,
+    t: &Table<'_, '_>,
     bounded: bool,
     c: usize,
     added: Added,
@@ -120,7 +120,7 @@ fn lay_sized(
 
 // Child c: a member is laid after the others, any other child is passed over.
 fn lay_child(
-    t: &Table<'_>,
+    t: &Table<'_, '_>,
     noted: &[u64],
     kept: &[u64],
     levels: usize,
@@ -142,7 +142,7 @@ fn lay_child(
 
 // The children of row i, whose walk ends, one at a time.
 fn lay_children(
-    t: &Table<'_>,
+    t: &Table<'_, '_>,
     noted: &[u64],
     kept: &[u64],
     levels: usize,
@@ -169,7 +169,7 @@ fn lay_children(
 
 // The members of a structure: all are read whole before any size is taken.
 fn lay_structure(
-    t: &Table<'_>,
+    t: &Table<'_, '_>,
     noted: &[u64],
     kept: &[u64],
     levels: usize,
@@ -186,7 +186,7 @@ fn lay_structure(
 
 // Row i: only a structure or a class has a layout.
 pub(crate) fn read_layout(
-    t: &Table<'_>,
+    t: &Table<'_, '_>,
     noted: &[u64],
     kept: &[u64],
     levels: usize,
@@ -217,7 +217,7 @@ pub(crate) fn read_layout(
 
 // Counted first, so that a refusal has written nothing.
 fn give_layout(
-    t: &Table<'_>,
+    t: &Table<'_, '_>,
     noted: &[u64],
     kept: &[u64],
     levels: usize,
@@ -239,7 +239,11 @@ fn give_layout(
 }
 
 // The layout of a key's entry, which is depth 1, its members into the room, four words each; or a refusal, and the room stays as it was.
-pub fn layout_of_key(t: &Table<'_>, key: u32, room: &mut [u64]) -> Result<Layout, Unfilled<usize>>
+pub fn layout_of_key(
+    t: &Table<'_, '_>,
+    key: u32,
+    room: &mut [u64],
+) -> Result<Layout, Unfilled<usize>>
     ensures { Given (layout_of_key (table_of t.now) key room.old) (said_counted result) room.new }
 {
     let i = row_of(t, key)?;

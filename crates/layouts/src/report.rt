@@ -322,7 +322,7 @@ fn some_take(rows: &[u32], children: &[u32], k: usize) -> bool {
 }
 
 // What a structure's row says beside its members.
-fn look_around(t: &Table<'_>, key: u32, room: &mut [u32]) -> Around {
+fn look_around(t: &Table<'_, '_>, key: u32, room: &mut [u32]) -> Around {
     let sized = matches!(data4_attribute(t, key, BYTE_SIZE), Ok(Some(_)));
     match children(t, key, room) {
         Ok(k) => Around {
@@ -357,7 +357,7 @@ fn unnamed(key: u32) -> Unit {
 }
 
 // The unit of that key: the last one, or it is looked up.
-fn unit_named(t: &Table<'_>, key: u32, last: Unit) -> Unit {
+fn unit_named(t: &Table<'_, '_>, key: u32, last: Unit) -> Unit {
     if key == last.key {
         return last;
     }
@@ -401,7 +401,7 @@ fn put_title(
 // Its layout, or why it has none.
 fn put_structure(
     rt: &impl Print,
-    t: &Table<'_>,
+    t: &Table<'_, '_>,
     key: u32,
     structure: Structure,
     members: &[u64],
@@ -427,7 +427,7 @@ struct Told {
 // A structure, in its unit.
 fn tell_structure(
     rt: &impl Print,
-    t: &Table<'_>,
+    t: &Table<'_, '_>,
     structure: Structure,
     members: &[u64],
     room: &mut [u32],
@@ -442,7 +442,13 @@ fn tell_structure(
 }
 
 // One buffer for all of them, which is written out where it is full and at the end.
-fn report_structures(rt: &impl Print, t: &Table<'_>, structures: &[u64], members: &[u64], n: u32) {
+fn report_structures(
+    rt: &impl Print,
+    t: &Table<'_, '_>,
+    structures: &[u64],
+    members: &[u64],
+    n: u32,
+) {
     let mut buffer = [0u8; 4096];
     let mut room = child_room();
     let mut told = Told {
@@ -457,7 +463,7 @@ fn report_structures(rt: &impl Print, t: &Table<'_>, structures: &[u64], members
 }
 
 // A table that was read.
-fn report_layouts(rt: &impl Print, t: &Table<'_>) {
+fn report_layouts(rt: &impl Print, t: &Table<'_, '_>) {
     let mut structures = structure_room();
     let mut members = member_room();
     match all_layouts(t, &mut structures, &mut members) {

@@ -12,7 +12,7 @@ use tables::row::row_at;
 use tables::table::Table;
 
 // The walk from a row on, sibling by sibling, up to `end`; more turns than rows are endless.
-fn go_over(t: &Table<'_>, end: usize, from: usize) -> Option<bool>
+fn go_over(t: &Table<'_, '_>, end: usize, from: usize) -> Option<bool>
     requires { RowsHold t.now.rows.now t.now.counts.rows }
     ensures { result ≡ gone_over t.now.rows.now false
         (walk_on t.now.settings.endian t.now.section.now t.now.rows.now t.now.attrs.now t.now.counts.rows end from) }
@@ -37,7 +37,7 @@ fn go_over(t: &Table<'_>, end: usize, from: usize) -> Option<bool>
 
 // The child walk of row i: null entries are no children.
 #[tactic(auto, unfolding(crate::specs::Links::child_walk, crate::specs::Inside::EachChild::walk_on))]
-pub fn any_child(t: &Table<'_>, i: usize) -> Option<bool>
+pub fn any_child(t: &Table<'_, '_>, i: usize) -> Option<bool>
     requires { Asked t.now.rows.now t.now.counts.rows i }
     ensures { result ≡ gone_over t.now.rows.now false (child_walk (table_rows (table_of t.now)) i) }
 {

@@ -32,7 +32,7 @@ fn take_child(rows: &[u32], c: usize, room: &mut [u32], k: usize) -> usize
 }
 
 // The walk from a row on, sibling by sibling, up to `end`; more turns than rows are endless.
-fn walk(t: &Table<'_>, end: usize, from: usize, room: &mut [u32]) -> Option<usize>
+fn walk(t: &Table<'_, '_>, end: usize, from: usize, room: &mut [u32]) -> Option<usize>
     requires { RowsHold t.now.rows.now t.now.counts.rows }
     ensures { Gathers (gathered_into t.now.rows.now 0 room.old
         (walk_from t.now.counts.rows (λ c. sibling_row (table_rows (table_of t.now)) c) end t.now.counts.rows from)) result room.new }
@@ -56,7 +56,7 @@ fn walk(t: &Table<'_>, end: usize, from: usize, room: &mut [u32]) -> Option<usiz
 
 // The child walk of row i.
 #[tactic(auto, unfolding(crate::specs::Links::child_walk))]
-fn gather(t: &Table<'_>, i: usize, room: &mut [u32]) -> Option<usize>
+fn gather(t: &Table<'_, '_>, i: usize, room: &mut [u32]) -> Option<usize>
     requires { Asked t.now.rows.now t.now.counts.rows i }
     ensures { Gathers (gathered_into t.now.rows.now 0 room.old (child_walk (table_rows (table_of t.now)) i)) result room.new }
 {
@@ -66,7 +66,7 @@ fn gather(t: &Table<'_>, i: usize, room: &mut [u32]) -> Option<usize>
 }
 
 // The same into no room: it counts.
-pub fn count_children(t: &Table<'_>, i: usize) -> Option<usize>
+pub fn count_children(t: &Table<'_, '_>, i: usize) -> Option<usize>
     requires { Asked t.now.rows.now t.now.counts.rows i }
     ensures { result ≡ (gathered_into t.now.rows.now 0 [] (child_walk (table_rows (table_of t.now)) i)).answer }
 {
@@ -75,7 +75,7 @@ pub fn count_children(t: &Table<'_>, i: usize) -> Option<usize>
 }
 
 // The children of row i, whose key it is: counted first, so that a refusal has written nothing.
-fn give(t: &Table<'_>, i: usize, key: u32, room: &mut [u32]) -> Result<usize, Unfilled<usize>>
+fn give(t: &Table<'_, '_>, i: usize, key: u32, room: &mut [u32]) -> Result<usize, Unfilled<usize>>
     requires { Asked t.now.rows.now t.now.counts.rows i }
     ensures { Given (listed_into t.now.rows.now key room.old (child_walk (table_rows (table_of t.now)) i)) (said_counted result) room.new }
 {
@@ -94,7 +94,7 @@ fn give(t: &Table<'_>, i: usize, key: u32, room: &mut [u32]) -> Result<usize, Un
 }
 
 // The row numbers of the children of the row that has this key; or a refusal, and the room stays as it was.
-pub fn children(t: &Table<'_>, key: u32, room: &mut [u32]) -> Result<usize, Unfilled<usize>>
+pub fn children(t: &Table<'_, '_>, key: u32, room: &mut [u32]) -> Result<usize, Unfilled<usize>>
     ensures { Given (children_of_key (table_of t.now) key room.old) (said_counted result) room.new }
 {
     let i = row_of(t, key)?;

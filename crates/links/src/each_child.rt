@@ -7,7 +7,7 @@ use tables::row::row_at;
 use tables::table::Table;
 
 // The first child that the walk from `from` on meets, or n where it meets none before `end`.
-pub fn child_from(t: &Table<'_>, end: usize, from: usize) -> usize
+pub fn child_from(t: &Table<'_, '_>, end: usize, from: usize) -> usize
     requires { Ends t.now.settings.endian t.now.section.now t.now.rows.now t.now.attrs.now t.now.counts.rows end from }
     ensures { result ≡ first_or t.now.counts.rows
         (children_from t.now.settings.endian t.now.section.now t.now.rows.now t.now.attrs.now t.now.counts.rows end from) }

@@ -50,7 +50,7 @@ fn row_number(rows: &[u32], n: usize, i: usize, key: u32) -> usize
 
 // The row that the first Sibling reference of row i names, n where no row has that key; without a reference the next row.
 #[tactic(auto, unfolding(crate::specs::Links::sibling_row, crate::specs::Links::sibling_by))]
-pub fn sibling_row(t: &Table<'_>, i: usize) -> usize
+pub fn sibling_row(t: &Table<'_, '_>, i: usize) -> usize
     requires { AtRow t.now.rows.now t.now.counts.rows i }
     ensures { result ≡ sibling_row (table_rows (table_of t.now)) i }
 {

@@ -39,7 +39,7 @@ fn first_attribute(attrs: &[u32], first: usize, n: usize, wanted: Wanted) -> Opt
 
 // The first attribute of row i that is wanted.
 #[tactic(auto, unfolding(crate::specs::Attribute::attribute_of))]
-pub(crate) fn attribute_of(t: &Table<'_>, i: usize, wanted: Wanted) -> Option<usize>
+pub(crate) fn attribute_of(t: &Table<'_, '_>, i: usize, wanted: Wanted) -> Option<usize>
     ensures { result ≡ attribute_of t.now.rows.now t.now.attrs.now i wanted }
 {
     let row = row_at(t.rows, i);
@@ -48,7 +48,7 @@ pub(crate) fn attribute_of(t: &Table<'_>, i: usize, wanted: Wanted) -> Option<us
 
 // The key that row i's first attribute of this number refers to.
 #[tactic(auto, unfolding(crate::specs::Attribute::reference_of, crate::specs::Attribute::reference_by))]
-pub fn reference_of(t: &Table<'_>, i: usize, number: u32) -> Option<u32>
+pub fn reference_of(t: &Table<'_, '_>, i: usize, number: u32) -> Option<u32>
     ensures { result ≡ reference_of t.now.settings.endian t.now.section.now t.now.rows.now t.now.attrs.now i number }
 {
     let k = attribute_of(t, i, Wanted::Number(number))?;

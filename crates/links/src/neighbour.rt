@@ -18,7 +18,7 @@ fn row_or_none(n: usize, j: usize) -> Option<usize>
 }
 
 // The row after the row of this key.
-pub fn next_tag(t: &Table<'_>, key: u32) -> Result<Option<usize>, Refusal>
+pub fn next_tag(t: &Table<'_, '_>, key: u32) -> Result<Option<usize>, Refusal>
     ensures { said result ≡ next_tag (table_of t.now) key }
 {
     let i = row_of(t, key)?;
@@ -26,7 +26,7 @@ pub fn next_tag(t: &Table<'_>, key: u32) -> Result<Option<usize>, Refusal>
 }
 
 // The sibling of the row of this key.
-pub fn next_sibling(t: &Table<'_>, key: u32) -> Result<Option<usize>, Refusal>
+pub fn next_sibling(t: &Table<'_, '_>, key: u32) -> Result<Option<usize>, Refusal>
     ensures { said result ≡ next_sibling (table_of t.now) key }
 {
     let i = row_of(t, key)?;

@@ -24,14 +24,14 @@ pub struct Spot {
 }
 
 #[tactic(auto, unfolding(crate::specs::Typed::attr_found))]
-fn look_in(t: &Table<'_>, i: usize, wanted: Wanted) -> Option<Attr>
+fn look_in(t: &Table<'_, '_>, i: usize, wanted: Wanted) -> Option<Attr>
     ensures { result ≡ attr_found t.now.attrs.now (attribute_of t.now.rows.now t.now.attrs.now i wanted) }
 {
     let k = attribute_of(t, i, wanted)?;
     Some(attr_at(t.attrs, k))
 }
 
-fn look(t: &Table<'_>, key: u32, wanted: Wanted) -> Result<Option<Attr>, Refusal>
+fn look(t: &Table<'_, '_>, key: u32, wanted: Wanted) -> Result<Option<Attr>, Refusal>
     ensures { said result ≡ attribute_of_key (table_of t.now) key wanted }
 {
     let i = row_of(t, key)?;
@@ -39,14 +39,14 @@ fn look(t: &Table<'_>, key: u32, wanted: Wanted) -> Result<Option<Attr>, Refusal
 }
 
 // The first attribute of this number in the row of a key.
-pub fn attribute(t: &Table<'_>, key: u32, number: u16) -> Result<Option<Attr>, Refusal>
+pub fn attribute(t: &Table<'_, '_>, key: u32, number: u16) -> Result<Option<Attr>, Refusal>
     ensures { said result ≡ attribute_of_key (table_of t.now) key (Wanted.Number number) }
 {
     look(t, key, Wanted::Number(number as u32))
 }
 
 // The first type attribute.
-pub fn type_attribute(t: &Table<'_>, key: u32) -> Result<Option<Attr>, Refusal>
+pub fn type_attribute(t: &Table<'_, '_>, key: u32) -> Result<Option<Attr>, Refusal>
     ensures { said result ≡ attribute_of_key (table_of t.now) key Wanted.Type }
 {
     look(t, key, Wanted::Type)
@@ -54,7 +54,7 @@ pub fn type_attribute(t: &Table<'_>, key: u32) -> Result<Option<Attr>, Refusal>
 
 // Where row i's first attribute of this number has its value.
 #[tactic(auto, unfolding(crate::specs::Typed::spot_at, crate::specs::Typed::spot_found))]
-fn spot_at(t: &Table<'_>, i: usize, number: u32) -> Option<Spot>
+fn spot_at(t: &Table<'_, '_>, i: usize, number: u32) -> Option<Spot>
     ensures { result ≡ spot_at t.now.settings.endian t.now.rows.now t.now.attrs.now number i }
 {
     let k = attribute_of(t, i, Wanted::Number(number))?;
@@ -67,7 +67,7 @@ fn spot_at(t: &Table<'_>, i: usize, number: u32) -> Option<Spot>
 
 // The same, if it has this form.
 #[tactic(auto, unfolding(crate::specs::Typed::spot_in))]
-fn spot_in(t: &Table<'_>, i: usize, number: u16, form: FormKind) -> Option<Spot>
+fn spot_in(t: &Table<'_, '_>, i: usize, number: u16, form: FormKind) -> Option<Spot>
     ensures { result ≡ spot_in t.now.settings.endian t.now.rows.now t.now.attrs.now number form i }
 {
     if is_form(form, number) {
@@ -78,7 +78,12 @@ fn spot_in(t: &Table<'_>, i: usize, number: u16, form: FormKind) -> Option<Spot>
 }
 
 // The same in the row of a key.
-fn place_of(t: &Table<'_>, key: u32, number: u16, form: FormKind) -> Result<Option<Spot>, Refusal>
+fn place_of(
+    t: &Table<'_, '_>,
+    key: u32,
+    number: u16,
+    form: FormKind,
+) -> Result<Option<Spot>, Refusal>
     ensures { said result ≡ place_of_key (table_of t.now) key number form }
 {
     let i = row_of(t, key)?;
@@ -103,7 +108,12 @@ pub fn word_at(s: &[u8], spot: Spot, form: FormKind) -> Option<u32>
     }
 }
 
-fn value_of(t: &Table<'_>, key: u32, number: u16, form: FormKind) -> Result<Option<u32>, Refusal>
+fn value_of(
+    t: &Table<'_, '_>,
+    key: u32,
+    number: u16,
+    form: FormKind,
+) -> Result<Option<u32>, Refusal>
     ensures { said result ≡ value_of_key (table_of t.now) key number form }
 {
     let spot = place_of(t, key, number, form)?;
@@ -111,28 +121,28 @@ fn value_of(t: &Table<'_>, key: u32, number: u16, form: FormKind) -> Result<Opti
 }
 
 // The address that the first attribute of this number says.
-pub fn address_attribute(t: &Table<'_>, key: u32, number: u16) -> Result<Option<u32>, Refusal>
+pub fn address_attribute(t: &Table<'_, '_>, key: u32, number: u16) -> Result<Option<u32>, Refusal>
     ensures { said result ≡ value_of_key (table_of t.now) key number FormKind.Addr }
 {
     value_of(t, key, number, FormKind::Addr)
 }
 
 // The key that it refers to.
-pub fn reference_attribute(t: &Table<'_>, key: u32, number: u16) -> Result<Option<u32>, Refusal>
+pub fn reference_attribute(t: &Table<'_, '_>, key: u32, number: u16) -> Result<Option<u32>, Refusal>
     ensures { said result ≡ value_of_key (table_of t.now) key number FormKind.Ref }
 {
     value_of(t, key, number, FormKind::Ref)
 }
 
 // Its 2-byte number.
-pub fn data2_attribute(t: &Table<'_>, key: u32, number: u16) -> Result<Option<u32>, Refusal>
+pub fn data2_attribute(t: &Table<'_, '_>, key: u32, number: u16) -> Result<Option<u32>, Refusal>
     ensures { said result ≡ value_of_key (table_of t.now) key number FormKind.Data2 }
 {
     value_of(t, key, number, FormKind::Data2)
 }
 
 // Its 4-byte number.
-pub fn data4_attribute(t: &Table<'_>, key: u32, number: u16) -> Result<Option<u32>, Refusal>
+pub fn data4_attribute(t: &Table<'_, '_>, key: u32, number: u16) -> Result<Option<u32>, Refusal>
     ensures { said result ≡ value_of_key (table_of t.now) key number FormKind.Data4 }
 {
     value_of(t, key, number, FormKind::Data4)
@@ -157,7 +167,7 @@ fn lies_at(s: &[u8], spot: Spot, form: FormKind) -> Option<Extent>
 }
 
 fn part_place(
-    t: &Table<'_>,
+    t: &Table<'_, '_>,
     key: u32,
     number: u16,
     form: FormKind,
@@ -169,7 +179,7 @@ fn part_place(
 }
 
 // Where the text lies that the first attribute of this number in the row of a key says: its place in the section, and its length without the zero.
-pub fn string_place(t: &Table<'_>, key: u32, number: u16) -> Result<Option<Extent>, Refusal>
+pub fn string_place(t: &Table<'_, '_>, key: u32, number: u16) -> Result<Option<Extent>, Refusal>
     ensures { said result ≡ extent_of_key (table_of t.now) key number FormKind.String }
 {
     part_place(t, key, number, FormKind::String)
@@ -187,7 +197,7 @@ fn block_form(number: u16) -> FormKind
 }
 
 // Where the bytes of its block lie.
-pub fn block_place(t: &Table<'_>, key: u32, number: u16) -> Result<Option<Extent>, Refusal>
+pub fn block_place(t: &Table<'_, '_>, key: u32, number: u16) -> Result<Option<Extent>, Refusal>
     ensures { said result ≡ extent_of_key (table_of t.now) key number (block_form number) }
 {
     part_place(t, key, number, block_form(number))
@@ -205,14 +215,14 @@ fn part_in(s: &[u8], placed: Result<Option<Extent>, Refusal>) -> &[u8]
 }
 
 // The text itself, as that part of the section; nothing where `string_place` tells none. Where it lies, and whether an empty one is there, that tells.
-pub fn string_attribute<'a>(t: &Table<'a>, key: u32, number: u16) -> &'a [u8]
+pub fn string_attribute<'s>(t: &Table<'s, '_>, key: u32, number: u16) -> &'s [u8]
     ensures { result.now ≡ part_of t.now.section.now (extent_of_key (table_of t.now) key number FormKind.String) }
 {
     part_in(t.section, string_place(t, key, number))
 }
 
 // The bytes of its block, likewise by `block_place`.
-pub fn block_attribute<'a>(t: &Table<'a>, key: u32, number: u16) -> &'a [u8]
+pub fn block_attribute<'s>(t: &Table<'s, '_>, key: u32, number: u16) -> &'s [u8]
     ensures { result.now ≡ part_of t.now.section.now (extent_of_key (table_of t.now) key number (block_form number)) }
 {
     part_in(t.section, block_place(t, key, number))

@@ -126,7 +126,7 @@ fn enumeration_sized(
 
 // After the attributes: no children, then a ByteSize.
 #[tactic(auto, using(crate::proofs::Laws::Steps::steps), unfolding(crate::specs::Inside::Enumeration::enumeration_end))]
-fn enumeration_end(t: &Table<'_>, i: usize, members: usize) -> Result<Enumeration, Refusal>
+fn enumeration_end(t: &Table<'_, '_>, i: usize, members: usize) -> Result<Enumeration, Refusal>
     requires { Asked t.now.rows.now t.now.counts.rows i }
     ensures { said result ≡ enumeration_end t.now.settings t.now.section.now t.now.rows.now t.now.attrs.now t.now.counts.rows i members }
 {
@@ -137,7 +137,7 @@ fn enumeration_end(t: &Table<'_>, i: usize, members: usize) -> Result<Enumeratio
 
 // The enumeration at row i, its members into the rooms as far as they fit.
 fn read_enumeration(
-    t: &Table<'_>,
+    t: &Table<'_, '_>,
     i: usize,
     slots: Slots,
     values: &mut [i32],
@@ -154,7 +154,7 @@ fn read_enumeration(
 }
 
 // The enumeration at row i of a tested table, with no room: all of it is read.
-pub fn enumeration_at(t: &Table<'_>, i: usize) -> Result<Enumeration, Refusal>
+pub fn enumeration_at(t: &Table<'_, '_>, i: usize) -> Result<Enumeration, Refusal>
     requires { AskedShort t.now.section.now t.now.rows.now t.now.counts.rows i }
     ensures { said result ≡ enumeration_at t.now.settings (table_rows (table_of t.now)) i }
 {
@@ -170,7 +170,7 @@ pub fn enumeration_at(t: &Table<'_>, i: usize) -> Result<Enumeration, Refusal>
 // Counted first, so that a refusal has written nothing.
 #[tactic(auto, using(crate::proofs::Laws::Steps::steps), unfolding(crate::specs::Enumeration::enumeration_into))]
 fn give_enumeration(
-    t: &Table<'_>,
+    t: &Table<'_, '_>,
     i: usize,
     values: &mut [i32],
     names: &mut [u64],
@@ -194,7 +194,7 @@ fn give_enumeration(
 // The enumeration of a key: its values into one room, place and length of its names into another; or a refusal, and the rooms stay as they were.
 #[tactic(auto, using(crate::proofs::Laws::Steps::steps), unfolding(crate::specs::Enumeration::process_enumeration_tag))]
 pub fn process_enumeration_tag(
-    t: &Table<'_>,
+    t: &Table<'_, '_>,
     key: u32,
     values: &mut [i32],
     names: &mut [u64],

@@ -41,7 +41,7 @@ fn kind_taken(producer: Producer, which: Record, kind: u32) -> bool
 }
 
 #[tactic(auto, using(crate::proofs::Laws::Steps::steps), unfolding(crate::specs::Front::kind_fault))]
-pub(crate) fn kind_fault(t: &Table<'_>, i: usize, which: Record) -> Result<(), Refusal>
+pub(crate) fn kind_fault(t: &Table<'_, '_>, i: usize, which: Record) -> Result<(), Refusal>
     ensures { said result ≡ kind_fault t.now.settings t.now.rows.now which i }
 {
     let row = row_at(t.rows, i);
@@ -54,7 +54,7 @@ pub(crate) fn kind_fault(t: &Table<'_>, i: usize, which: Record) -> Result<(), R
 
 // A record that allows no children: 9 where the walk never ends, whatever it meets; 16 where it meets one.
 #[tactic(auto, using(crate::proofs::Laws::Steps::steps, crate::proofs::Laws::Front::children))]
-pub(crate) fn childless_fault(t: &Table<'_>, i: usize) -> Result<(), Refusal>
+pub(crate) fn childless_fault(t: &Table<'_, '_>, i: usize) -> Result<(), Refusal>
     requires { Asked t.now.rows.now t.now.counts.rows i }
     ensures { said result ≡ childless_fault t.now.rows.now i (child_walk (table_rows (table_of t.now)) i) }
 {
@@ -68,7 +68,7 @@ pub(crate) fn childless_fault(t: &Table<'_>, i: usize) -> Result<(), Refusal>
 
 // Kind and attributes of a record that reads no attribute itself.
 #[tactic(auto, using(crate::proofs::Laws::Steps::steps), unfolding(crate::specs::Front::head_of))]
-pub(crate) fn head_fault(t: &Table<'_>, i: usize, which: Record) -> Result<(), Refusal>
+pub(crate) fn head_fault(t: &Table<'_, '_>, i: usize, which: Record) -> Result<(), Refusal>
     requires { Plain which }
     ensures { said result ≡ head_of t.now.settings t.now.section.now t.now.rows.now t.now.attrs.now which i }
 {
@@ -79,7 +79,7 @@ pub(crate) fn head_fault(t: &Table<'_>, i: usize, which: Record) -> Result<(), R
 
 // The same, and no children.
 #[tactic(auto, using(crate::proofs::Laws::Steps::steps), unfolding(crate::specs::Front::front_of))]
-pub(crate) fn front_fault(t: &Table<'_>, i: usize, which: Record) -> Result<(), Refusal>
+pub(crate) fn front_fault(t: &Table<'_, '_>, i: usize, which: Record) -> Result<(), Refusal>
     requires { PlainAt which t.now.rows.now t.now.counts.rows i }
     ensures { said result ≡ front_of t.now.settings (table_rows (table_of t.now)) which i }
 {

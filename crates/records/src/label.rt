@@ -31,7 +31,7 @@ fn label_fields(s: &[u8], attrs: &[u32], run: Run) -> Result<Label, Refusal>
 
 // The label at row i of a tested table.
 #[tactic(auto, using(crate::proofs::Laws::Steps::steps), unfolding(crate::specs::Label::label_at, crate::specs::Taken::special))]
-fn label_at(t: &Table<'_>, i: usize) -> Result<Label, Refusal>
+fn label_at(t: &Table<'_, '_>, i: usize) -> Result<Label, Refusal>
     requires { Asked t.now.rows.now t.now.counts.rows i }
     ensures { said result ≡ label_at t.now.settings (table_rows (table_of t.now)) i }
 {
@@ -42,7 +42,7 @@ fn label_at(t: &Table<'_>, i: usize) -> Result<Label, Refusal>
 
 // The label of a key.
 #[tactic(auto, using(crate::proofs::Laws::Steps::steps), unfolding(crate::specs::Label::process_subroutine_label_tag))]
-pub fn process_subroutine_label_tag(t: &Table<'_>, key: u32) -> Result<Label, Refusal>
+pub fn process_subroutine_label_tag(t: &Table<'_, '_>, key: u32) -> Result<Label, Refusal>
     ensures { said result ≡ process_subroutine_label_tag (table_of t.now) key }
 {
     let i = row_of(t, key)?;

@@ -67,7 +67,7 @@ fn member_fields(s: &[u8], attrs: &[u32], run: Run) -> Result<Member, Refusal>
 
 // The member at row i of a tested table.
 #[tactic(auto, using(crate::proofs::Laws::Steps::steps), unfolding(crate::specs::Member::member_at, crate::specs::Taken::special))]
-pub fn member_at(t: &Table<'_>, i: usize) -> Result<Member, Refusal>
+pub fn member_at(t: &Table<'_, '_>, i: usize) -> Result<Member, Refusal>
     requires { Asked t.now.rows.now t.now.counts.rows i }
     ensures { said result ≡ member_at t.now.settings (table_rows (table_of t.now)) i }
 {
@@ -78,7 +78,7 @@ pub fn member_at(t: &Table<'_>, i: usize) -> Result<Member, Refusal>
 
 // The member of a key.
 #[tactic(auto, using(crate::proofs::Laws::Steps::steps), unfolding(crate::specs::Member::process_structure_member_tag))]
-pub fn process_structure_member_tag(t: &Table<'_>, key: u32) -> Result<Member, Refusal>
+pub fn process_structure_member_tag(t: &Table<'_, '_>, key: u32) -> Result<Member, Refusal>
     ensures { said result ≡ process_structure_member_tag (table_of t.now) key }
 {
     let i = row_of(t, key)?;

@@ -42,7 +42,7 @@ fn overlay_fields(s: &[u8], attrs: &[u32], run: Run, roles: Roles) -> Result<Ove
 
 // The overlay branch at row i of a tested table.
 #[tactic(auto, using(crate::proofs::Laws::Steps::steps), unfolding(crate::specs::OverlayBranch::overlay_at, crate::specs::Taken::special))]
-fn overlay_at(t: &Table<'_>, i: usize) -> Result<OverlayBranch, Refusal>
+fn overlay_at(t: &Table<'_, '_>, i: usize) -> Result<OverlayBranch, Refusal>
     ensures { said result ≡ overlay_at t.now.settings t.now.section.now t.now.rows.now t.now.attrs.now i }
 {
     head_fault(t, i, Record::OverlayBranch)?;
@@ -52,7 +52,7 @@ fn overlay_at(t: &Table<'_>, i: usize) -> Result<OverlayBranch, Refusal>
 
 // The overlay branch of a key.
 #[tactic(auto, using(crate::proofs::Laws::Steps::steps), unfolding(crate::specs::OverlayBranch::process_overlay_branch))]
-pub fn process_overlay_branch(t: &Table<'_>, key: u32) -> Result<OverlayBranch, Refusal>
+pub fn process_overlay_branch(t: &Table<'_, '_>, key: u32) -> Result<OverlayBranch, Refusal>
     ensures { said result ≡ process_overlay_branch (table_of t.now) key }
 {
     let i = row_of(t, key)?;

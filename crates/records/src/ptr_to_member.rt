@@ -33,7 +33,7 @@ fn ptr_fields(s: &[u8], attrs: &[u32], run: Run) -> Result<PtrToMember, Refusal>
 
 // The pointer to member at row i of a tested table.
 #[tactic(auto, using(crate::proofs::Laws::Steps::steps), unfolding(crate::specs::PtrToMember::ptr_at, crate::specs::Taken::special))]
-pub fn ptr_to_member_at(t: &Table<'_>, i: usize) -> Result<PtrToMember, Refusal>
+pub fn ptr_to_member_at(t: &Table<'_, '_>, i: usize) -> Result<PtrToMember, Refusal>
     requires { Asked t.now.rows.now t.now.counts.rows i }
     ensures { said result ≡ ptr_at t.now.settings (table_rows (table_of t.now)) i }
 {
@@ -44,7 +44,7 @@ pub fn ptr_to_member_at(t: &Table<'_>, i: usize) -> Result<PtrToMember, Refusal>
 
 // The pointer to member of a key.
 #[tactic(auto, using(crate::proofs::Laws::Steps::steps), unfolding(crate::specs::PtrToMember::process_ptr_to_member_tag))]
-pub fn process_ptr_to_member_tag(t: &Table<'_>, key: u32) -> Result<PtrToMember, Refusal>
+pub fn process_ptr_to_member_tag(t: &Table<'_, '_>, key: u32) -> Result<PtrToMember, Refusal>
     ensures { said result ≡ process_ptr_to_member_tag (table_of t.now) key }
 {
     let i = row_of(t, key)?;

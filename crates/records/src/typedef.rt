@@ -84,7 +84,7 @@ fn typedef_fields(
 
 // After the attributes: no children, then name and type.
 #[tactic(auto, using(crate::proofs::Laws::Steps::steps), unfolding(crate::specs::Typedef::typedef_end, crate::specs::Scan::run_of))]
-fn typedef_end(t: &Table<'_>, i: usize, filling: Option<Typedef>) -> Result<Typedef, Refusal>
+fn typedef_end(t: &Table<'_, '_>, i: usize, filling: Option<Typedef>) -> Result<Typedef, Refusal>
     requires { Asked t.now.rows.now t.now.counts.rows i }
     ensures { said result ≡ typedef_end t.now.settings (table_rows (table_of t.now)) i
         (known_of t.now.section.now t.now.attrs.now (run_of t.now.settings.endian t.now.rows.now i) filling) }
@@ -96,7 +96,7 @@ fn typedef_end(t: &Table<'_>, i: usize, filling: Option<Typedef>) -> Result<Type
 
 // A specification must name a typedef's row: 11, 10 past the limit, 12.
 #[tactic(auto, using(crate::proofs::Laws::Steps::steps), unfolding(crate::specs::Typedef::specified_by, tables::specs::Keyed::found_row))]
-fn specified_by(t: &Table<'_>, levels: usize, key: u32) -> Result<usize, Refusal>
+fn specified_by(t: &Table<'_, '_>, levels: usize, key: u32) -> Result<usize, Refusal>
     requires { RowsHold t.now.rows.now t.now.counts.rows }
     ensures { said result ≡ specified_by t.now.settings t.now.rows.now t.now.counts.rows levels key }
 {
@@ -110,7 +110,7 @@ fn specified_by(t: &Table<'_>, levels: usize, key: u32) -> Result<usize, Refusal
 
 // The specification that is attribute k of the run.
 #[tactic(auto, using(crate::proofs::Laws::Steps::steps, crate::proofs::Laws::Typedef::references), unfolding(crate::specs::Typedef::specified, crate::specs::Scan::fault_at))]
-fn specification_at(t: &Table<'_>, run: Run, levels: usize, k: u32) -> Result<usize, Refusal>
+fn specification_at(t: &Table<'_, '_>, run: Run, levels: usize, k: u32) -> Result<usize, Refusal>
     requires { RowsHold t.now.rows.now t.now.counts.rows }
     ensures { said result ≡ specified t.now.settings (table_rows (table_of t.now)) run levels k }
 {
@@ -125,7 +125,12 @@ fn specification_at(t: &Table<'_>, run: Run, levels: usize, k: u32) -> Result<us
 
 // The attributes from `from` on, up to the next specification.
 #[tactic(auto, using(crate::proofs::Laws::Steps::steps, crate::proofs::Laws::Typedef::pauses), unfolding(crate::specs::Inside::Typedef::pause_from))]
-fn pause_from(t: &Table<'_>, run: Run, levels: usize, from: usize) -> Result<Option<Pause>, Refusal>
+fn pause_from(
+    t: &Table<'_, '_>,
+    run: Run,
+    levels: usize,
+    from: usize,
+) -> Result<Option<Pause>, Refusal>
     requires { RowsHold t.now.rows.now t.now.counts.rows }
     ensures { said_pause result ≡ pause_from t.now.settings t.now.section.now t.now.rows.now t.now.attrs.now t.now.counts.rows run levels from }
 {
@@ -145,7 +150,7 @@ fn pause_from(t: &Table<'_>, run: Run, levels: usize, from: usize) -> Result<Opt
 }
 
 // The typedef at row i, a Typedef row of a tested table, from where so many specifications may still be followed. Each is read whole.
-fn typedef_run(t: &Table<'_>, levels: usize, i: usize) -> Result<Typedef, Refusal>
+fn typedef_run(t: &Table<'_, '_>, levels: usize, i: usize) -> Result<Typedef, Refusal>
     requires { Asked t.now.rows.now t.now.counts.rows i }
     ensures { said result ≡ typedef_run t.now.settings (table_rows (table_of t.now)) levels i }
 {
@@ -162,7 +167,7 @@ fn typedef_run(t: &Table<'_>, levels: usize, i: usize) -> Result<Typedef, Refusa
 
 // The typedef at row i of a tested table.
 #[tactic(auto, using(crate::proofs::Laws::Steps::steps), unfolding(crate::specs::Typedef::typedef_at))]
-fn typedef_at(t: &Table<'_>, i: usize) -> Result<Typedef, Refusal>
+fn typedef_at(t: &Table<'_, '_>, i: usize) -> Result<Typedef, Refusal>
     requires { Asked t.now.rows.now t.now.counts.rows i }
     ensures { said result ≡ typedef_at t.now.settings (table_rows (table_of t.now)) i }
 {
@@ -172,7 +177,7 @@ fn typedef_at(t: &Table<'_>, i: usize) -> Result<Typedef, Refusal>
 
 // The typedef of a key.
 #[tactic(auto, using(crate::proofs::Laws::Steps::steps), unfolding(crate::specs::Typedef::process_typedef_tag))]
-pub fn process_typedef_tag(t: &Table<'_>, key: u32) -> Result<Typedef, Refusal>
+pub fn process_typedef_tag(t: &Table<'_, '_>, key: u32) -> Result<Typedef, Refusal>
     ensures { said result ≡ process_typedef_tag (table_of t.now) key }
 {
     let i = row_of(t, key)?;

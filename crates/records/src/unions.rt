@@ -41,7 +41,7 @@ fn is_ignored(kind: u32) -> bool
 
 // A child at row c: a member's record goes into the room as number k; a type's definition is passed over; any other is 16 at the union.
 fn take_child(
-    t: &Table<'_>,
+    t: &Table<'_, '_>,
     key: u32,
     c: usize,
     room: &mut [u64],
@@ -63,7 +63,7 @@ fn take_child(
 }
 
 // The children of row i, whose walk ends, one at a time.
-fn take_children(t: &Table<'_>, i: usize, room: &mut [u64]) -> Result<usize, Refusal>
+fn take_children(t: &Table<'_, '_>, i: usize, room: &mut [u64]) -> Result<usize, Refusal>
     requires { EndsAt t.now.settings.endian t.now.section.now t.now.rows.now t.now.attrs.now t.now.counts.rows i }
     ensures { MembersStored (members_from t.now.settings (table_rows (table_of t.now)) (row_at t.now.rows.now i).key
         (children_at t.now.settings.endian t.now.section.now t.now.rows.now t.now.attrs.now t.now.counts.rows i))
@@ -81,7 +81,7 @@ fn take_children(t: &Table<'_>, i: usize, room: &mut [u64]) -> Result<usize, Ref
 }
 
 // All children: 9 where the walk never ends.
-fn union_members(t: &Table<'_>, i: usize, room: &mut [u64]) -> Result<usize, Refusal>
+fn union_members(t: &Table<'_, '_>, i: usize, room: &mut [u64]) -> Result<usize, Refusal>
     requires { Asked t.now.rows.now t.now.counts.rows i }
     ensures { MembersStored (row_members t.now.settings (table_rows (table_of t.now)) i) (said result) room.old room.new }
 {
@@ -103,7 +103,7 @@ fn union_sized(s: &[u8], attrs: &[u32], run: Run, members: usize) -> Result<Unio
 }
 
 // The union at row i, its members into the room as far as they fit.
-fn read_union(t: &Table<'_>, i: usize, room: &mut [u64]) -> Result<Union, Refusal>
+fn read_union(t: &Table<'_, '_>, i: usize, room: &mut [u64]) -> Result<Union, Refusal>
     requires { Asked t.now.rows.now t.now.counts.rows i }
     ensures { UnionStored (union_at t.now.settings (table_rows (table_of t.now)) i)
         (row_members t.now.settings (table_rows (table_of t.now)) i) (said result) room.old room.new }
@@ -115,7 +115,7 @@ fn read_union(t: &Table<'_>, i: usize, room: &mut [u64]) -> Result<Union, Refusa
 }
 
 // The union at row i of a tested table, with no room: all of it is read.
-pub fn union_at(t: &Table<'_>, i: usize) -> Result<Union, Refusal>
+pub fn union_at(t: &Table<'_, '_>, i: usize) -> Result<Union, Refusal>
     requires { Asked t.now.rows.now t.now.counts.rows i }
     ensures { said result ≡ union_at t.now.settings (table_rows (table_of t.now)) i }
 {
@@ -125,7 +125,7 @@ pub fn union_at(t: &Table<'_>, i: usize) -> Result<Union, Refusal>
 
 // Counted first, so that a refusal has written nothing.
 #[tactic(auto, using(crate::proofs::Laws::Steps::steps), unfolding(crate::specs::Unions::union_into))]
-fn give_union(t: &Table<'_>, i: usize, room: &mut [u64]) -> Result<Union, Unfilled<usize>>
+fn give_union(t: &Table<'_, '_>, i: usize, room: &mut [u64]) -> Result<Union, Unfilled<usize>>
     requires { Asked t.now.rows.now t.now.counts.rows i }
     ensures { Given (union_into t.now.settings (table_rows (table_of t.now)) room.old i) (said_counted result) room.new }
 {
@@ -140,7 +140,7 @@ fn give_union(t: &Table<'_>, i: usize, room: &mut [u64]) -> Result<Union, Unfill
 // The union of a key, its members' records into the room, 16 words each; or a refusal, and the room stays as it was.
 #[tactic(auto, using(crate::proofs::Laws::Steps::steps), unfolding(crate::specs::Unions::process_union_tag))]
 pub fn process_union_tag(
-    t: &Table<'_>,
+    t: &Table<'_, '_>,
     key: u32,
     room: &mut [u64],
 ) -> Result<Union, Unfilled<usize>>

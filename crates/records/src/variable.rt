@@ -47,7 +47,7 @@ fn variable_fields(
 
 // The variable at row i of a tested table.
 #[tactic(auto, using(crate::proofs::Laws::Steps::steps), unfolding(crate::specs::Variable::variable_at, crate::specs::Taken::special))]
-fn variable_at(t: &Table<'_>, i: usize) -> Result<Variable, Refusal>
+fn variable_at(t: &Table<'_, '_>, i: usize) -> Result<Variable, Refusal>
     requires { Asked t.now.rows.now t.now.counts.rows i }
     ensures { said result ≡ variable_at t.now.settings (table_rows (table_of t.now)) i }
 {
@@ -65,7 +65,7 @@ fn variable_at(t: &Table<'_>, i: usize) -> Result<Variable, Refusal>
 
 // The variable of a key.
 #[tactic(auto, using(crate::proofs::Laws::Steps::steps), unfolding(crate::specs::Variable::process_variable_tag))]
-pub fn process_variable_tag(t: &Table<'_>, key: u32) -> Result<Variable, Refusal>
+pub fn process_variable_tag(t: &Table<'_, '_>, key: u32) -> Result<Variable, Refusal>
     ensures { said result ≡ process_variable_tag (table_of t.now) key }
 {
     let i = row_of(t, key)?;

@@ -59,7 +59,7 @@ pub(crate) fn added_kept(noted: &[u64], kept: &[u64], c: usize) -> Result<Added,
 }
 
 // The sibling of row c.
-pub fn kept_sibling(t: &Table<'_>, kept: &[u64], c: usize) -> usize
+pub fn kept_sibling(t: &Table<'_, '_>, kept: &[u64], c: usize) -> usize
     requires { Asked t.now.rows.now t.now.counts.rows c × over_rows SiblingsKept t.now kept.now }
     ensures { result ≡ sibling_row (table_rows (table_of t.now)) c }
 {

@@ -25,7 +25,12 @@ use tables::row::row_at;
 use tables::table::Table;
 
 // The size of the entry that has a key, from the noted ones if there are any.
-fn entry_size_from(t: &Table<'_>, noted: &[u64], levels: usize, key: u32) -> Result<u32, Refusal>
+fn entry_size_from(
+    t: &Table<'_, '_>,
+    noted: &[u64],
+    levels: usize,
+    key: u32,
+) -> Result<u32, Refusal>
     requires { TableReady t.now.section.now t.now.rows.now t.now.counts.rows }
     ensures { said result ≡ over_sizes entry_size_from t.now noted.now levels key }
 {
@@ -40,7 +45,7 @@ fn entry_size_from(t: &Table<'_>, noted: &[u64], levels: usize, key: u32) -> Res
 
 // The same of a type.
 #[tactic(auto, unfolding(crate::specs::Inside::Size::type_size_from, crate::specs::Size::type_size_by, crate::specs::Size::kind_size, format::specs::Said::said))]
-fn type_size_from(t: &Table<'_>, noted: &[u64], levels: usize, of: Type) -> Result<u32, Refusal>
+fn type_size_from(t: &Table<'_, '_>, noted: &[u64], levels: usize, of: Type) -> Result<u32, Refusal>
     requires { TableReady t.now.section.now t.now.rows.now t.now.counts.rows }
     ensures { said result ≡ over_sizes type_size_from t.now noted.now levels of }
 {
@@ -56,7 +61,7 @@ fn type_size_from(t: &Table<'_>, noted: &[u64], levels: usize, of: Type) -> Resu
 
 // The size of row i; the entries that it names have so many levels left.
 pub fn row_size(
-    t: &Table<'_>,
+    t: &Table<'_, '_>,
     noted: &[u64],
     kept: &[u64],
     levels: usize,
@@ -77,7 +82,7 @@ pub fn row_size(
 
 // What the member at row c adds to its structure, as its row says: its offset and its own size, else its type's.
 fn read_added(
-    t: &Table<'_>,
+    t: &Table<'_, '_>,
     noted: &[u64],
     kept: &[u64],
     levels: usize,
@@ -101,7 +106,7 @@ fn read_added(
 
 // The same, if it is kept as that.
 pub fn member_added(
-    t: &Table<'_>,
+    t: &Table<'_, '_>,
     noted: &[u64],
     kept: &[u64],
     levels: usize,
@@ -118,7 +123,7 @@ pub fn member_added(
 
 // The largest end so far with that of child c.
 fn child_end(
-    t: &Table<'_>,
+    t: &Table<'_, '_>,
     noted: &[u64],
     kept: &[u64],
     levels: usize,
@@ -138,7 +143,7 @@ fn child_end(
 
 // The largest member end of row i, whose child walk ends.
 fn ends_size(
-    t: &Table<'_>,
+    t: &Table<'_, '_>,
     noted: &[u64],
     kept: &[u64],
     levels: usize,

@@ -138,7 +138,7 @@ fn fault_kept(kept: &[u64], c: usize) -> Result<(), Refusal>
 }
 
 // A child: a member must be read whole, any other is passed over.
-fn member_fault(t: &Table<'_>, kept: &[u64], c: usize) -> Result<(), Refusal>
+fn member_fault(t: &Table<'_, '_>, kept: &[u64], c: usize) -> Result<(), Refusal>
     requires { Asked t.now.rows.now t.now.counts.rows c × over FaultsKept t.now kept.now }
     ensures { said result ≡ over member_fault t.now c }
 {
@@ -154,7 +154,7 @@ fn member_fault(t: &Table<'_>, kept: &[u64], c: usize) -> Result<(), Refusal>
 }
 
 // The children of row i, whose walk ends, one at a time.
-fn members_fault(t: &Table<'_>, kept: &[u64], i: usize) -> Result<(), Refusal>
+fn members_fault(t: &Table<'_, '_>, kept: &[u64], i: usize) -> Result<(), Refusal>
     requires { over_rows EndsAt t.now i × over FaultsKept t.now kept.now }
     ensures { said result ≡ over members_fault t.now (over_rows children_at t.now i) }
 {
@@ -168,7 +168,7 @@ fn members_fault(t: &Table<'_>, kept: &[u64], i: usize) -> Result<(), Refusal>
 }
 
 // 9 where the walk never ends.
-pub fn structure_fault(t: &Table<'_>, kept: &[u64], i: usize) -> Result<(), Refusal>
+pub fn structure_fault(t: &Table<'_, '_>, kept: &[u64], i: usize) -> Result<(), Refusal>
     requires { Asked t.now.rows.now t.now.counts.rows i × over FaultsKept t.now kept.now }
     ensures { said result ≡ over structure_fault t.now i }
 {
@@ -182,7 +182,7 @@ pub fn structure_fault(t: &Table<'_>, kept: &[u64], i: usize) -> Result<(), Refu
 }
 
 // The same of a structure, if it is kept.
-pub fn kept_fault(t: &Table<'_>, kept: &[u64], i: usize) -> Result<(), Refusal>
+pub fn kept_fault(t: &Table<'_, '_>, kept: &[u64], i: usize) -> Result<(), Refusal>
     requires { over StructureAsked t.now kept.now i }
     ensures { said result ≡ over structure_fault t.now i }
 {
@@ -194,7 +194,7 @@ pub fn kept_fault(t: &Table<'_>, kept: &[u64], i: usize) -> Result<(), Refusal>
 }
 
 // ByteSize, or else the largest member end.
-fn prepare_structure(t: &Table<'_>, kept: &[u64], i: usize) -> Result<Prepared, Refusal>
+fn prepare_structure(t: &Table<'_, '_>, kept: &[u64], i: usize) -> Result<Prepared, Refusal>
     requires { over StructureAsked t.now kept.now i }
     ensures { said_prepared result ≡ over prepared_structure t.now i }
 {
@@ -208,7 +208,7 @@ fn prepare_structure(t: &Table<'_>, kept: &[u64], i: usize) -> Result<Prepared, 
 
 // ---- the others: read whole
 
-fn prepare_enumeration(t: &Table<'_>, i: usize) -> Result<Prepared, Refusal>
+fn prepare_enumeration(t: &Table<'_, '_>, i: usize) -> Result<Prepared, Refusal>
     requires { AskedShort t.now.section.now t.now.rows.now t.now.counts.rows i }
     ensures { said_prepared result ≡ over prepared_enumeration t.now i }
 {
@@ -216,7 +216,7 @@ fn prepare_enumeration(t: &Table<'_>, i: usize) -> Result<Prepared, Refusal>
     Ok(Prepared::Size(found.byte_size))
 }
 
-fn prepare_union(t: &Table<'_>, i: usize) -> Result<Prepared, Refusal>
+fn prepare_union(t: &Table<'_, '_>, i: usize) -> Result<Prepared, Refusal>
     requires { Asked t.now.rows.now t.now.counts.rows i }
     ensures { said_prepared result ≡ over prepared_union t.now i }
 {
@@ -224,7 +224,7 @@ fn prepare_union(t: &Table<'_>, i: usize) -> Result<Prepared, Refusal>
     Ok(Prepared::Size(found.byte_size))
 }
 
-fn prepare_pointer(t: &Table<'_>, i: usize) -> Result<Prepared, Refusal>
+fn prepare_pointer(t: &Table<'_, '_>, i: usize) -> Result<Prepared, Refusal>
     requires { Asked t.now.rows.now t.now.counts.rows i }
     ensures { said_prepared result ≡ over prepared_pointer t.now i }
 {
@@ -233,7 +233,7 @@ fn prepare_pointer(t: &Table<'_>, i: usize) -> Result<Prepared, Refusal>
 }
 
 // Row i of a tested table.
-pub(crate) fn prepare_row(t: &Table<'_>, kept: &[u64], i: usize) -> Result<Prepared, Refusal>
+pub(crate) fn prepare_row(t: &Table<'_, '_>, kept: &[u64], i: usize) -> Result<Prepared, Refusal>
     requires { AskedShort t.now.section.now t.now.rows.now t.now.counts.rows i × over RowsKept t.now kept.now }
     ensures { said_prepared result ≡ over prepared_row t.now i }
 {

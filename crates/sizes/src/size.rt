@@ -50,7 +50,12 @@ pub fn grown(rows: &[u32], c: usize, largest: u32, offset: u32, size: u32) -> Re
 }
 
 // The element's size times the dimensions of attribute `at`.
-pub(crate) fn array_product(t: &Table<'_>, i: usize, at: usize, size: u32) -> Result<u32, Refusal>
+pub(crate) fn array_product(
+    t: &Table<'_, '_>,
+    i: usize,
+    at: usize,
+    size: u32,
+) -> Result<u32, Refusal>
     ensures { said result ≡ array_product t.now.settings t.now.section.now t.now.rows.now t.now.attrs.now i at size }
 {
     let e = t.settings.endian;
@@ -61,7 +66,7 @@ pub(crate) fn array_product(t: &Table<'_>, i: usize, at: usize, size: u32) -> Re
 
 // The size of a type.
 #[cycle(entry_size_staged_size_type_size)]
-pub(crate) fn type_size(t: &Table<'_>, levels: usize, of: Type) -> Result<u32, Refusal>
+pub(crate) fn type_size(t: &Table<'_, '_>, levels: usize, of: Type) -> Result<u32, Refusal>
     requires { TableReady t.now.section.now t.now.rows.now t.now.counts.rows }
     ensures { said result ≡ type_size t.now.settings t.now.sizes.now (table_rows (table_of t.now)) levels of }
 {
@@ -77,7 +82,7 @@ pub(crate) fn type_size(t: &Table<'_>, levels: usize, of: Type) -> Result<u32, R
 
 // The size of the entry that has a key: 11 where there is none, 10 where no level is left.
 #[cycle(entry_size_staged_size_type_size)]
-pub(crate) fn entry_size(t: &Table<'_>, levels: usize, key: u32) -> Result<u32, Refusal>
+pub(crate) fn entry_size(t: &Table<'_, '_>, levels: usize, key: u32) -> Result<u32, Refusal>
     requires { TableReady t.now.section.now t.now.rows.now t.now.counts.rows }
     ensures { said result ≡ entry_size t.now.settings t.now.sizes.now (table_rows (table_of t.now)) levels key }
 {
@@ -93,7 +98,7 @@ pub(crate) fn entry_size(t: &Table<'_>, levels: usize, key: u32) -> Result<u32, 
 // The size of row i, stage by stage; the entries that it names have so many levels left. `next_stage` stands here twice, since the compiler would put its frame
 // into this one if it had one caller (docs/STACK.md).
 #[cycle(entry_size_staged_size_type_size)]
-fn staged_size(t: &Table<'_>, levels: usize, i: usize) -> Result<u32, Refusal>
+fn staged_size(t: &Table<'_, '_>, levels: usize, i: usize) -> Result<u32, Refusal>
     requires { AskedShort t.now.section.now t.now.rows.now t.now.counts.rows i }
     ensures { said result ≡ row_size t.now.settings (table_rows (table_of t.now))
         (type_size t.now.settings t.now.sizes.now (table_rows (table_of t.now)) levels) i }
@@ -111,7 +116,7 @@ fn staged_size(t: &Table<'_>, levels: usize, i: usize) -> Result<u32, Refusal>
 }
 
 // The size of a key's entry, which is depth 1.
-pub fn size_of_key(t: &Table<'_>, key: u32) -> Result<u32, Refusal>
+pub fn size_of_key(t: &Table<'_, '_>, key: u32) -> Result<u32, Refusal>
     ensures { said result ≡ size_of_key (table_of t.now) key }
 {
     test_table(t)?;
@@ -119,7 +124,7 @@ pub fn size_of_key(t: &Table<'_>, key: u32) -> Result<u32, Refusal>
 }
 
 // The size of a type; an entry that it names is depth 1.
-pub fn size_of_type(t: &Table<'_>, of: Type) -> Result<u32, Refusal>
+pub fn size_of_type(t: &Table<'_, '_>, of: Type) -> Result<u32, Refusal>
     ensures { said result ≡ size_of_type (table_of t.now) of }
 {
     test_table(t)?;

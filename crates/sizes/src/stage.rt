@@ -44,7 +44,7 @@ pub enum Wait {
 }
 
 // Child c: a member has a size of its own or its type's, any other child is passed over.
-fn child_part(t: &Table<'_>, c: usize, largest: u32) -> Result<Part, Refusal>
+fn child_part(t: &Table<'_, '_>, c: usize, largest: u32) -> Result<Part, Refusal>
     requires { Asked t.now.rows.now t.now.counts.rows c }
     ensures { over PartSays t.now c largest result }
 {
@@ -66,7 +66,7 @@ fn child_part(t: &Table<'_>, c: usize, largest: u32) -> Result<Part, Refusal>
 }
 
 // The children of row i from a row on, up to the first whose type's size is wanted; `most` is the largest end before them.
-fn members_from(t: &Table<'_>, i: usize, from: usize, most: u32) -> Result<Wait, Refusal>
+fn members_from(t: &Table<'_, '_>, i: usize, from: usize, most: u32) -> Result<Wait, Refusal>
     requires { over FromAsked t.now i from }
     ensures { over Awaits t.now i
         (λ size_of. over ends_over t.now size_of most (over children_on t.now i from)) (length (over children_on t.now i from)) result }
@@ -96,7 +96,7 @@ fn members_from(t: &Table<'_>, i: usize, from: usize, most: u32) -> Result<Wait,
 }
 
 // The first stage: all of the row is read before any size is taken.
-fn begun(t: &Table<'_>, i: usize) -> Result<Wait, Refusal>
+fn begun(t: &Table<'_, '_>, i: usize) -> Result<Wait, Refusal>
     requires { AskedShort t.now.section.now t.now.rows.now t.now.counts.rows i }
     ensures { over Awaits t.now i
         (λ size_of. row_size t.now.settings (table_rows (table_of t.now)) size_of i) (suc t.now.counts.rows) result }
@@ -113,7 +113,7 @@ fn begun(t: &Table<'_>, i: usize) -> Result<Wait, Refusal>
 }
 
 // The element's size times the dimensions.
-fn multiplied(t: &Table<'_>, i: usize, at: usize, size: u32) -> Result<Wait, Refusal>
+fn multiplied(t: &Table<'_, '_>, i: usize, at: usize, size: u32) -> Result<Wait, Refusal>
     ensures { over Awaits t.now i
         (λ size_of. array_product t.now.settings t.now.section.now t.now.rows.now t.now.attrs.now i at size) 0 result }
 {
@@ -123,7 +123,7 @@ fn multiplied(t: &Table<'_>, i: usize, at: usize, size: u32) -> Result<Wait, Ref
 
 // The member's end, then the children behind it.
 fn grown_on(
-    t: &Table<'_>,
+    t: &Table<'_, '_>,
     i: usize,
     c: usize,
     offset: u32,
@@ -139,7 +139,12 @@ fn grown_on(
 }
 
 // The next stage of row i, with the size that was waited for.
-pub(crate) fn next_stage(t: &Table<'_>, i: usize, stage: Stage, size: u32) -> Result<Wait, Refusal>
+pub(crate) fn next_stage(
+    t: &Table<'_, '_>,
+    i: usize,
+    stage: Stage,
+    size: u32,
+) -> Result<Wait, Refusal>
     requires { over Staged t.now i stage }
     ensures { over Awaits t.now i (λ size_of. over stage_size t.now i size_of stage size) (over stage_turns t.now i stage) result }
 {

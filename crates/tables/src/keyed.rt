@@ -24,7 +24,7 @@ fn find_key(rows: &[u32], n: usize, key: u32) -> Result<usize, Refusal>
 }
 
 // The same after the tests 1, 2, 3.
-pub fn row_of(t: &Table<'_>, key: u32) -> Result<usize, Refusal>
+pub fn row_of(t: &Table<'_, '_>, key: u32) -> Result<usize, Refusal>
     ensures { said result ≡ row_of (table_of t.now) key }
 {
     test_table(t)?;

@@ -17,7 +17,7 @@ fn refuse(reason: Reason) -> Result<(), Refusal>
 }
 
 // The tests that every call on a table makes first: 1 settings, 2 long, 3 table.
-pub fn test_table(t: &Table<'_>) -> Result<(), Refusal>
+pub fn test_table(t: &Table<'_, '_>) -> Result<(), Refusal>
     ensures { Tells (table_of t.now) result }
 {
     if !settings_hold(t.settings, t.vendors, t.sizes) {

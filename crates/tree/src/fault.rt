@@ -12,7 +12,7 @@ use tables::table::Table;
 
 // Along the rows inside row i's reach, which ends at `end`, from one to where its own reach ends: the first that goes past `end`, if it stands before b;
 // else b.
-fn first_further(t: &Table<'_>, i: usize, end: usize, b: usize) -> usize
+fn first_further(t: &Table<'_, '_>, i: usize, end: usize, b: usize) -> usize
     requires { ReachInside t.now.rows.now t.now.counts.rows i end }
     ensures { result ≡ chain t.now.counts.rows (λ c. reach_end (table_rows (table_of t.now)) c) end b t.now.counts.rows (suc i) }
 {
@@ -36,7 +36,7 @@ fn first_further(t: &Table<'_>, i: usize, end: usize, b: usize) -> usize
 
 // The first row at fault from row i on, where b is the first after it.
 #[tactic(auto, unfolding(crate::specs::Inside::Passing::fault_of_row))]
-fn fault_at(t: &Table<'_>, i: usize, b: usize) -> usize
+fn fault_at(t: &Table<'_, '_>, i: usize, b: usize) -> usize
     requires { AtRow t.now.rows.now t.now.counts.rows i }
     ensures { result ≡ fault_of_row t.now.counts.rows (λ c. reach_end (table_rows (table_of t.now)) c) i b }
 {
@@ -49,7 +49,7 @@ fn fault_at(t: &Table<'_>, i: usize, b: usize) -> usize
 }
 
 // The first row at fault, or the count of rows.
-pub(crate) fn first_fault(t: &Table<'_>) -> usize
+pub(crate) fn first_fault(t: &Table<'_, '_>) -> usize
     requires { Rising t.now.rows.now t.now.counts.rows }
     ensures { result ≡ fault_from t.now.counts.rows (λ c. reach_end (table_rows (table_of t.now)) c) 0 t.now.counts.rows }
 {

@@ -33,7 +33,7 @@ fn first_erased(rows: &[u32], n: usize) -> usize
 }
 
 // The pass over the rows into no room: the first row that lies too deep, or n.
-fn first_deep(t: &Table<'_>) -> usize
+fn first_deep(t: &Table<'_, '_>) -> usize
     requires { RowsHold t.now.rows.now t.now.counts.rows }
     ensures { result ≡ first_from (open_deep (λ i. reach_end (table_rows (table_of t.now)) i)) 0 t.now.counts.rows }
 {
@@ -57,7 +57,7 @@ fn none_of(rows: &[u32], n: usize, first: usize, reason: Reason) -> Result<(), R
 }
 
 // No row is erased, at fault or too deep.
-fn tree_tests(t: &Table<'_>) -> Result<(), Refusal>
+fn tree_tests(t: &Table<'_, '_>) -> Result<(), Refusal>
     requires { RowsHold t.now.rows.now t.now.counts.rows }
     ensures { said result ≡ tree_tests t.now.rows.now t.now.counts.rows (λ i. reach_end (table_rows (table_of t.now)) i) }
 {
@@ -70,7 +70,7 @@ fn tree_tests(t: &Table<'_>) -> Result<(), Refusal>
 }
 
 // All tests first, so that a refusal has written nothing.
-fn list(t: &Table<'_>, room: &mut [u32]) -> Result<usize, Unfilled<usize>>
+fn list(t: &Table<'_, '_>, room: &mut [u32]) -> Result<usize, Unfilled<usize>>
     requires { RowsHold t.now.rows.now t.now.counts.rows }
     ensures { Given (listing_of t.now.rows.now t.now.counts.rows (λ i. reach_end (table_rows (table_of t.now)) i) room.old)
         (said_counted result) room.new }
@@ -85,7 +85,7 @@ fn list(t: &Table<'_>, room: &mut [u32]) -> Result<usize, Unfilled<usize>>
 }
 
 // Depth and parent of every row, in file order; or a refusal, and the room stays as it was.
-pub fn list_tree(t: &Table<'_>, room: &mut [u32]) -> Result<usize, Unfilled<usize>>
+pub fn list_tree(t: &Table<'_, '_>, room: &mut [u32]) -> Result<usize, Unfilled<usize>>
     ensures { Given (list_tree (table_of t.now) room.old) (said_counted result) room.new }
 {
     test_table(t)?;

@@ -50,7 +50,7 @@ fn put_place(room: &mut [u32], i: usize, depth: u32, parent: u32)
 }
 
 // Depth and parent of each row into the room, as far as they fit; the first row that lies too deep, or n.
-pub(crate) fn list_rows(t: &Table<'_>, room: &mut [u32]) -> usize
+pub(crate) fn list_rows(t: &Table<'_, '_>, room: &mut [u32]) -> usize
     requires { RowsHold t.now.rows.now t.now.counts.rows }
     ensures { OpenListed (λ c. reach_end (table_rows (table_of t.now)) c) t.now.counts.rows result room.old room.new }
 {

@@ -25,7 +25,7 @@ fn later_row(rows: &[u32], n: usize, i: usize, key: u32) -> usize
 
 // The end of row i's reach, or 0: its reference is bad.
 #[tactic(auto, unfolding(crate::specs::Reach::reach_end, crate::specs::Reach::reach_by))]
-pub(crate) fn end_of(t: &Table<'_>, i: usize) -> usize
+pub(crate) fn end_of(t: &Table<'_, '_>, i: usize) -> usize
     requires { AtRow t.now.rows.now t.now.counts.rows i }
     ensures { result ≡ reach_end (table_rows (table_of t.now)) i }
 {

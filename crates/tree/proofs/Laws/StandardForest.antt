@@ -153,7 +153,7 @@ module _ (κs : Lfts 5) (a : Dens κs read.Kinds.ps) (z : (res_t read.Kinds.r κ
       attrs_then = x.1.1.1.1.1.0.now;
     })
     (n : Counts) (says : c.said ≡ gives n)
-    (κs' : Lfts 3) (a' : Dens κs' list.Kinds.ps) (z' : (res_t list.Kinds.r κs').Denot) (x' : AtExit (ended_of 3 list.Kinds.ps list.Kinds.r) κs')
+    (κs' : Lfts 4) (a' : Dens κs' list.Kinds.ps) (z' : (res_t list.Kinds.r κs').Denot) (x' : AtExit (ended_of 4 list.Kinds.ps list.Kinds.r) κs')
     (post' : list.Reads.Post κs' a' z' x')
     (asked : table_of a'.0.now
     ≡ table c.section c.settings c.vendors c.sizes c.rows_then c.attrs_then n) where

@@ -143,9 +143,9 @@ module _ (settings : Settings) (vendors sizes s rows₀ attrs₀ : List ℕ) (c 
 
 module _ (κs : Lfts 5) (a : Dens κs read.Kinds.ps) (z : (res_t read.Kinds.r κs).Denot) (x : AtExit (ended_of 5 read.Kinds.ps read.Kinds.r) κs)
     (post : read.Reads.Post κs a z x) (c : Counts) (says : said_section z ≡ gives c) (off : a.1.0.erased ≡ false)
-    (κs' : Lfts 3) (a' : Dens κs' list.Kinds.ps) (z' : (res_t list.Kinds.r κs').Denot) (x' : AtExit (ended_of 3 list.Kinds.ps list.Kinds.r) κs')
+    (κs' : Lfts 4) (a' : Dens κs' list.Kinds.ps) (z' : (res_t list.Kinds.r κs').Denot) (x' : AtExit (ended_of 4 list.Kinds.ps list.Kinds.r) κs')
     (post' : list.Reads.Post κs' a' z' x')
-    (κs'' : Lfts 3) (a'' : Dens κs'' walk.Kinds.ps) (z'' : (res_t walk.Kinds.r κs'').Denot) (x'' : AtExit (ended_of 3 walk.Kinds.ps walk.Kinds.r) κs'')
+    (κs'' : Lfts 4) (a'' : Dens κs'' walk.Kinds.ps) (z'' : (res_t walk.Kinds.r κs'').Denot) (x'' : AtExit (ended_of 4 walk.Kinds.ps walk.Kinds.r) κs'')
     (post'' : walk.Reads.Post κs'' a'' z'' x'') (t : Table)
     (was_read : table a.0.now a.1.0 a.1.1.0.now a.1.1.1.0.now x.1.1.1.1.0.now x.1.1.1.1.1.0.now c ≡ t)
     (listed : table_of a'.0.now ≡ t)
