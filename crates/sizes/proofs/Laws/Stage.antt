@@ -348,73 +348,61 @@ module _ (settings : Settings) (s rows attrs : List ℕ) (n i : ℕ) where
   stage-as size {r = r} p a =
       subst (λ (x : Stage). Awaits settings s rows attrs n i (λ size_of. stage_size settings s rows attrs n i size_of x size) (stage_turns settings s rows attrs n i x) r) (sym p) a
 
-turns-type : (settings : Settings) (s rows attrs : List ℕ) (n i : ℕ) {w : Wait} {t : «Type»} {st : Stage} → w ≡ wait.Type t st
-    → wait_turns settings s rows attrs n i (Ok w) ≡ suc (stage_turns settings s rows attrs n i st)
+turns-type : (settings : Settings) (s rows attrs : List ℕ) (n i : ℕ) {r : Result Wait Refusal} {t : «Type»} {st : Stage} → r ≡ Ok (wait.Type t st)
+    → wait_turns settings s rows attrs n i r ≡ suc (stage_turns settings s rows attrs n i st)
 unfolding wait_turns
-turns-type settings s rows attrs n i p = ap (λ (w : Wait). wait_turns settings s rows attrs n i (Ok w)) p
+turns-type settings s rows attrs n i p = ap (wait_turns settings s rows attrs n i) p
 
 -- ---- from one wait to the next
 
-pub record Waiting (settings : Settings) (s rows attrs : List ℕ) (n i : ℕ) (size_of : «Type» → Said ℕ) (w : Wait) : Type 0 where
-  pub size_is : wait_size settings s rows attrs n i size_of (Ok w) ≡ row_size settings (lent_rows settings.endian s rows attrs n) size_of i
-  pub staged : {t : «Type»} {st : Stage} → w ≡ wait.Type t st → Staged settings s rows attrs n i st
+-- what a stage came to leads to the row's size; of a type that is waited for, the stage after it is ready
+pub record Waiting (settings : Settings) (s rows attrs : List ℕ) (n i : ℕ) (size_of : «Type» → Said ℕ) (r : Result Wait Refusal) : Type 0 where
+  pub size_is : wait_size settings s rows attrs n i size_of r ≡ row_size settings (lent_rows settings.endian s rows attrs n) size_of i
+  pub staged : {t : «Type»} {st : Stage} → r ≡ Ok (wait.Type t st) → Staged settings s rows attrs n i st
 
 module _ (settings : Settings) (s rows attrs : List ℕ) (n i : ℕ) (size_of : «Type» → Said ℕ) where
-  -- what a stage promised, of what it came to
-  module _ {whole : («Type» → Said ℕ) → Said ℕ} {turns : ℕ} {r : Result Wait Refusal} (a : Awaits settings s rows attrs n i whole turns r) where
-    came-to : {x : Result Wait Refusal} → r ≡ x → wait_size settings s rows attrs n i size_of x ≡ whole size_of
-    came-to p = ap (wait_size settings s rows attrs n i size_of) (sym p) ∙ a.size_is size_of
+  pub waiting-begins : (size : ℕ) {r : Result Wait Refusal}
+      → Awaits settings s rows attrs n i (λ f. stage_size settings s rows attrs n i f stage.Begin size) (stage_turns settings s rows attrs n i stage.Begin) r
+      → Waiting settings s rows attrs n i size_of r
+  unfolding stage_size
+  waiting-begins size a = record { size_is = a.size_is size_of; staged = λ p. a.staged p }
 
-    came-on : {w : Wait} → r ≡ Ok w → whole size_of ≡ row_size settings (lent_rows settings.endian s rows attrs n) size_of i
-        → Waiting settings s rows attrs n i size_of w
-    came-on p is = record { size_is = came-to p ∙ is; staged = λ q. a.staged (p ∙ ap Ok q) }
+  module _ {r : Result Wait Refusal} (on : Waiting settings s rows attrs n i size_of r) where
+    -- a stage that is known
+    came-to : {x : Result Wait Refusal} → r ≡ x
+        → wait_size settings s rows attrs n i size_of x ≡ row_size settings (lent_rows settings.endian s rows attrs n) size_of i
+    came-to p = ap (wait_size settings s rows attrs n i size_of) (sym p) ∙ on.size_is
 
-    came-out : {why : Refusal} → r ≡ Err why → refusal why ≡ whole size_of
-    unfolding wait_size
-    came-out p = came-to p
+    pub waiting-as : {x : Result Wait Refusal} → r ≡ x → Waiting settings s rows attrs n i size_of x
+    waiting-as p = record { size_is = came-to p; staged = λ q. on.staged (p ∙ q) }
 
-  module _ (size : ℕ) {r : Result Wait Refusal}
-      (a : Awaits settings s rows attrs n i (λ f. stage_size settings s rows attrs n i f stage.Begin size) (stage_turns settings s rows attrs n i stage.Begin) r) where
-    pub waiting-begins : {w : Wait} → r ≡ Ok w → Waiting settings s rows attrs n i size_of w
-    unfolding stage_size
-    waiting-begins p = came-on a p refl
-
-    pub begin-refused : {why : Refusal} → r ≡ Err why → refusal why ≡ row_size settings (lent_rows settings.endian s rows attrs n) size_of i
-    unfolding stage_size
-    begin-refused p = came-out a p
-
-  module _ {w : Wait} (on : Waiting settings s rows attrs n i size_of w) where
-    pub waiting-size : {size : ℕ} → w ≡ wait.Nothing size → said (Ok size) ≡ row_size settings (lent_rows settings.endian s rows attrs n) size_of i
+    pub waiting-size : {size : ℕ} → r ≡ Ok (wait.Nothing size) → said (Ok size) ≡ row_size settings (lent_rows settings.endian s rows attrs n) size_of i
     unfolding wait_size said
-    waiting-size p = ap (λ (x : Wait). wait_size settings s rows attrs n i size_of (Ok x)) (sym p) ∙ on.size_is
+    waiting-size p = came-to p
 
-    module _ {t : «Type»} {st : Stage} (p : w ≡ wait.Type t st) {told : Result ℕ Refusal} (is : said told ≡ size_of t) where
+    pub waiting-refused : {why : Refusal} → r ≡ Err why → refusal why ≡ row_size settings (lent_rows settings.endian s rows attrs n) size_of i
+    unfolding wait_size
+    waiting-refused p = came-to p
+
+    module _ {t : «Type»} {st : Stage} (p : r ≡ Ok (wait.Type t st)) {told : Result ℕ Refusal} (is : said told ≡ size_of t) where
       type-then : {x : Result ℕ Refusal} {z : Said ℕ} → told ≡ x → z ≡ (said x >>= stage_size settings s rows attrs n i size_of st)
           → z ≡ row_size settings (lent_rows settings.endian s rows attrs n) size_of i
       unfolding wait_size
-      type-then q h =
-          goes_on said is q (stage_size settings s rows attrs n i size_of st) h
-          ∙ ap (λ (x : Wait). wait_size settings s rows attrs n i size_of (Ok x)) (sym p) ∙ on.size_is
+      type-then q h = goes_on said is q (stage_size settings s rows attrs n i size_of st) h ∙ came-to p
 
       pub type-unsaid : {why : Refusal} → told ≡ Err why → refusal why ≡ row_size settings (lent_rows settings.endian s rows attrs n) size_of i
       unfolding said ◌>>=◌
       type-unsaid q = type-then q refl
 
-      module _ {size : ℕ} (q : told ≡ Ok size) {r : Result Wait Refusal}
-          (a : Awaits settings s rows attrs n i (λ f. stage_size settings s rows attrs n i f st size) (stage_turns settings s rows attrs n i st) r) where
-        stage-is : stage_size settings s rows attrs n i size_of st size ≡ row_size settings (lent_rows settings.endian s rows attrs n) size_of i
+      module _ {size : ℕ} (q : told ≡ Ok size) {r' : Result Wait Refusal}
+          (a : Awaits settings s rows attrs n i (λ f. stage_size settings s rows attrs n i f st size) (stage_turns settings s rows attrs n i st) r') where
+        pub waiting-on : Waiting settings s rows attrs n i size_of r'
         unfolding said ◌>>=◌
-        stage-is = type-then q refl
+        waiting-on = record { size_is = type-then q (a.size_is size_of); staged = λ u. a.staged u }
 
-        pub waiting-on : {w' : Wait} → r ≡ Ok w' → Waiting settings s rows attrs n i size_of w'
-        waiting-on u = came-on a u stage-is
-
-        pub waiting-refused : {why : Refusal} → r ≡ Err why → refusal why ≡ row_size settings (lent_rows settings.endian s rows attrs n) size_of i
-        waiting-refused u = came-out a u ∙ stage-is
-
-        pub waiting-less : {w' : Wait} → r ≡ Ok w' → wait_turns settings s rows attrs n i (Ok w') < wait_turns settings s rows attrs n i (Ok w)
+        pub waiting-less : {x : Result Wait Refusal} → r' ≡ x → wait_turns settings s rows attrs n i x < wait_turns settings s rows attrs n i r
         waiting-less u =
             let most = awaits-turns a in
             let same = ap (wait_turns settings s rows attrs n i) u in
-            let turns : wait_turns settings s rows attrs n i (Ok w) ≡ suc (stage_turns settings s rows attrs n i st) = turns-type settings s rows attrs n i p in
+            let turns : wait_turns settings s rows attrs n i r ≡ suc (stage_turns settings s rows attrs n i st) = turns-type settings s rows attrs n i p in
             omega arith

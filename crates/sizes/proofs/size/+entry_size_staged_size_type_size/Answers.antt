@@ -1,9 +1,10 @@
 use Rattle.sizes.specs.Size.{type_size}
 use Rattle.sizes.proofs.Laws.Exit.{exit-said}
 use Rattle.sizes.proofs.Laws.Size.{found-asked, entry-deep, entry_row, entry-missing, type-pointer, type-fundamental, type-user}
-use Rattle.sizes.proofs.Laws.Stage.{waiting-begins, begin-staged, begin-refused, waiting-size, waiting-refused, type-unsaid, waiting-on, waiting-less}
+use Rattle.sizes.proofs.Laws.Stage.{waiting-begins, begin-staged, waiting-as, waiting-size, waiting-refused, type-unsaid, waiting-on, waiting-less}
 use native.Mathlib.Omega.{arith}
-use mathlib.Core.Path.{◌∙◌}
+use Rattle.std.specs.Prelude.{Ok}
+use mathlib.Core.Path.{◌≡◌, ap, ◌∙◌}
 use Rattle.sizes.proofs.size.+entry_size_staged_size_type_size.Goals as goal
 
 pub entry_size-find_row-requires : goal.entry_size-find_row-requires
@@ -25,13 +26,15 @@ pub staged_size-next_stage-requires : goal.staged_size-next_stage-requires
 staged_size-next_stage-requires t c = begin-staged _ _ _ _ _ _ c.requires
 
 pub staged_size-returns-in_err-wait : goal.staged_size-returns-in_err-wait
-staged_size-returns-in_err-wait t c = exit-said _ _ c.from_residual.ensures.1 ∙ begin-refused _ _ _ _ _ _ _ _ c.next_stage.ensures c.in_err-wait.was
+staged_size-returns-in_err-wait t c =
+    exit-said _ _ c.from_residual.ensures.1
+    ∙ waiting-refused _ _ _ _ _ _ _ (waiting-begins _ _ _ _ _ _ _ _ c.next_stage.ensures) c.in_err-wait.was
 
 pub staged_size-loop-wait-init : goal.staged_size-loop-wait-init
-staged_size-loop-wait-init t c = waiting-begins _ _ _ _ _ _ _ _ c.next_stage.ensures c.in_ok-wait.was
+staged_size-loop-wait-init t c = waiting-as _ _ _ _ _ _ _ (waiting-begins _ _ _ _ _ _ _ _ c.next_stage.ensures) c.in_ok-wait.was
 
 pub staged_size-returns-in-Nothing : goal.staged_size-returns-in-Nothing
-staged_size-returns-in-Nothing t c = waiting-size _ _ _ _ _ _ _ c.loop-wait.invariant c.in-Nothing.is
+staged_size-returns-in-Nothing t c = waiting-size _ _ _ _ _ _ _ c.loop-wait.invariant (ap Ok c.in-Nothing.is)
 
 pub staged_size-type_size-requires : goal.staged_size-type_size-requires
 staged_size-type_size-requires t c = (omega (arith, c.decreases), record { table = c.requires.asked.table; short = c.requires.short })
@@ -39,24 +42,27 @@ staged_size-type_size-requires t c = (omega (arith, c.decreases), record { table
 pub staged_size-returns-in_err-size-in-Type : goal.staged_size-returns-in_err-size-in-Type
 staged_size-returns-in_err-size-in-Type t c =
     exit-said _ _ c.from_residual-in_err-size-in-Type.ensures.1
-    ∙ type-unsaid _ _ _ _ _ _ _ c.loop-wait.invariant c.in-Type.is c.type_size.ensures c.in_err-size-in-Type.was
+    ∙ type-unsaid _ _ _ _ _ _ _ c.loop-wait.invariant (ap Ok c.in-Type.is) c.type_size.ensures c.in_err-size-in-Type.was
 
 pub staged_size-next_stage-requires-in-Type : goal.staged_size-next_stage-requires-in-Type
-staged_size-next_stage-requires-in-Type t c = c.loop-wait.invariant.staged c.in-Type.is
+staged_size-next_stage-requires-in-Type t c = c.loop-wait.invariant.staged (ap Ok c.in-Type.is)
 
 pub staged_size-returns-in_err-wait-in-Type : goal.staged_size-returns-in_err-wait-in-Type
 staged_size-returns-in_err-wait-in-Type t c =
     exit-said _ _ c.from_residual-in_err-wait-in-Type.ensures.1
-    ∙ waiting-refused _ _ _ _ _ _ _ c.loop-wait.invariant c.in-Type.is c.type_size.ensures c.in_ok-size-in-Type.was c.next_stage-in-Type.ensures
+    ∙ waiting-refused _ _ _ _ _ _ _
+    (waiting-on _ _ _ _ _ _ _ c.loop-wait.invariant (ap Ok c.in-Type.is) c.type_size.ensures c.in_ok-size-in-Type.was c.next_stage-in-Type.ensures)
     c.in_err-wait-in-Type.was
 
 pub staged_size-loop-wait-smaller : goal.staged_size-loop-wait-smaller
 staged_size-loop-wait-smaller t c =
-    waiting-less _ _ _ _ _ _ _ c.loop-wait.invariant c.in-Type.is c.type_size.ensures c.in_ok-size-in-Type.was c.next_stage-in-Type.ensures c.in_ok-wait-in-Type.was
+    waiting-less _ _ _ _ _ _ _ c.loop-wait.invariant (ap Ok c.in-Type.is) c.type_size.ensures c.in_ok-size-in-Type.was c.next_stage-in-Type.ensures c.in_ok-wait-in-Type.was
 
 pub staged_size-loop-wait-preserved : goal.staged_size-loop-wait-preserved
 staged_size-loop-wait-preserved t c =
-    waiting-on _ _ _ _ _ _ _ c.loop-wait.invariant c.in-Type.is c.type_size.ensures c.in_ok-size-in-Type.was c.next_stage-in-Type.ensures c.in_ok-wait-in-Type.was
+    waiting-as _ _ _ _ _ _ _
+    (waiting-on _ _ _ _ _ _ _ c.loop-wait.invariant (ap Ok c.in-Type.is) c.type_size.ensures c.in_ok-size-in-Type.was c.next_stage-in-Type.ensures)
+    c.in_ok-wait-in-Type.was
 
 pub type_size-returns-then-of : goal.type_size-returns-then-of
 unfolding type_size

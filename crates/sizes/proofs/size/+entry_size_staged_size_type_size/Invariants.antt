@@ -17,7 +17,7 @@ abbrev pub decreases-entry_size : goal.decreases-entry_size
 decreases-entry_size l = 3 * l.levels
 
 abbrev pub invariant-staged_size-loop-wait : goal.invariant-staged_size-loop-wait
-invariant-staged_size-loop-wait l = over Waiting l.t l.i (type_size l.t.settings l.t.sizes.now (table_rows (table_of l.t)) l.levels) l.wait
+invariant-staged_size-loop-wait l = over Waiting l.t l.i (type_size l.t.settings l.t.sizes.now (table_rows (table_of l.t)) l.levels) (Ok l.wait)
 
 abbrev pub decreases-staged_size-loop-wait : goal.decreases-staged_size-loop-wait
 decreases-staged_size-loop-wait l = over wait_turns l.t l.i (Ok l.wait)
