@@ -48,6 +48,7 @@ fn text_end(s: &[u8], at: usize) -> Result<usize, Unread>
 }
 
 // Where the value at a place ends; e is the data endianness.
+#[inline(always)]
 #[tactic(auto, unfolding(crate::specs::End::value_end))]
 pub fn value_end(s: &[u8], at: usize, form: FormKind, e: Endian) -> Result<usize, Unread>
     ensures { result ≡ value_end form e s.now at }

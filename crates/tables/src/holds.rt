@@ -5,20 +5,20 @@ ghost use Rattle.tables.specs.Inside.Holds.{head_holds};
 
 use crate::row::{ATTR_WIDTH, Attr, Counts, ROW_WIDTH, Row, attr_at, endian_of, row_at};
 use crate::unit::units_hold;
-use attributes::read::known_end;
+use attributes::read::end_if_known;
 use format::limits::{ATTRIBUTE_LIMIT, ENTRY_LIMIT};
 use format::tag_kind::is_tag;
 use numbers::Endian;
 
 // A known number, and a value wholly inside the section.
-#[tactic(auto, unfolding(crate::specs::Holds::attr_holds, crate::specs::Holds::is_at, attributes::specs::Inside::Read::known_end))]
+#[tactic(auto, unfolding(crate::specs::Holds::attr_holds, crate::specs::Holds::is_at, attributes::specs::Inside::Read::known_end, attributes::specs::Inside::Read::end_told))]
 fn attr_holds(s: &[u8], vendors: &[u16], e: Endian, attr: Attr) -> bool
     ensures { result ≡ attr_holds s.now vendors.now e attr }
 {
     if attr.number >= 65536 {
         return false;
     }
-    known_end(s, attr.value as usize, attr.number as u16, e, vendors).is_ok()
+    end_if_known(s, attr.value as usize, attr.number as u16, e, vendors).is_some()
 }
 
 // The n attributes from `first` on.

@@ -1,5 +1,5 @@
 -- What the code computes comes to `Read`.
-use Rattle.std.specs.Prelude.{Result, Ok, Err}
+use Rattle.std.specs.Prelude.{Result, Ok, Err, Option, Some, None}
 use Prim.Native.Nat.{ℕ, ◌+◌, ◌-◌}
 use native.Mathlib.Omega.{arith}
 use mathlib.Core.Path.{◌≡◌, refl, ap}
@@ -21,7 +21,14 @@ use Rattle.attributes.specs.Read.{ending, numbered}
 use Rattle.attributes.specs.declared.value.Unread.{Unread}
 use Rattle.attributes.specs.declared.value.Unread.TheVariants.{Short, Unknown}
 use Rattle.attributes.specs.declared.read.Attribute.{Attribute}
-use Rattle.attributes.specs.Inside.Read.{known_end}
+use Rattle.attributes.specs.Inside.Read.{known_end, end_told}
+
+-- ---- a value whose end is told ends there
+
+pub ended-well : (r : Result ℕ Unread) {next : ℕ} → Some next ≡ end_told r → Ok next ≡ r
+unfolding end_told
+ended-well (Ok x) p = cc
+ended-well (Err why) p = cc
 
 -- ---- a value is at most short: that a number is not known is told of the number
 
