@@ -34,8 +34,7 @@ read_tags-requires t c = let root = c.in_ok-next.was ∙ ap Ok c.in-Inside.is in
 
 pub loop-state-smaller : goal.loop-state-smaller
 loop-state-smaller t c = let root = c.in_ok-next.was ∙ ap Ok c.in-Inside.is in
-    falls-inside _ _ _ _ _ _ _ _ c.loop-state.invariant c.loop-state-test.true c.read_entry.ensures root
-    c.read_tags.ensures c.in_ok-state-in-Inside.was
+    falls-inside _ _ _ _ _ _ _ _ c.loop-state.invariant c.loop-state-test.true c.read_entry.ensures root c.read_tags.ensures c.in_ok-state-in-Inside.was
 
 pub loop-state-preserved : goal.loop-state-preserved
 loop-state-preserved t c = let root = c.in_ok-next.was ∙ ap Ok c.in-Inside.is in
